@@ -1,0 +1,32 @@
+-- Document 01, 'Parts': an image as a header beside lent bytes. Assumes nothing.
+use mathlib.Core.List.{List, _++_}
+use Prim.Native.Nat.{ℕ, _*_}
+use lib.ListN.{take, drop}
+use Rattle.image.specs.declared.Header.{Header}
+use Rattle.parts.specs.Sizes.{rowBytes, flashSize}
+use Rattle.parts.specs.declared.Geometry.{Geometry}
+
+-- an image of a part in the table; the header is document 01's 'record' ('part, M, 16-bit sum, 12 metadata bytes, level')
+pub record Image : Type 0 where
+  pub geometry : Geometry
+  pub header : Header
+  pub flash : List ℕ
+  pub protection : List ℕ
+
+-- 'The protection bytes (N / 8) follow the flash bytes (N × L) in it.'
+abbrev pub flashIn : Geometry → List ℕ → List ℕ
+flashIn g bytes = take (flashSize g) bytes
+
+abbrev pub protectionIn : Geometry → List ℕ → List ℕ
+protectionIn g bytes = drop (flashSize g) bytes
+
+abbrev pub imageOf : Geometry → Header → List ℕ → Image
+imageOf g h bytes = record { geometry = g; header = h; flash = flashIn g bytes; protection = protectionIn g bytes }
+
+-- the one lent buffer of an image
+abbrev pub lentBytes : Image → List ℕ
+lentBytes i = i .flash ++ i .protection
+
+-- 'The row's bytes start at row × L in the image.'
+abbrev pub rowIn : Geometry → (row : ℕ) → List ℕ → List ℕ
+rowIn g row bytes = take (rowBytes g) (drop (row * rowBytes g) bytes)

@@ -1,0 +1,6 @@
+pub mod Words
+pub mod Image
+pub mod Refusals
+pub mod Checks
+pub mod Sections
+pub mod Examples

@@ -1,0 +1,23 @@
+-- Sums and 32-bit words of bytes. Assumes nothing.
+use mathlib.Core.Bool.{Bool, true, false, _&&_}
+use mathlib.Core.List.{List, [], _∷_}
+use Prim.Native.Nat.{ℕ, zero, suc, _+_, _*_}
+use lib.Dec.{eqb}
+use lib.ListN.{getD}
+
+unfoldable pub total : List ℕ → ℕ
+total [] = 0
+total (x ∷ xs) = x + total xs
+
+unfoldable pub allZero : List ℕ → Bool
+allZero [] = true
+allZero (x ∷ xs) = eqb x 0 && allZero xs
+
+-- 'Words have the low byte first': the word of the four bytes from offset o on
+unfoldable pub wordAt : List ℕ → (o : ℕ) → ℕ
+wordAt bytes o = getD bytes o 0 + 256 * getD bytes (o + 1) 0 + 65536 * getD bytes (o + 2) 0 + 16777216 * getD bytes (o + 3) 0
+
+-- n words from offset o on
+unfoldable pub wordsAt : List ℕ → (o n : ℕ) → List ℕ
+wordsAt bytes o zero = []
+wordsAt bytes o (suc n) = wordAt bytes o ∷ wordsAt bytes (o + 4) n
