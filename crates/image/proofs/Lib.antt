@@ -1,2 +1,4 @@
 pub mod Words
+pub mod Checks
+pub mod Refusals
 pub mod Examples

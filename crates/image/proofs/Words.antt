@@ -1,16 +1,67 @@
 -- Laws of words and sums. Assumes nothing.
+use mathlib.Core.Bool.{Bool, true, false, _&&_}
 use mathlib.Core.List.{List, [], _∷_, _++_}
-use mathlib.Core.Path.{_≡_, refl}
-use Prim.Native.Nat.{ℕ, zero, suc, _+_, _*_, _≤_, _<_}
+use mathlib.Core.Path.{_≡_, refl, sym, ap, _∙_}
+use Prim.Native.Nat.{ℕ, zero, suc, _+_, _-_, _*_, _%_, _≤_, _<_}
+use native.Mathlib.Nat.{add-assoc, add-zero, mod-add-mod, mod-eq-of-lt}
+use native.Mathlib.Numerals.{add-one}
 use native.Mathlib.Omega.{arith}
-use lib.ListN.{length, getD, List·getD-eq-default}
-use Rattle.image.specs.Words.{wordAt}
+use lib.Dec.{eqb}
+use lib.ListN.{length, getD, drop, drop-of-length-le, List·getD-eq-default}
+use lib.Seq.{drop-cons}
+use Rattle.image.specs.Words.{total, allZero, wordAt, wordsAt}
 
 -- past the end every byte, and so the word, is 0
 pub word-none : (bytes : List ℕ) (o : ℕ) → length bytes ≤ o → wordAt bytes o ≡ 0
 unfolding wordAt
-word-none bytes o h =
-    simp (past 1 (omega arith), past 2 (omega arith), past 3 (omega arith), List·getD-eq-default bytes 0 h)
+word-none bytes o h = simp (past 1 (omega arith), past 2 (omega arith), past 3 (omega arith), List·getD-eq-default bytes 0 h)
   where
     past : (k : ℕ) → length bytes ≤ o + k → getD bytes (o + k) 0 ≡ 0
     past k l = List·getD-eq-default bytes 0 l
+
+-- one byte of a sum, and none
+pub total-turn : (bytes : List ℕ) (at : ℕ) → at < length bytes → total (drop at bytes) ≡ getD bytes at 0 + total (drop (at + 1) bytes)
+unfolding total
+total-turn bytes at h = rw (add-one, drop-cons bytes at 0 h)
+
+pub total-end : (bytes : List ℕ) (at : ℕ) → length bytes ≤ at → total (drop at bytes) ≡ 0
+unfolding total
+total-end bytes at h = rw (drop-of-length-le bytes h)
+
+-- one word of a row, and none
+pub words-turn : (bytes : List ℕ) (o n : ℕ) → 0 < n → wordsAt bytes o n ≡ wordAt bytes o ∷ wordsAt bytes (o + 4) (n - 1)
+unfolding wordsAt
+words-turn bytes o n h = let e : n ≡ suc (n - 1) = omega arith in ap (wordsAt bytes o) e
+
+pub words-end : (bytes : List ℕ) (o n : ℕ) → n ≡ 0 → wordsAt bytes o n ≡ []
+unfolding wordsAt
+words-end bytes o n e = rw e
+
+-- a term of a sum taken into an accumulator that is kept below m
+pub carry-in : (s b t m : ℕ) → ((s + b) % m + t) % m ≡ (s + (b + t)) % m
+carry-in s b t m = rw (mod-add-mod, add-assoc)
+
+-- the accumulator at the end
+pub carried : (s t m : ℕ) → s < m → t ≡ 0 → s ≡ (s + t) % m
+carried s t m h e = rw (e, add-zero, mod-eq-of-lt h)
+
+pub total-cons : {ws rest : List ℕ} {w : ℕ} → ws ≡ w ∷ rest → total ws ≡ w + total rest
+unfolding total
+total-cons e = rw e
+
+pub total-none : {ws : List ℕ} → ws ≡ [] → total ws ≡ 0
+unfolding total
+total-none e = rw e
+
+-- a word decides 'all zero', or the rest does
+pub zero-stop : {ws rest : List ℕ} {w : ℕ} → ws ≡ w ∷ rest → eqb w 0 ≡ false → allZero ws ≡ false
+unfolding allZero
+zero-stop e t = rw e (simp t)
+
+pub zero-next : {ws rest : List ℕ} {w : ℕ} → ws ≡ w ∷ rest → eqb w 0 ≡ true → allZero ws ≡ allZero rest
+unfolding allZero
+zero-next e t = rw e (simp t)
+
+pub zero-none : {ws : List ℕ} → ws ≡ [] → allZero ws ≡ true
+unfolding allZero
+zero-none e = rw e

@@ -3,11 +3,11 @@ ghost use mathlib.Core.Bool.{not};
 ghost use mathlib.Core.Path.{_≡_};
 ghost use Prim.Native.Nat.{_+_, _*_, _/_, _%_, _≤_, _<_};
 ghost use lib.ListN.{length, getD};
-ghost use Rattle.image.specs.Checks.{versionFits, imageIdFits, levelFits, rowWords, cancels, someCancels, contentChecks, imageFault};
+ghost use Rattle.image.specs.Checks.{versionFits, imageIdFits, levelFits, sumFits, rowWords, cancels, someCancels, contentChecks, imageFault};
 ghost use Rattle.image.specs.Refusals.{firstRefusal};
 ghost use Rattle.image.specs.Sections.{sectionsOf, noSection, headerBytes, headerOf};
 ghost use Rattle.image.specs.Words.{total, allZero, wordAt};
-ghost use Rattle.parts.specs.Sizes.{rowBytes, rowsOf, imageSize};
+ghost use Rattle.parts.specs.Sizes.{rowBytes, rowsOf, flashSize};
 use parts::Geometry;
 use parts::Level;
 use parts::Lookup;
@@ -83,4 +83,165 @@ fn word_past(bytes: &[u8], at: usize) -> u32
         byte_at(bytes, at + 2),
         byte_at(bytes, at + 3),
     )
+}
+
+// The sum of bytes, modulo 65536.
+pub fn sum_of(bytes: &[u8]) -> u16
+    ensures { λ r. ⌜ r ≡ total (now (bytes .entry)) % 65536 ⌝ }
+{
+    let mut sum: u32 = 0;
+    let mut at: usize = 0;
+    while at < bytes.len() {
+        sum = (sum + wide(bytes[at])) % 65536;
+        at += 1;
+    }
+    sum as u16
+}
+
+// The sum of a row's words, modulo 2^32.
+fn words_sum(row: &[u8]) -> u32
+    ensures { λ r. ⌜ r ≡ total (rowWords (now (row .entry))) % 4294967296 ⌝ }
+{
+    let mut sum: u32 = 0;
+    let mut at: usize = 0;
+    let mut left = row.len() / 4;
+    while 0 < left {
+        sum = std::num::wrapping_add_u32(sum, word_at(row, at));
+        at += 4;
+        left -= 1;
+    }
+    sum
+}
+
+// Whether all words of a row are 0.
+fn all_zero(row: &[u8]) -> bool
+    ensures { λ r. ⌜ r ≡ allZero (rowWords (now (row .entry))) ⌝ }
+{
+    let mut at: usize = 0;
+    let mut left = row.len() / 4;
+    while 0 < left {
+        if word_at(row, at) != 0 {
+            return false;
+        }
+        at += 4;
+        left -= 1;
+    }
+    true
+}
+
+// Whether a row's words add to 0 modulo 2^32 without all being 0 (number 10).
+pub fn row_cancels(row: &[u8]) -> bool
+    ensures { λ r. ⌜ r ≡ cancels (now (row .entry)) ⌝ }
+{
+    if words_sum(row) == 0 {
+        return !all_zero(row);
+    }
+    false
+}
+
+// Whether one of the first n rows cancels.
+fn some_cancels(bytes: &[u8], n: u32, size: usize) -> bool
+    requires { ⌜ n * size ≤ length (now bytes) ⌝ }
+    ensures { λ r. ⌜ r ≡ someCancels size n (now (bytes .entry)) ⌝ }
+{
+    let mut at: usize = 0;
+    let mut left = n;
+    while 0 < left {
+        let end = at + size;
+        if row_cancels(&bytes[at..end]) {
+            return true;
+        }
+        at = end;
+        left -= 1;
+    }
+    false
+}
+
+// Whether the metadata's version is 2.
+fn version_fits(h: Header) -> bool
+    ensures { λ r. ⌜ r ≡ versionFits h ⌝ }
+{
+    let m = h.metadata;
+    256 * wide(m[0]) + wide(m[1]) == 2
+}
+
+// Whether the metadata's silicon ID is the part's.
+fn id_fits(g: Geometry, h: Header) -> bool
+    ensures { λ r. ⌜ r ≡ imageIdFits g h ⌝ }
+{
+    let m = h.metadata;
+    let p = g.part;
+    parts::id_fits(p, m[2], m[3], m[5])
+}
+
+// Whether a level may be asked for: OPEN, PROTECTED or KILL.
+fn level_fits(n: u8) -> bool
+    ensures { λ r. ⌜ r ≡ levelFits n ⌝ }
+{
+    let l = parts::read_level(n);
+    match l {
+        Level::Virgin => false,
+        Level::Open => true,
+        Level::Protected => true,
+        Level::Kill => true,
+        Level::Unknown => false,
+    }
+}
+
+// Whether the flash adds up to the header's sum.
+fn sum_fits(g: Geometry, h: Header, bytes: &[u8]) -> bool
+    requires { ⌜ flashSize g ≤ length (now bytes) ⌝ }
+    ensures { λ r. ⌜ r ≡ sumFits g h (now (bytes .entry)) ⌝ }
+{
+    let flash = parts::flash_size(g);
+    sum_of(&bytes[..flash]) == h.sum
+}
+
+// Whether no row of the flash cancels.
+fn rows_fit(g: Geometry, bytes: &[u8]) -> bool
+    requires { ⌜ flashSize g ≤ length (now bytes) ⌝ }
+    ensures { λ r. ⌜ r ≡ not (someCancels (rowBytes g) (rowsOf g) (now (bytes .entry))) ⌝ }
+{
+    let p = g.part;
+    !some_cancels(bytes, parts::rows(g), p.row_bytes as usize)
+}
+
+// Checks 6 to 10, in that order: 0 or the first number that applies.
+fn content_fault(g: Geometry, h: Header, bytes: &[u8]) -> u8
+    requires { ⌜ flashSize g ≤ length (now bytes) ⌝ }
+    ensures { λ r. ⌜ r ≡ firstRefusal (contentChecks g h (now (bytes .entry))) ⌝ }
+{
+    if !version_fits(h) {
+        return 6;
+    }
+    if !id_fits(g, h) {
+        return 7;
+    }
+    if !level_fits(h.level) {
+        return 8;
+    }
+    if !sum_fits(g, h, bytes) {
+        return 9;
+    }
+    if !rows_fit(g, bytes) {
+        return 10;
+    }
+    0
+}
+
+// Checks 11, 12 and 6 to 10, in that order: 0 or the first number that applies.
+pub fn check(h: Header, bytes: &[u8]) -> u8
+    ensures { λ r. ⌜ r ≡ imageFault h (now (bytes .entry)) ⌝ }
+{
+    let found = parts::find(h.part, h.macros);
+    match found {
+        Lookup::Refused(n) => n,
+        Lookup::Found(g) => {
+            if bytes.len() == parts::image_size(g) {
+                content_fault(g, h, bytes)
+            } else {
+                12
+            }
+        }
+    }
 }

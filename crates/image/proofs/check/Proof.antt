@@ -1,0 +1,61 @@
+-- The look-up, the size, then the contents. Assumes nothing.
+use native.Mathlib.Omega.{arith}
+use mathlib.Core.Path.{sym, _∙_}
+use borrow.Author.Needs.{needs}
+use borrow.Author.Tests.{eq-eqb, ne-eqb}
+use Rattle.parts.specs.Sizes.{imageSize}
+use Rattle.image.proofs.Checks.{looked}
+use Rattle.image.proofs.Refusals.{passed, failed}
+use Rattle.image.proofs.check.Statement.{statement}
+use Rattle.image.proofs.check.Tie as tie
+
+find-requires : tie.Need-find-requires
+find-requires c κs = search needs
+
+enum-known-found : tie.Need-enum-known-found
+enum-known-found c = search needs
+
+enum-known-found-2 : tie.Need-enum-known-found-2
+enum-known-found-2 c = search needs
+
+image-size-requires : tie.Need-image-size-requires
+image-size-requires c κs = search needs
+
+content-fault-requires : tie.Need-content-fault-requires
+unfolding imageSize
+content-fault-requires c κs = omega (arith, c .if1 .taken, c .before .image-size .ensures)
+
+returns : tie.Need-returns
+returns c =
+    let a = c .before .before .before .before .before .args in
+    sym (looked (a .h) (a .bytes .now) (sym (c .before .before .before .find .ensures) ∙ c .before .found .given .1))
+
+returns-2 : tie.Need-returns-2
+returns-2 c =
+    let f = c .before .before .before .before in
+    let a = f .before .before .before .before .args in
+    c .content-fault .ensures
+    ∙ sym
+    (looked (a .h) (a .bytes .now) (sym (f .before .before .find .ensures) ∙ f .found2 .given .1)
+    ∙ passed _ _ (eq-eqb _ _ (c .before .if1 .taken ∙ c .before .before .image-size .ensures)))
+
+returns-3 : tie.Need-returns-3
+returns-3 c =
+    let f = c .before .before .before in
+    let a = f .before .before .before .before .args in
+    sym
+    (looked (a .h) (a .bytes .now) (sym (f .before .before .find .ensures) ∙ f .found2 .given .1)
+    ∙ failed _ _ (ne-eqb _ _ (λ e. c .if1 .left (e ∙ sym (c .before .image-size .ensures)))))
+
+pub check-spec : {M : Type 1} → statement M
+check-spec =
+    tie.close
+    (tie.spec
+    find-requires
+    enum-known-found
+    enum-known-found-2
+    image-size-requires
+    content-fault-requires
+    returns
+    returns-2
+    returns-3)
