@@ -1,4 +1,5 @@
 pub mod Words
 pub mod Checks
 pub mod Refusals
+pub mod Sections
 pub mod Examples

@@ -1,5 +1,6 @@
 // The image: a header beside lent bytes, its words and rows, its checks and its sections (document 01, 'Parts', numbers 6 to 12).
 ghost use mathlib.Core.Bool.{not};
+ghost use mathlib.Core.List.{[], _∷_, _++_};
 ghost use mathlib.Core.Path.{_≡_};
 ghost use Prim.Native.Nat.{_+_, _*_, _/_, _%_, _≤_, _<_};
 ghost use lib.ListN.{length, getD};
@@ -90,10 +91,10 @@ pub fn sum_of(bytes: &[u8]) -> u16
     ensures { λ r. ⌜ r ≡ total (now (bytes .entry)) % 65536 ⌝ }
 {
     let mut sum: u32 = 0;
-    let mut at: usize = 0;
-    while at < bytes.len() {
-        sum = (sum + wide(bytes[at])) % 65536;
-        at += 1;
+    let mut place: usize = 0;
+    while place < bytes.len() {
+        sum = (sum + wide(bytes[place])) % 65536;
+        place += 1;
     }
     sum as u16
 }
@@ -243,5 +244,110 @@ pub fn check(h: Header, bytes: &[u8]) -> u8
                 12
             }
         }
+    }
+}
+
+// The k-th section of an image's text, and an empty one past the last.
+pub fn section_at(g: Geometry, k: usize) -> Section
+    ensures { λ s. ⌜ s ≡ getD (sectionsOf g) k noSection ⌝ }
+{
+    let flash = parts::flash_size(g);
+    match k {
+        0 => Section {
+            address: 0,
+            size: flash,
+            home: Home::InImage,
+            offset: 0,
+        },
+        1 => Section {
+            address: 0x90300000,
+            size: 2,
+            home: Home::InHeader,
+            offset: 0,
+        },
+        2 => Section {
+            address: 0x90400000,
+            size: parts::lock_total(g),
+            home: Home::InImage,
+            offset: flash,
+        },
+        3 => Section {
+            address: 0x90500000,
+            size: 12,
+            home: Home::InHeader,
+            offset: 2,
+        },
+        4 => Section {
+            address: 0x90600000,
+            size: 1,
+            home: Home::InHeader,
+            offset: 14,
+        },
+        _ => Section {
+            address: 0,
+            size: 0,
+            home: Home::InImage,
+            offset: 0,
+        },
+    }
+}
+
+// The bytes of sum, metadata and level in a row.
+fn joined(high: u8, low: u8, m: [u8; 12], level: u8) -> [u8; 15]
+    ensures { λ r. ⌜ r ≡ high ∷ low ∷ (m ++ (level ∷ [])) ⌝ }
+{
+    [
+        high,
+        low,
+        m[0],
+        m[1],
+        m[2],
+        m[3],
+        m[4],
+        m[5],
+        m[6],
+        m[7],
+        m[8],
+        m[9],
+        m[10],
+        m[11],
+        level,
+    ]
+}
+
+// What a text says of a header: sum (high byte first), metadata, level.
+pub fn header_bytes(h: Header) -> [u8; 15]
+    ensures { λ r. ⌜ r ≡ headerBytes h ⌝ }
+{
+    let m = h.metadata;
+    let sum = h.sum;
+    joined((sum / 256) as u8, (sum % 256) as u8, m, h.level)
+}
+
+// The header that such bytes make.
+pub fn header_of(part: u8, macros: u8, b: [u8; 15]) -> Header
+    ensures { λ h. ⌜ h ≡ headerOf part macros b ⌝ }
+{
+    let metadata = [
+        b[2],
+        b[3],
+        b[4],
+        b[5],
+        b[6],
+        b[7],
+        b[8],
+        b[9],
+        b[10],
+        b[11],
+        b[12],
+        b[13],
+    ];
+    let sum = (256 * wide(b[0]) + wide(b[1])) as u16;
+    Header {
+        part: part,
+        macros: macros,
+        sum: sum,
+        metadata: metadata,
+        level: b[14],
     }
 }

@@ -197,11 +197,18 @@ pub fn flash_size(g: Geometry) -> usize
     (rows(g) as usize) * (p.row_bytes as usize)
 }
 
-// The bytes of an image: flash, then a lock bit for each row.
+// The bytes of locks: a bit for each row.
+pub fn lock_total(g: Geometry) -> usize
+    ensures { λ n. ⌜ n ≡ lockTotal g ⌝ ∗ ⌜ n < 2 ^ 32 ⌝ }
+{
+    (rows(g) / 8) as usize
+}
+
+// The bytes of an image: flash, then locks.
 pub fn image_size(g: Geometry) -> usize
     ensures { λ n. ⌜ n ≡ imageSize g ⌝ }
 {
-    flash_size(g) + (rows(g) / 8) as usize
+    flash_size(g) + lock_total(g)
 }
 
 // The reading of a level's number.

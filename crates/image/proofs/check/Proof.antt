@@ -9,22 +9,6 @@ use Rattle.image.proofs.Refusals.{passed, failed}
 use Rattle.image.proofs.check.Statement.{statement}
 use Rattle.image.proofs.check.Tie as tie
 
-find-requires : tie.Need-find-requires
-find-requires c κs = search needs
-
-enum-known-found : tie.Need-enum-known-found
-enum-known-found c = search needs
-
-enum-known-found-2 : tie.Need-enum-known-found-2
-enum-known-found-2 c = search needs
-
-image-size-requires : tie.Need-image-size-requires
-image-size-requires c κs = search needs
-
-content-fault-requires : tie.Need-content-fault-requires
-unfolding imageSize
-content-fault-requires c κs = omega (arith, c .if1 .taken, c .before .image-size .ensures)
-
 returns : tie.Need-returns
 returns c =
     let a = c .before .before .before .before .before .args in
@@ -48,14 +32,15 @@ returns-3 c =
     ∙ failed _ _ (ne-eqb _ _ (λ e. c .if1 .left (e ∙ sym (c .before .image-size .ensures)))))
 
 pub check-spec : {M : Type 1} → statement M
+unfolding imageSize
 check-spec =
     tie.close
     (tie.spec
-    find-requires
-    enum-known-found
-    enum-known-found-2
-    image-size-requires
-    content-fault-requires
+    (λ c κs. search needs)
+    (λ c. search needs)
+    (λ c. search needs)
+    (λ c κs. search needs)
+    (λ c κs. omega (arith, c .if1 .taken, c .before .image-size .ensures))
     returns
     returns-2
     returns-3)

@@ -1,83 +1,42 @@
--- The tests in the order of `contentChecks`. Assumes nothing.
-use mathlib.Core.Path.{sym, _∙_}
+-- The tests in the order of `contentChecks`, each taken off the front of the list. Assumes nothing.
+use mathlib.Core.List.{List}
+use mathlib.Core.Path.{_≡_, sym, _∙_}
 use borrow.Author.Needs.{needs}
 use borrow.Author.Tests.{not-true, not-false}
+use lib.ListN.{drop}
+use Rattle.image.specs.Checks.{contentChecks}
+use Rattle.image.specs.Refusals.{Check, firstRefusal}
 use Rattle.image.proofs.Refusals.{passed, failed, none-left}
 use Rattle.image.proofs.content_fault.Statement.{statement}
 use Rattle.image.proofs.content_fault.Tie as tie
 
-version-fits-requires : tie.Need-version-fits-requires
-version-fits-requires c κs = search needs
+abbrev checks : tie.Start → List Check
+checks s = contentChecks (s .args .g) (s .args .h) (s .args .bytes .now)
 
-returns : tie.Need-returns
-returns c =
-    sym
-    (failed _ _ (sym (c .before .version-fits .ensures) ∙ not-true _ (c .if1 .taken)))
+after1 : (c : tie.Else1) → firstRefusal (checks (c .before .before .before)) ≡ firstRefusal (drop 1 (checks (c .before .before .before)))
+after1 c = passed _ _ (sym (c .before .version-fits .ensures) ∙ not-false _ (c .if1 .left))
 
-id-fits-requires : tie.Need-id-fits-requires
-id-fits-requires c κs = search needs
+after2 : (c : tie.Else2) → firstRefusal (checks (c .before .before .before .before .before)) ≡ firstRefusal (drop 2 (checks (c .before .before .before .before .before)))
+after2 c = after1 (c .before .before) ∙ passed _ _ (sym (c .before .id-fits .ensures) ∙ not-false _ (c .if2 .left))
 
-returns-2 : tie.Need-returns-2
-returns-2 c =
-    sym
-    (passed _ _ (sym (c .before .before .before .version-fits .ensures) ∙ not-false _ (c .before .before .if1 .left))
-    ∙ failed _ _ (sym (c .before .id-fits .ensures) ∙ not-true _ (c .if2 .taken)))
+after3 : (c : tie.Else3) → firstRefusal (checks (c .before .before .before .before .before .before .before)) ≡ firstRefusal (drop 3 (checks (c .before .before .before .before .before .before .before)))
+after3 c = after2 (c .before .before) ∙ passed _ _ (sym (c .before .level-fits .ensures) ∙ not-false _ (c .if3 .left))
 
-level-fits-requires : tie.Need-level-fits-requires
-level-fits-requires c κs = search needs
-
-returns-3 : tie.Need-returns-3
-returns-3 c =
-    sym
-    (passed _ _ (sym (c .before .before .before .before .before .version-fits .ensures) ∙ not-false _ (c .before .before .before .before .if1 .left))
-    ∙ passed _ _ (sym (c .before .before .before .id-fits .ensures) ∙ not-false _ (c .before .before .if2 .left))
-    ∙ failed _ _ (sym (c .before .level-fits .ensures) ∙ not-true _ (c .if3 .taken)))
-
-sum-fits-requires : tie.Need-sum-fits-requires
-sum-fits-requires c κs = search needs
-
-returns-4 : tie.Need-returns-4
-returns-4 c =
-    sym
-    (passed _ _ (sym (c .before .before .before .before .before .before .before .version-fits .ensures) ∙ not-false _ (c .before .before .before .before .before .before .if1 .left))
-    ∙ passed _ _ (sym (c .before .before .before .before .before .id-fits .ensures) ∙ not-false _ (c .before .before .before .before .if2 .left))
-    ∙ passed _ _ (sym (c .before .before .before .level-fits .ensures) ∙ not-false _ (c .before .before .if3 .left))
-    ∙ failed _ _ (sym (c .before .sum-fits .ensures) ∙ not-true _ (c .if4 .taken)))
-
-rows-fit-requires : tie.Need-rows-fit-requires
-rows-fit-requires c κs = search needs
-
-returns-5 : tie.Need-returns-5
-returns-5 c =
-    sym
-    (passed _ _ (sym (c .before .before .before .before .before .before .before .before .before .version-fits .ensures) ∙ not-false _ (c .before .before .before .before .before .before .before .before .if1 .left))
-    ∙ passed _ _ (sym (c .before .before .before .before .before .before .before .id-fits .ensures) ∙ not-false _ (c .before .before .before .before .before .before .if2 .left))
-    ∙ passed _ _ (sym (c .before .before .before .before .before .level-fits .ensures) ∙ not-false _ (c .before .before .before .before .if3 .left))
-    ∙ passed _ _ (sym (c .before .before .before .sum-fits .ensures) ∙ not-false _ (c .before .before .if4 .left))
-    ∙ failed _ _ (sym (c .before .rows-fit .ensures) ∙ not-true _ (c .if5 .taken)))
-
-returns-6 : tie.Need-returns-6
-returns-6 c =
-    sym
-    (passed _ _ (sym (c .before .before .before .before .before .before .before .before .before .version-fits .ensures) ∙ not-false _ (c .before .before .before .before .before .before .before .before .if1 .left))
-    ∙ passed _ _ (sym (c .before .before .before .before .before .before .before .id-fits .ensures) ∙ not-false _ (c .before .before .before .before .before .before .if2 .left))
-    ∙ passed _ _ (sym (c .before .before .before .before .before .level-fits .ensures) ∙ not-false _ (c .before .before .before .before .if3 .left))
-    ∙ passed _ _ (sym (c .before .before .before .sum-fits .ensures) ∙ not-false _ (c .before .before .if4 .left))
-    ∙ passed _ _ (sym (c .before .rows-fit .ensures) ∙ not-false _ (c .if5 .left))
-    ∙ none-left)
+after4 : (c : tie.Else4) → firstRefusal (checks (c .before .before .before .before .before .before .before .before .before)) ≡ firstRefusal (drop 4 (checks (c .before .before .before .before .before .before .before .before .before)))
+after4 c = after3 (c .before .before) ∙ passed _ _ (sym (c .before .sum-fits .ensures) ∙ not-false _ (c .if4 .left))
 
 pub content-fault-spec : {M : Type 1} → statement M
 content-fault-spec =
     tie.close
     (tie.spec
-    version-fits-requires
-    returns
-    id-fits-requires
-    returns-2
-    level-fits-requires
-    returns-3
-    sum-fits-requires
-    returns-4
-    rows-fit-requires
-    returns-5
-    returns-6)
+    (λ c κs. search needs)
+    (λ c. sym (failed _ _ (sym (c .before .version-fits .ensures) ∙ not-true _ (c .if1 .taken))))
+    (λ c κs. search needs)
+    (λ c. sym (after1 (c .before .before) ∙ failed _ _ (sym (c .before .id-fits .ensures) ∙ not-true _ (c .if2 .taken))))
+    (λ c κs. search needs)
+    (λ c. sym (after2 (c .before .before) ∙ failed _ _ (sym (c .before .level-fits .ensures) ∙ not-true _ (c .if3 .taken))))
+    (λ c κs. search needs)
+    (λ c. sym (after3 (c .before .before) ∙ failed _ _ (sym (c .before .sum-fits .ensures) ∙ not-true _ (c .if4 .taken))))
+    (λ c κs. search needs)
+    (λ c. sym (after4 (c .before .before) ∙ failed _ _ (sym (c .before .rows-fit .ensures) ∙ not-true _ (c .if5 .taken))))
+    (λ c. sym (after4 (c .before .before) ∙ (passed _ _ (sym (c .before .rows-fit .ensures) ∙ not-false _ (c .if5 .left)) ∙ none-left))))

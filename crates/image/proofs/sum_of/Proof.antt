@@ -12,11 +12,11 @@ use Rattle.image.proofs.sum_of.Statement.{statement}
 use Rattle.image.proofs.sum_of.Tie as tie
 
 abbrev Inv-loop : tie.InvT-loop
-Inv-loop bytes sum₀ at₀ sum at =
-    (at ≤ length bytes) × (sum < 65536) × ((sum + total (drop at bytes)) % 65536 ≡ total bytes % 65536)
+Inv-loop bytes sum₀ place₀ sum place =
+    (place ≤ length bytes) × (sum < 65536) × ((sum + total (drop place bytes)) % 65536 ≡ total bytes % 65536)
 
 abbrev μ-loop : tie.MeasureT-loop
-μ-loop bytes sum₀ at₀ sum at = length bytes - at
+μ-loop bytes sum₀ place₀ sum place = length bytes - place
 
 loop-holds : tie.Need-loop-holds Inv-loop μ-loop
 loop-holds c = (omega arith, lit< tt, rw zero-add)
@@ -29,14 +29,14 @@ loop-again c =
       omega arith,
       rw (c .wide .ensures .0)
           (carry-in (l .loop .sum) _ _ 65536
-          ∙ ap (λ (t : ℕ). (l .loop .sum + t) % 65536) (sym (total-turn bytes (l .loop .at) (c .before .before .loop-test .taken)))
+          ∙ ap (λ (t : ℕ). (l .loop .sum + t) % 65536) (sym (total-turn bytes (l .loop .place) (c .before .before .loop-test .taken)))
           ∙ l .loop .inv .2),
     )
 
 returns : tie.Need-returns Inv-loop μ-loop
 returns c =
     let l = c .before in
-    carried (l .loop .sum) _ 65536 (l .loop .inv .1) (total-end (l .before .before .args .bytes .now) (l .loop .at) (c .loop-test .left))
+    carried (l .loop .sum) _ 65536 (l .loop .inv .1) (total-end (l .before .before .args .bytes .now) (l .loop .place) (c .loop-test .left))
     ∙ l .loop .inv .2
 
 pub sum-of-spec : {M : Type 1} → statement M
