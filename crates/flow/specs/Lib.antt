@@ -1,0 +1,3 @@
+pub mod Packets
+pub mod Sequence
+pub mod Plan
