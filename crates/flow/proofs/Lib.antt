@@ -1,0 +1,4 @@
+pub mod Table
+pub mod Places
+pub mod Counting
+pub mod Examples

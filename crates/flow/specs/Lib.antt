@@ -10,3 +10,4 @@ pub mod Judge
 pub mod Session
 pub mod Run
 pub mod Claim
+pub mod Examples

@@ -1,6 +1,6 @@
 -- Document 01's count, and the counts of a list of moves. Assumes nothing.
 use mathlib.Core.List.{List, [], _∷_}
-use Prim.Native.Nat.{ℕ, _+_, _*_, _/_}
+use Prim.Native.Nat.{ℕ, suc, _+_, _*_, _/_}
 use Rattle.flow.specs.declared.Entry.{Entry}
 use Rattle.flow.specs.declared.Entry.the-variants.{FromOpen, FromProtected}
 use Rattle.flow.specs.declared.Move.{Move}
@@ -20,29 +20,20 @@ pub record Traffic : Type 0 where
 abbrev pub noTraffic : Traffic
 noTraffic = record { transfers = 0; xresets = 0; lineResets = 0 }
 
-abbrev pub oneTransfer : Traffic
-oneTransfer = record { transfers = 1; xresets = 0; lineResets = 0 }
+-- one request more
+abbrev pub counting : Request → Traffic → Traffic
+counting Xres t = record { transfers = t .transfers; xresets = suc (t .xresets); lineResets = t .lineResets }
+counting LineReset t = record { transfers = t .transfers; xresets = t .xresets; lineResets = suc (t .lineResets) }
+counting ReadIdcode t = record { transfers = suc (t .transfers); xresets = t .xresets; lineResets = t .lineResets }
+counting ReadDrw t = record { transfers = suc (t .transfers); xresets = t .xresets; lineResets = t .lineResets }
+counting (WriteTar w) t = record { transfers = suc (t .transfers); xresets = t .xresets; lineResets = t .lineResets }
+counting (WriteDrw w) t = record { transfers = suc (t .transfers); xresets = t .xresets; lineResets = t .lineResets }
+counting (WriteSetup r w) t = record { transfers = suc (t .transfers); xresets = t .xresets; lineResets = t .lineResets }
 
-abbrev pub trafficOf : Request → Traffic
-trafficOf Xres = record { transfers = 0; xresets = 1; lineResets = 0 }
-trafficOf LineReset = record { transfers = 0; xresets = 0; lineResets = 1 }
-trafficOf ReadIdcode = oneTransfer
-trafficOf ReadDrw = oneTransfer
-trafficOf (WriteTar w) = oneTransfer
-trafficOf (WriteDrw w) = oneTransfer
-trafficOf (WriteSetup r w) = oneTransfer
-
-abbrev pub plus : Traffic → Traffic → Traffic
-plus a b = record {
-  transfers = a .transfers + b .transfers;
-  xresets = a .xresets + b .xresets;
-  lineResets = a .lineResets + b .lineResets;
-}
-
--- the reads and writes of a list of moves, and the loops: its polls
-unfoldable pub transfersIn : List Move → ℕ
-transfersIn [] = 0
-transfersIn (m ∷ ms) = (trafficOf (m .request)) .transfers + transfersIn ms
+-- the requests of a list of moves, and its loops: the polls
+unfoldable pub trafficIn : List Move → Traffic
+trafficIn [] = noTraffic
+trafficIn (m ∷ ms) = counting (m .request) (trafficIn ms)
 
 abbrev pub isPoll : Purpose → ℕ
 isPoll Sent = 0

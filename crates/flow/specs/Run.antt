@@ -3,7 +3,7 @@ use mathlib.Core.Bool.{Bool, true, false}
 use Prim.Native.Nat.{ℕ, zero, suc}
 use Rattle.flow.specs.Exchange.{Met, meet}
 use Rattle.flow.specs.Packets.{packetOf}
-use Rattle.flow.specs.Plan.{Traffic, noTraffic, trafficOf, plus}
+use Rattle.flow.specs.Plan.{Traffic, noTraffic, counting}
 use Rattle.flow.specs.Session.{Session, running, reported, moveAt, stepOf, firstSession}
 use Rattle.flow.specs.Target.{Target, Lists}
 use Rattle.flow.specs.Monitor.{Monitor, watching, watch, noDelays}
@@ -24,7 +24,7 @@ served i s m r run = record {
   target = r .target;
   lists = r .lists;
   monitor = watch (i .geometry) (m .request) (r .answer) (run .monitor);
-  traffic = plus (trafficOf (m .request)) (run .traffic);
+  traffic = counting (m .request) (run .traffic);
 }
 
 -- the target's answer to the standing request, given to the session; after the report nothing changes
@@ -51,10 +51,10 @@ started b l = record {
   traffic = noTraffic;
 }
 
--- what stands is handed out too
-abbrev pub standing : Image → Session → Traffic
-standing i (running y n w p a k h) = trafficOf ((moveAt i y n) .request)
-standing i (reported x s h) = noTraffic
+-- the requests handed out: those answered, and the one that stands
+abbrev pub handedOutBy : Image → Session → Traffic → Traffic
+handedOutBy i (running y n w p a k h) t = counting ((moveAt i y n) .request) t
+handedOutBy i (reported x s h) t = t
 
 abbrev pub handedOut : Image → Run → Traffic
-handedOut i run = plus (standing i (run .session)) (run .traffic)
+handedOut i run = handedOutBy i (run .session) (run .traffic)
