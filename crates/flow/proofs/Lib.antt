@@ -2,3 +2,5 @@ pub mod Table
 pub mod Places
 pub mod Counting
 pub mod Examples
+pub mod Reaches
+pub mod Hearing
