@@ -1,0 +1,180 @@
+-- The reads and writes of the sequence are the plan, its polls the loops, for every geometry of the table. Assumes nothing.
+use mathlib.Core.List.{List, [], _∷_, _++_}
+use mathlib.Core.Path.{_≡_, refl, ap, _∙_, sym}
+use Prim.Native.Nat.{ℕ, zero, suc, _+_, _*_, _-_, _/_, _≤_}
+use native.Mathlib.Omega.{arith}
+use lib.ListN.{length}
+use Rattle.flow.specs.Plan.{Traffic, noTraffic, counting, trafficIn, isPoll, pollsIn, fromProtected, plan, loops, acquisitions}
+use Rattle.flow.specs.Sequence.{move, write, read, poll, call, writes, listed, pieces, imoCall, acquire, silicon, privileged, latchList, programRow, compareWord, verifyFlash, lockStart, lockMacro, verifyMacro, program, opening, afterwards, sequence, key}
+use Rattle.flow.specs.declared.Entry.{Entry}
+use Rattle.flow.specs.declared.Entry.the-variants.{FromOpen, FromProtected}
+use Rattle.flow.specs.declared.Move.{Move}
+use Rattle.flow.specs.declared.Purpose.{Purpose}
+use Rattle.flow.specs.declared.Purpose.the-variants.{Sent, Idcode, TestBit, Poll, Status, Keep, EntryLevel, Reopened, Same, StoredLevel, LastSum}
+use Rattle.flow.specs.declared.Request.{Request}
+use Rattle.flow.specs.declared.Request.the-variants.{Xres, LineReset, ReadIdcode, ReadDrw, WriteTar, WriteDrw, WriteSetup}
+use Rattle.flow.proofs.Table.{Facts}
+use Rattle.image.specs.Image.{Image}
+use Rattle.image.specs.Words.{wordsAt}
+use Rattle.parts.specs.Sizes.{rowBytes, macrosOf, rowsPerMacro, rowsOf, locksIn, imoOf, PARAMS}
+use Rattle.parts.specs.declared.Geometry.{Geometry}
+
+-- what a list of moves counts to
+pub record Totals (ms : List Move) (s p x l : ℕ) : Type 0 where
+  pub transfers : (trafficIn ms) .transfers ≡ s
+  pub polls : pollsIn ms ≡ p
+  pub xresets : (trafficIn ms) .xresets ≡ x
+  pub lineResets : (trafficIn ms) .lineResets ≡ l
+
+pub totals : (ms : List Move) → Totals ms ((trafficIn ms) .transfers) (pollsIn ms) ((trafficIn ms) .xresets) ((trafficIn ms) .lineResets)
+totals ms = record { transfers = refl; polls = refl; xresets = refl; lineResets = refl }
+
+-- one request more is counted once, whatever it is
+record Adds (q : Request) (s t u : Traffic) : Type 0 where
+  pub transfers : (counting q u) .transfers + s .transfers ≡ (counting q t) .transfers
+  pub xresets : (counting q u) .xresets + s .xresets ≡ (counting q t) .xresets
+  pub lineResets : (counting q u) .lineResets + s .lineResets ≡ (counting q t) .lineResets
+
+adds : (q : Request) (s t u : Traffic) → u .transfers + s .transfers ≡ t .transfers → u .xresets + s .xresets ≡ t .xresets
+    → u .lineResets + s .lineResets ≡ t .lineResets → Adds q s t u
+adds Xres s t u a b c = record { transfers = omega arith; xresets = omega arith; lineResets = omega arith }
+adds LineReset s t u a b c = record { transfers = omega arith; xresets = omega arith; lineResets = omega arith }
+adds ReadIdcode s t u a b c = record { transfers = omega arith; xresets = omega arith; lineResets = omega arith }
+adds ReadDrw s t u a b c = record { transfers = omega arith; xresets = omega arith; lineResets = omega arith }
+adds (WriteTar w) s t u a b c = record { transfers = omega arith; xresets = omega arith; lineResets = omega arith }
+adds (WriteDrw w) s t u a b c = record { transfers = omega arith; xresets = omega arith; lineResets = omega arith }
+adds (WriteSetup r w) s t u a b c = record { transfers = omega arith; xresets = omega arith; lineResets = omega arith }
+
+pub append : (a b : List Move) → Totals (a ++ b) ((trafficIn a) .transfers + (trafficIn b) .transfers) (pollsIn a + pollsIn b)
+    ((trafficIn a) .xresets + (trafficIn b) .xresets) ((trafficIn a) .lineResets + (trafficIn b) .lineResets)
+unfolding trafficIn pollsIn
+append [] b = record { transfers = omega arith; polls = omega arith; xresets = omega arith; lineResets = omega arith }
+append (m ∷ a) b =
+    let h = append a b in
+    let t = adds (m .request) (trafficIn b) (trafficIn (a ++ b)) (trafficIn a) (sym (h .transfers)) (sym (h .xresets)) (sym (h .lineResets)) in
+    record { transfers = sym (t .transfers); polls = omega (arith, h .polls); xresets = sym (t .xresets); lineResets = sym (t .lineResets) }
+
+-- two lists of known counts
+pub joined : {a b : List Move} {s p x l s′ p′ x′ l′ : ℕ} → Totals a s p x l → Totals b s′ p′ x′ l′ → Totals (a ++ b) (s + s′) (p + p′) (x + x′) (l + l′)
+joined {a} {b} h k =
+    let t = append a b in
+    record {
+      transfers = omega (arith, t .transfers, h .transfers, k .transfers);
+      polls = omega (arith, t .polls, h .polls, k .polls);
+      xresets = omega (arith, t .xresets, h .xresets, k .xresets);
+      lineResets = omega (arith, t .lineResets, h .lineResets, k .lineResets);
+    }
+
+-- the same counts, written otherwise
+pub recount : {ms : List Move} {s p x l s′ p′ x′ l′ : ℕ} → Totals ms s p x l → s ≡ s′ → p ≡ p′ → x ≡ x′ → l ≡ l′ → Totals ms s′ p′ x′ l′
+recount h a b c d = record { transfers = h .transfers ∙ a; polls = h .polls ∙ b; xresets = h .xresets ∙ c; lineResets = h .lineResets ∙ d }
+
+count-writes : (s a : ℕ) (ws : List ℕ) → Totals (writes s a ws) (2 * length ws) 0 0 0
+unfolding writes write trafficIn pollsIn
+count-writes s a [] = record { transfers = refl; polls = refl; xresets = refl; lineResets = refl }
+count-writes s a (w ∷ ws) =
+    let h = count-writes s (a + 4) ws in
+    record { transfers = omega (arith, h .transfers); polls = omega (arith, h .polls); xresets = h .xresets; lineResets = h .lineResets }
+
+count-call : (g : Geometry) (s c w : ℕ) → Totals (call g s c w) 10 1 0 0
+unfolding call write read trafficIn pollsIn
+count-call g s c w = record { transfers = refl; polls = refl; xresets = refl; lineResets = refl }
+
+count-listed : (g : Geometry) (s c : ℕ) (ws : List ℕ) → Totals (listed g s c ws) (2 * length ws + 10) 1 0 0
+unfolding listed
+count-listed g s c ws = joined (count-writes s PARAMS ws) (count-call g s c PARAMS)
+
+-- n pieces that count alike
+count-pieces : (f : ℕ → List Move) (t p : ℕ) → ((k : ℕ) → Totals (f k) t p 0 0) → (k n : ℕ) → Totals (pieces f k n) (n * t) (n * p) 0 0
+unfolding pieces trafficIn pollsIn
+count-pieces f t p each k zero = record { transfers = omega arith; polls = omega arith; xresets = refl; lineResets = refl }
+count-pieces f t p each k (suc n) = recount (joined (each k) (count-pieces f t p each (suc k) n)) (omega arith) (omega arith) refl refl
+
+pub length-words : (l : List ℕ) (o n : ℕ) → length (wordsAt l o n) ≡ n
+unfolding wordsAt
+length-words l o zero = refl
+length-words l o (suc n) = ap suc (length-words l (o + 4) n)
+
+count-row : (i : Image) (r : ℕ) → Totals (programRow i r) (26 + 2 * (rowBytes (i .geometry) / 4)) 2 0 0
+unfolding programRow
+count-row i r =
+    let w = length-words (i .flash) (r * rowBytes (i .geometry)) (rowBytes (i .geometry) / 4) in
+    recount (joined (count-listed (i .geometry) 5 4 _) (count-listed (i .geometry) 5 6 ((key 6 + r * 0x10000) ∷ []))) (omega (arith, w)) refl refl refl
+
+count-word : (s e a : ℕ) (bytes : List ℕ) (o j : ℕ) → Totals (compareWord s e a bytes o j) 3 0 0 0
+unfolding read trafficIn pollsIn
+count-word s e a bytes o j = record { transfers = refl; polls = refl; xresets = refl; lineResets = refl }
+
+count-lock : (i : Image) (m : ℕ) → Totals (lockMacro i m) (24 + 2 * (locksIn (i .geometry) m / 4)) 2 0 0
+unfolding lockMacro
+count-lock i m =
+    let w = length-words (i .protection) (lockStart (i .geometry) m) (locksIn (i .geometry) m / 4) in
+    recount (joined (count-listed (i .geometry) 7 4 _) (count-call (i .geometry) 7 0x0D _)) (omega (arith, w)) refl refl refl
+
+count-verify : (i : Image) (m : ℕ) → Totals (verifyMacro i m) (3 * (locksIn (i .geometry) m / 4)) 0 0 0
+unfolding verifyMacro
+count-verify i m = recount (count-pieces _ 3 0 (λ k. count-word 8 23 _ _ _ k) 0 (locksIn (i .geometry) m / 4)) (omega arith) (omega arith) refl refl
+
+count-privileged : (g : Geometry) (s : ℕ) (u : Purpose) → isPoll u ≡ 0 → Totals (privileged g s u) 13 1 0 0
+unfolding privileged call write read trafficIn pollsIn
+count-privileged g s u h = record { transfers = refl; polls = omega (arith, h); xresets = refl; lineResets = refl }
+
+count-silicon : (g : Geometry) (u : Purpose) → isPoll u ≡ 0 → Totals (silicon g u) 16 1 0 0
+unfolding silicon call write read trafficIn pollsIn
+count-silicon g u h = record { transfers = refl; polls = omega (arith, h); xresets = refl; lineResets = refl }
+
+count-imo : (g : Geometry) (n : ℕ) → n ≤ 1 → Totals (imoCall g n) (10 * n) n 0 0
+unfolding imoCall trafficIn pollsIn
+count-imo g zero h = record { transfers = refl; polls = refl; xresets = refl; lineResets = refl }
+count-imo g (suc n) h = recount (count-call g 1 0x15 _) (omega arith) (omega arith) refl refl
+
+count-acquire : (g : Geometry) → Facts g → Totals (acquire g) (12 + 10 * imoOf g) (1 + imoOf g) 1 1
+unfolding acquire write read trafficIn pollsIn
+count-acquire g f =
+    let h = count-imo g (imoOf g) (f .imo) in
+    record { transfers = omega (arith, h .transfers); polls = omega (arith, h .polls); xresets = omega (arith, h .xresets); lineResets = omega (arith, h .lineResets) }
+
+count-read : (s a : ℕ) (u : Purpose) → isPoll u ≡ 0 → Totals (read s a u) 3 0 0 0
+unfolding read trafficIn pollsIn
+count-read s a u h = record { transfers = refl; polls = omega (arith, h); xresets = refl; lineResets = refl }
+
+module _ (i : Image) (f : Facts (i .geometry)) where
+  count-program : Totals (program i)
+      (29 + rowsOf (i .geometry) * (26 + 5 * (rowBytes (i .geometry) / 4)) + macrosOf (i .geometry) * (24 + 5 * (locksIn (i .geometry) 0 / 4)))
+      (2 + 2 * rowsOf (i .geometry) + 2 * macrosOf (i .geometry)) 0 0
+  unfolding program locksIn
+  count-program =
+      let g = i .geometry in
+      recount
+      (joined (count-privileged g 4 Keep refl)
+      (joined (count-pieces _ _ 2 (count-row i) 0 (rowsOf g))
+      (joined (count-pieces _ 3 0 (λ k. count-word 6 22 _ _ _ k) 0 (rowsOf g * (rowBytes g / 4)))
+      (joined (count-pieces _ _ 2 (count-lock i) 0 (macrosOf g))
+      (joined (count-pieces _ _ 0 (count-verify i) 0 (macrosOf g))
+      (joined (count-read 8 _ StoredLevel refl) (count-privileged g 9 LastSum refl)))))))
+      (omega arith) (omega arith) refl refl
+
+  pub count-opening : Totals (opening i) (28 + 10 * imoOf (i .geometry)) (2 + imoOf (i .geometry)) 1 1
+  unfolding opening
+  count-opening = recount (joined (count-acquire (i .geometry) f) (count-silicon (i .geometry) EntryLevel refl)) (omega arith) (omega arith) refl refl
+
+  pub plan-form : (y : Entry) → plan (i .geometry) y
+      ≡ 69 + 10 * imoOf (i .geometry) + rowsOf (i .geometry) * (26 + 5 * (rowBytes (i .geometry) / 4))
+      + macrosOf (i .geometry) * (24 + 5 * (locksIn (i .geometry) 0 / 4)) + fromProtected y (26 + 10 * imoOf (i .geometry))
+  unfolding plan
+  plan-form y =
+      let a : 5 * rowBytes (i .geometry) / 4 ≡ 5 * (rowBytes (i .geometry) / 4) = omega (arith, f .quads) in
+      let b : 5 * locksIn (i .geometry) 0 / 4 ≡ 5 * (locksIn (i .geometry) 0 / 4) = omega (arith, f .lockQuads 0) in
+      rw (a, b)
+
+  -- the reads and writes are the plan, the polls the loops, the resets those of the acquisitions
+  pub sequence-totals : (y : Entry) → Totals (sequence i y) (plan (i .geometry) y) (loops (i .geometry) y) (acquisitions y) (acquisitions y)
+  unfolding sequence afterwards loops
+  sequence-totals FromOpen =
+      recount (joined count-opening (joined (count-listed (i .geometry) 3 0x0A (key 0x0A ∷ [])) count-program))
+      (omega (arith, plan-form FromOpen)) (omega arith) refl refl
+  sequence-totals FromProtected =
+      recount
+      (joined count-opening (joined (count-call (i .geometry) 3 0x0D _)
+      (joined (count-acquire (i .geometry) f) (joined (count-silicon (i .geometry) Reopened refl) count-program))))
+      (omega (arith, plan-form FromProtected)) (omega arith) refl refl

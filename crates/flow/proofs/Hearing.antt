@@ -1,0 +1,143 @@
+-- What a line event makes of a transfer that the target would carry out. Assumes nothing.
+use mathlib.Core.Bool.{Bool, true, false, cond}
+use mathlib.Core.List.{List, [], _∷_}
+use mathlib.Core.Path.{_≡_, refl, ap, sym, _∙_}
+use Prim.Native.Nat.{ℕ, zero, suc, _+_, _*_, _-_, _/_, _%_, _≤_, _<_}
+use native.Mathlib.Omega.{arith}
+use lib.Count.{ones, onesIn}
+use lib.Dec.{eqb, lit≤}
+use borrow.Author.Tests.{eq-eqb, ne-eqb, eqb-true}
+use Rattle.flow.specs.Exchange.{Decoded, known, decode, carry, gives, barred, dead, callsOn, saying, silence, okayReply, garbledReply, replyTo, carriedOut, Met, met, transferred, meet}
+use Rattle.flow.specs.Packets.{packetOf, isRead, Verdict, okay, again, broken, heard, verdict}
+use Rattle.flow.specs.Target.{Target, Lists, LineEvent, Fate, clean, waits, faults, garbles, silent, eventOf, outcomeOf, rest}
+use Rattle.flow.specs.declared.Answer.the-variants.{ResetDone, Transferred}
+use Rattle.flow.specs.declared.Reply.{Reply}
+use Rattle.flow.specs.declared.Request.{Request}
+use Rattle.flow.specs.declared.Request.the-variants.{Xres, LineReset, ReadIdcode, ReadDrw, WriteTar, WriteDrw, WriteSetup}
+use Rattle.parts.specs.declared.Geometry.{Geometry}
+use Rattle.wire.specs.Wire.{parity, ackOf, requestByte}
+use Rattle.wire.specs.declared.Ack.{Ack}
+use Rattle.wire.specs.declared.Ack.the-variants.{Okay, Wait, Fault, Silence}
+use Rattle.wire.specs.declared.Register.{Register}
+use Rattle.wire.specs.declared.Register.the-variants.{CtrlStat, Select, Csw}
+
+-- the transfers of the sequence; outside the attempts all but the IDCODE read
+pub data Plain : Request → Type 0 where
+  aTar : {a : ℕ} → Plain (WriteTar a)
+  aDrw : {w : ℕ} → Plain (WriteDrw w)
+  aRead : Plain ReadDrw
+  aCtrl : {w : ℕ} → Plain (WriteSetup CtrlStat w)
+  aSelect : {w : ℕ} → Plain (WriteSetup Select w)
+  aCsw : {w : ℕ} → Plain (WriteSetup Csw w)
+
+pub data Wired : Request → Type 0 where
+  attempt : Wired ReadIdcode
+  plain : {q : Request} → Plain q → Wired q
+
+-- the target reads each request as it was meant
+decodes : {q : Request} → Wired q → decode (packetOf q) ≡ known q
+unfolding decode ones onesIn
+decodes attempt = refl
+decodes (plain (aTar {a = w})) = rw (eq-eqb (parity w) (parity w) refl)
+decodes (plain (aDrw {w = w})) = rw (eq-eqb (parity w) (parity w) refl)
+decodes (plain aRead) = refl
+decodes (plain (aCtrl {w = w})) = rw (eq-eqb (parity w) (parity w) refl)
+decodes (plain (aSelect {w = w})) = rw (eq-eqb (parity w) (parity w) refl)
+decodes (plain (aCsw {w = w})) = rw (eq-eqb (parity w) (parity w) refl)
+
+pub meets : (g : Geometry) {q : Request} → Wired q → (l : Lists) (b : Target) → meet g (packetOf q) l b ≡ transferred g q (eventOf (l .line)) l b
+unfolding meet
+meets g attempt l b = rw (decodes attempt)
+meets g (plain (aTar {a = w})) l b = rw (decodes (plain (aTar {a = w})))
+meets g (plain (aDrw {w = w})) l b = rw (decodes (plain (aDrw {w = w})))
+meets g (plain aRead) l b = rw (decodes (plain aRead))
+meets g (plain (aCtrl {w = w})) l b = rw (decodes (plain (aCtrl {w = w})))
+meets g (plain (aSelect {w = w})) l b = rw (decodes (plain (aSelect {w = w})))
+meets g (plain (aCsw {w = w})) l b = rw (decodes (plain (aCsw {w = w})))
+
+-- what is left of the lists
+abbrev pub listsAfter : Geometry → Request → Target → Lists → Lists
+listsAfter g q b l = record { line = rest (l .line); calls = cond (callsOn g q b) (rest (l .calls)) (l .calls) }
+
+-- carried out, and said so; WAIT; or a mishap, carried out or not
+pub data Heard (g : Geometry) (q : Request) (ev : LineEvent) (l : Lists) (b : Target) : Met → Type 0 where
+  well : {m : Met} → m .target ≡ carry g q (ev .other) (outcomeOf (l .calls)) b → verdict q (m .answer) ≡ okay (gives q b) → m .lists ≡ listsAfter g q b l
+      → Heard g q ev l b m
+  held : {m : Met} → (ev .fate ≡ clean → ⊥) → m .target ≡ b → verdict q (m .answer) ≡ again
+      → m .lists ≡ record { line = rest (l .line); calls = l .calls } → Heard g q ev l b m
+  ill : {m : Met} (n : ℕ) → 1 ≤ n → (ev .fate ≡ clean → ⊥) → m .target ≡ b → verdict q (m .answer) ≡ broken n → Heard g q ev l b m
+  illDone : {m : Met} (n : ℕ) → 1 ≤ n → (ev .fate ≡ clean → ⊥) → m .target ≡ carry g q (ev .other) (outcomeOf (l .calls)) b
+      → verdict q (m .answer) ≡ broken n → Heard g q ev l b m
+
+-- the other fates are not clean
+abbrev isClean : Fate → Bool
+isClean clean = true
+isClean waits = false
+isClean faults = false
+isClean garbles = false
+isClean (silent c) = false
+
+silent-ack : (n : ℕ) → ackOf (cond (eqb n 1) 0 (cond (eqb n 2) 0 (cond (eqb n 4) 0 n))) ≡ Silence
+silent-ack n = by (eqb n 1) (eqb n 2) (eqb n 4) refl refl refl
+  where
+    by : (x y z : Bool) → eqb n 1 ≡ x → eqb n 2 ≡ y → eqb n 4 ≡ z → ackOf (cond x 0 (cond y 0 (cond z 0 n))) ≡ Silence
+    by true y z p q r = refl
+    by false true z p q r = refl
+    by false false true p q r = refl
+    by false false false p q r = simp (p, q, r)
+
+silence-heard : (q : Request) (j : Reply) → verdict q (Transferred (silence j)) ≡ broken 29
+unfolding verdict heard
+silence-heard q j = rw (silent-ack (j .ack))
+
+waits-heard : (q : Request) (j : Reply) → verdict q (Transferred (saying 2 j)) ≡ again
+unfolding verdict heard
+waits-heard q j = refl
+
+faults-heard : (q : Request) (j : Reply) → verdict q (Transferred (saying 4 j)) ≡ broken 28
+unfolding verdict heard
+faults-heard q j = refl
+
+okay-heard : {q : Request} → Wired q → (b : Target) (j : Reply) → verdict q (Transferred (okayReply (isRead q) (gives q b) j)) ≡ okay (gives q b)
+unfolding verdict heard
+okay-heard attempt b j = rw (eq-eqb (parity (b .silicon .idcode)) (parity (b .silicon .idcode)) refl)
+okay-heard (plain aTar) b j = refl
+okay-heard (plain aDrw) b j = refl
+okay-heard (plain aRead) b j = rw (eq-eqb (parity (b .posted)) (parity (b .posted)) refl)
+okay-heard (plain aCtrl) b j = refl
+okay-heard (plain aSelect) b j = refl
+okay-heard (plain aCsw) b j = refl
+
+wrong : (w : ℕ) → eqb (1 - parity w) (parity w) ≡ false
+wrong w = ne-eqb (1 - parity w) (parity w) (omega arith)
+
+garbled-read : (q : Request) → isRead q ≡ true → (j : Reply) → verdict q (Transferred (garbledReply true j)) ≡ broken 30
+unfolding verdict heard
+garbled-read q h j = rw (h, wrong (j .word))
+
+fate-not : {x : Fate} → isClean x ≡ false → x ≡ clean → ⊥
+fate-not {x} h e = let no : false ≡ true = sym h ∙ ap isClean e in let z : _≡_ {A = ℕ} 0 1 = cc in omega arith
+
+module _ (g : Geometry) (l : Lists) (b : Target) where
+  garbles-heard : {q : Request} → Wired q → (ev : LineEvent) → ev .fate ≡ garbles → Heard g q ev l b (met true g q ev l (garbledReply (isRead q) (ev .junk)) b)
+  unfolding verdict heard
+  garbles-heard attempt ev e = illDone 30 (lit≤ tt) (fate-not (ap isClean e)) refl (garbled-read ReadIdcode refl (ev .junk))
+  garbles-heard (plain aTar) ev e = well refl refl refl
+  garbles-heard (plain aDrw) ev e = well refl refl refl
+  garbles-heard (plain aRead) ev e = illDone 30 (lit≤ tt) (fate-not (ap isClean e)) refl (garbled-read ReadDrw refl (ev .junk))
+  garbles-heard (plain aCtrl) ev e = well refl refl refl
+  garbles-heard (plain aSelect) ev e = well refl refl refl
+  garbles-heard (plain aCsw) ev e = well refl refl refl
+
+  -- the target would carry the transfer out
+  pub hears : {q : Request} → Wired q → (ev : LineEvent) → dead b ≡ false → barred g q b ≡ false → Heard g q ev l b (transferred g q ev l b)
+  unfolding transferred
+  hears {q} h ev alive free = rw (alive, free) (by (ev .fate) refl)
+    where
+      by : (x : Fate) → ev .fate ≡ x → Heard g q ev l b (met (carriedOut x) g q ev l (replyTo x false (isRead q) (gives q b) (ev .junk)) b)
+      by clean e = well refl (okay-heard h b (ev .junk)) refl
+      by waits e = held (fate-not (ap isClean e)) refl (waits-heard q (ev .junk)) refl
+      by faults e = ill 28 (lit≤ tt) (fate-not (ap isClean e)) refl (faults-heard q (ev .junk))
+      by garbles e = garbles-heard h ev e
+      by (silent true) e = illDone 29 (lit≤ tt) (fate-not (ap isClean e)) refl (silence-heard q (ev .junk))
+      by (silent false) e = ill 29 (lit≤ tt) (fate-not (ap isClean e)) refl (silence-heard q (ev .junk))

@@ -1,0 +1,147 @@
+-- What a run is held to on its way: where it stands in the sequence, what it may still hand out, and where it leads. Assumes nothing.
+use mathlib.Core.List.{List, [], _∷_, _++_}
+use mathlib.Core.Path.{_≡_, refl, ap, sym, _∙_}
+use Prim.Native.Nat.{ℕ, zero, suc, _+_, _*_, _≤_}
+use native.Mathlib.Omega.{arith}
+use lib.Dec.{eqb}
+use lib.ListN.{length, getD, drop}
+use lib.Seq.{getD-drop, drop-drop}
+use mathlib.Core.Bool.{Bool, true, false, _&&_}
+use Rattle.flow.specs.Claim.{CalmLine, CalmCalls, NoError}
+use Rattle.flow.specs.Judge.{idsFit}
+use Rattle.flow.specs.Monitor.{Monitor, watching, linkError, Watch, Delays, delayed}
+use Rattle.flow.specs.Plan.{Traffic, counting, isPoll}
+use Rattle.flow.specs.Run.{Run, advance, handedOut}
+use Rattle.flow.specs.Sequence.{move, sequence, endMove}
+use Rattle.flow.specs.Session.{Session, running, reported, moveAt}
+use Rattle.flow.specs.Target.{Target, Memory, Silicon, Lists}
+use Rattle.flow.specs.declared.Entry.{Entry}
+use Rattle.flow.specs.declared.Move.{Move}
+use Rattle.flow.specs.declared.Purpose.{Purpose}
+use Rattle.flow.specs.declared.Request.{Request}
+use Rattle.flow.specs.declared.Request.the-variants.{Xres, LineReset, ReadIdcode, ReadDrw, WriteTar, WriteDrw, WriteSetup}
+use Rattle.image.specs.Checks.{metadataAt}
+use Rattle.image.specs.Image.{Image}
+use Rattle.parts.specs.Parts.{lowFits}
+
+-- ---- what is still due and allowed
+
+-- moves of the plan still due; transfers, XRES and line resets still allowed
+pub record Purse : Type 0 where
+  pub due : ℕ
+  pub room : ℕ
+  pub xres : ℕ
+  pub lines : ℕ
+
+-- each transfer may be handed out 17 times, a poll 9,999 times three transfers more, an attempt 29 times more
+abbrev pub payFor : Request → Purpose → Purse → Purse
+payFor Xres u κ = record { due = κ .due; room = κ .room; xres = suc (κ .xres); lines = κ .lines }
+payFor LineReset u κ = record { due = κ .due; room = 13 + κ .room; xres = κ .xres; lines = 30 + κ .lines }
+payFor ReadIdcode u κ = record { due = suc (κ .due); room = 17 + κ .room; xres = κ .xres; lines = κ .lines }
+payFor ReadDrw u κ = record { due = suc (κ .due); room = 17 + (509949 * isPoll u + κ .room); xres = κ .xres; lines = κ .lines }
+payFor (WriteTar w) u κ = record { due = suc (κ .due); room = 17 + κ .room; xres = κ .xres; lines = κ .lines }
+payFor (WriteDrw w) u κ = record { due = suc (κ .due); room = 17 + κ .room; xres = κ .xres; lines = κ .lines }
+payFor (WriteSetup r w) u κ = record { due = suc (κ .due); room = 17 + κ .room; xres = κ .xres; lines = κ .lines }
+
+unfoldable pub pay : List Move → Purse → Purse
+pay [] κ = κ
+pay (m ∷ ms) κ = payFor (m .request) (m .purpose) (pay ms κ)
+
+pub pay-append : (a b : List Move) (κ : Purse) → pay (a ++ b) κ ≡ pay a (pay b κ)
+unfolding pay
+pay-append [] b κ = refl
+pay-append (m ∷ a) b κ = ap (payFor (m .request) (m .purpose)) (pay-append a b κ)
+
+-- ---- where a run stands
+
+-- what changes from step to step beside the session's place and the target
+pub record Env : Type 0 where
+  pub lists : Lists
+  pub delays : Delays
+  pub traffic : Traffic
+
+-- a run whose monitor has counted as the session has
+abbrev pub sync : Entry → (n w p a k : ℕ) → Target → Watch → Env → Run
+sync y n w p a k b t e = record {
+  session = running y n w p a k (e .traffic .transfers);
+  target = b;
+  lists = e .lists;
+  monitor = watching w p a t (e .delays);
+  traffic = e .traffic;
+}
+
+-- a run that has reported
+abbrev pub ended : (n s : ℕ) → Target → Lists → Monitor → Traffic → Run
+ended n s b l m t = record { session = reported n s (t .transfers); target = b; lists = l; monitor = m; traffic = t }
+
+-- the IDs are those that 20 lets pass
+unfoldable pub rightSilicon : Image → Silicon → Bool
+rightSilicon i x = eqb (x .high) (metadataAt (i .header) 2) && eqb (x .family) (metadataAt (i .header) 5) && lowFits (i .geometry .part) (x .low)
+
+-- what a run is held to: Safe of the memory at each step, Stop where it ends early, Goal where it is to come; Still says that the
+-- lists were calm at the start
+pub record Frame (i : Image) : Type 1 where
+  pub Safe : Memory → Type 0
+  pub Still : Type 0
+  pub Stop : Run → Type 0
+  pub Goal : Run → Type 0
+  pub planned : ℕ
+  pub most : Traffic
+  pub silicon : Silicon
+  pub safeSame : (m m′ : Memory) → m′ .stored ≡ m .stored → Safe m → Safe m′
+  pub safeOpen : (m : Memory) → m .stored ≡ 1 → Safe m
+  pub safeImage : (m : Memory) → m .stored ≡ i .header .level → Safe m
+  -- a mishap is a reason to stop, with its number, if the lists were not calm
+  pub caught : (n s : ℕ) (b : Target) (l : Lists) (t : Traffic) → 1 ≤ n → (Still → ⊥) → Safe (b .memory) → Stop (ended n s b l (linkError n) t)
+  -- another part
+  pub wrongId : (s w p a : ℕ) (b : Target) (l : Lists) (x : Watch) (d : Delays) (t : Traffic) → Safe (b .memory)
+      → eqb (silicon .idcode) 0x0BB11477 ≡ false → Stop (ended 16 s b l (watching w p a x d) t)
+  pub wrongPart : (s w p a : ℕ) (b : Target) (l : Lists) (x : Watch) (d : Delays) (t : Traffic) → Safe (b .memory)
+      → rightSilicon i silicon ≡ false → Stop (ended 20 s b l (watching w p a x d) t)
+
+-- the lists that are left are calm, and nothing was delayed
+pub record StillCalm (e : Env) : Type 0 where
+  pub line : CalmLine (e .lists .line)
+  pub calls : CalmCalls (e .lists .calls)
+  pub none : delayed (e .delays) ≡ 0
+
+pub record Stood {i : Image} (f : Frame i) (y : Entry) (n : ℕ) (ms : List Move) (κ : Purse) (e : Env) : Type 0 where
+  pub at : drop n (sequence i y) ≡ ms
+  -- transfers + what is due ≡ plan + delays
+  pub spent : e .traffic .transfers + κ .due ≡ f .planned + delayed (e .delays)
+  pub room : e .traffic .transfers + κ .room ≤ f .most .transfers
+  pub xres : e .traffic .xresets + κ .xres ≤ f .most .xresets
+  pub lines : e .traffic .lineResets + κ .lines ≤ f .most .lineResets
+  pub calm : f .Still → StillCalm e
+
+-- the moves of ms, then the rest, and what they may cost
+abbrev pub Stands : {i : Image} → Frame i → Entry → ℕ → List Move → List Move → Purse → Env → Type 0
+Stands f y n ms later κ e = Stood f y n (ms ++ later) (pay ms κ) e
+
+module _ {i : Image} {f : Frame i} {y : Entry} {n : ℕ} {m : Move} {ms : List Move} {κ : Purse} {e : Env} where
+  -- the standing move
+  pub at-move : Stood f y n (m ∷ ms) κ e → moveAt i y n ≡ m
+  at-move s =
+      let z : n + 0 ≡ n = omega arith in
+      ap (λ (x : ℕ). getD (sequence i y) x endMove) (sym z) ∙ sym (getD-drop n (sequence i y) 0 endMove) ∙ ap (λ (l : List Move). getD l 0 endMove) (s .at)
+
+  pub at-next : Stood f y n (m ∷ ms) κ e → drop (suc n) (sequence i y) ≡ ms
+  at-next s =
+      let z : suc n ≡ n + 1 = omega arith in
+      ap (λ (x : ℕ). drop x (sequence i y)) z ∙ sym (drop-drop 1 n (sequence i y)) ∙ ap (λ (l : List Move). drop 1 l) (s .at)
+
+-- ---- where it leads
+
+pub record Bounded {i : Image} (f : Frame i) (t : Traffic) : Type 0 where
+  pub transfers : t .transfers ≤ f .most .transfers
+  pub xresets : t .xresets ≤ f .most .xresets
+  pub lineResets : t .lineResets ≤ f .most .lineResets
+
+-- the session comes to Goal, or stops for a reason; on the way the memory is safe, and no more is handed out than is allowed
+pub data Reaches {i : Image} (f : Frame i) : Run → Type 0 where
+  here : {r : Run} → f .Goal r → Reaches f r
+  stop : {r : Run} → f .Stop r → Reaches f r
+  step : {r : Run} → f .Safe (r .target .memory) → Bounded f (handedOut i r) → NoError (r .monitor) → Reaches f (advance i r) → Reaches f r
+
+pub clear : (w p a : ℕ) (t : Watch) (d : Delays) → NoError (watching w p a t d)
+clear w p a t d n e = let no : _≡_ {A = ℕ} 0 1 = cc in omega arith

@@ -1,0 +1,229 @@
+-- How the target meets a packet: document 01, 'The plain board'. It reads the wire by itself. Assumes nothing.
+use mathlib.Core.Bool.{Bool, true, false, _&&_, not, cond}
+use mathlib.Core.List.{List, [], _∷_}
+use Prim.Native.Nat.{ℕ, zero, suc, _+_, _*_, _-_, _/_, _%_}
+use lib.Dec.{eqb, leb}
+use lib.ListN.{getD}
+use Rattle.flow.specs.Calls.{finish, reset}
+use Rattle.flow.specs.Map.{Place, inFlash, inLocks, inParams, atLevel, atSysreq, atSysarg, atTestMode, elsewhere, place}
+use Rattle.flow.specs.Packets.{isRead}
+use Rattle.flow.specs.Target.{Target, CallOutcome, Running, idle, busy, Fate, clean, waits, faults, garbles, silent, LineEvent, Lists, eventOf, outcomeOf, rest, lay, setTar, setPosted, setParams, setSysarg, setTestMode, setSysreq}
+use Rattle.flow.specs.declared.Answer.{Answer}
+use Rattle.flow.specs.declared.Answer.the-variants.{ResetDone, Transferred}
+use Rattle.flow.specs.declared.Packet as Packets
+use Rattle.flow.specs.declared.Packet.{Packet}
+use Rattle.flow.specs.declared.Reply.{Reply}
+use Rattle.flow.specs.declared.Request.{Request}
+use Rattle.flow.specs.declared.Request.the-variants.{Xres, LineReset, ReadIdcode, ReadDrw, WriteTar, WriteDrw, WriteSetup}
+use Rattle.image.specs.Words.{wordAt}
+use Rattle.parts.specs.declared.Geometry.{Geometry}
+use Rattle.wire.specs.Wire.{parity}
+use Rattle.wire.specs.declared.Register.the-variants.{CtrlStat, Select, Csw}
+
+-- ---- the wire, read bit by bit
+
+-- a request that the target knows, or none
+pub data Decoded : Type 0 where
+  known : Request → Decoded
+  unknown : Decoded
+
+-- start bit 1, stop bit 0, park bit 1, and the parity bit that of the four bits between
+abbrev pub wellFormed : (byte : ℕ) → Bool
+wellFormed r = eqb (r % 2) 1 && eqb (r / 64) 2 && eqb (r / 32 % 2) ((r / 2 % 2 + r / 4 % 2 + r / 8 % 2 + r / 16 % 2) % 2)
+
+-- 004, Table 3-2, by APnDP and the two address bits
+abbrev pub readAt : (ap address : ℕ) → Decoded
+readAt ap a = cond (eqb ap 0) (cond (eqb a 0) (known ReadIdcode) unknown) (cond (eqb a 3) (known ReadDrw) unknown)
+
+abbrev pub writeAt : (ap address word : ℕ) → Decoded
+writeAt ap a w =
+    cond (eqb ap 0)
+    (cond (eqb a 1) (known (WriteSetup CtrlStat w)) (cond (eqb a 2) (known (WriteSetup Select w)) unknown))
+    (cond (eqb a 0) (known (WriteSetup Csw w)) (cond (eqb a 1) (known (WriteTar w)) (cond (eqb a 3) (known (WriteDrw w)) unknown)))
+
+-- RnW is 1 on a read; a write whose parity bit is not its word's is not understood
+unfoldable pub decode : Packet → Decoded
+decode Packets.the-variants.Xres = known Xres
+decode Packets.the-variants.LineReset = known LineReset
+decode (Packets.the-variants.Read r) = cond (wellFormed r && eqb (r / 4 % 2) 1) (readAt (r / 2 % 2) (r / 8 % 4)) unknown
+decode (Packets.the-variants.Write r w p) =
+    cond (wellFormed r && eqb (r / 4 % 2) 0 && eqb p (parity w)) (writeAt (r / 2 % 2) (r / 8 % 4) w) unknown
+
+-- ---- transfers
+
+-- the stored level as step 8 reads it, 'with 0 and 1 exchanged'; the other bits are any
+abbrev pub levelWord : (level other : ℕ) → ℕ
+levelWord l o = o / 268435456 * 268435456 + cond (eqb l 0) 1 (cond (eqb l 1) 0 l) * 16777216 + o % 16777216
+
+-- a DRW read of SYSREQ posts it busy (bit 31 set), or the call takes effect there
+abbrev pub tick : Geometry → (other : ℕ) → Running → Target → Target
+tick g o idle b = setPosted (b .sysreq) b
+tick g o (busy (suc n) s r c) b = setPosted (2147483648 + o % 2147483648) (setSysreq (b .sysreq) (busy n s r c) b)
+tick g o (busy zero s r c) b = let t = finish g s r c b in setPosted (t .sysreq) t
+
+-- 'A DRW read gives the posted word, then posts the word at TAR'
+abbrev pub fetch : Geometry → (other : ℕ) → Place → Target → Target
+fetch g o (inFlash a) b = setPosted (wordAt (b .memory .flash) a) b
+fetch g o (inLocks a) b = setPosted (wordAt (b .memory .locks) a) b
+fetch g o (inParams k) b = setPosted (getD (b .params) k 0) b
+fetch g o atLevel b = setPosted (levelWord (b .memory .stored) o) b
+fetch g o atSysreq b = tick g o (b .running) b
+fetch g o atSysarg b = setPosted (b .sysarg) b
+fetch g o atTestMode b = setPosted (b .testMode) b
+fetch g o elsewhere b = setPosted o b
+
+-- a write of SYSREQ; bit 31 starts a call
+abbrev pub isCall : ℕ → Bool
+isCall w = leb 2147483648 w
+
+abbrev pub begin : Bool → ℕ → CallOutcome → Target → Target
+begin false w o b = setSysreq w (b .running) b
+begin true w o b = setSysreq w (busy (o .busyReads) (o .succeeds) (o .residue) (w % 256)) b
+
+abbrev pub store : ℕ → CallOutcome → Place → Target → Target
+store w o (inFlash a) b = b
+store w o (inLocks a) b = b
+store w o (inParams k) b = setParams (lay (b .params) k (w ∷ [])) b
+store w o atLevel b = b
+store w o atSysreq b = begin (isCall w) w o b
+store w o atSysarg b = setSysarg w b
+store w o atTestMode b = setTestMode w b
+store w o elsewhere b = b
+
+-- a transfer carried out
+unfoldable pub carry : Geometry → Request → (other : ℕ) → CallOutcome → Target → Target
+carry g Xres o c b = b
+carry g LineReset o c b = b
+carry g ReadIdcode o c b = b
+carry g ReadDrw o c b = fetch g o (place g (b .tar)) b
+carry g (WriteTar a) o c b = setTar a b
+carry g (WriteDrw w) o c b = store w c (place g (b .tar)) b
+carry g (WriteSetup r w) o c b = b
+
+-- the word that a read gives
+abbrev pub gives : Request → Target → ℕ
+gives Xres b = 0
+gives LineReset b = 0
+gives ReadIdcode b = b .silicon .idcode
+gives ReadDrw b = b .posted
+gives (WriteTar a) b = 0
+gives (WriteDrw w) b = 0
+gives (WriteSetup r w) b = 0
+
+-- 'PROTECTED in effect answers FAULT for flash and PARAMS'
+abbrev pub guarded : Place → Bool
+guarded (inFlash a) = true
+guarded (inLocks a) = false
+guarded (inParams k) = true
+guarded atLevel = false
+guarded atSysreq = false
+guarded atSysarg = false
+guarded atTestMode = false
+guarded elsewhere = false
+
+abbrev pub overDrw : Request → Bool
+overDrw Xres = false
+overDrw LineReset = false
+overDrw ReadIdcode = false
+overDrw ReadDrw = true
+overDrw (WriteTar a) = false
+overDrw (WriteDrw w) = true
+overDrw (WriteSetup r w) = false
+
+unfoldable pub barred : Geometry → Request → Target → Bool
+barred g q b = eqb (b .effect) 2 && overDrw q && guarded (place g (b .tar))
+
+-- 'KILL is silent.'
+abbrev pub dead : Target → Bool
+dead b = eqb (b .effect) 4
+
+-- a call takes its entry when the write of SYSREQ with bit 31 is carried out
+abbrev pub isSysreq : Place → Bool
+isSysreq (inFlash a) = false
+isSysreq (inLocks a) = false
+isSysreq (inParams k) = false
+isSysreq atLevel = false
+isSysreq atSysreq = true
+isSysreq atSysarg = false
+isSysreq atTestMode = false
+isSysreq elsewhere = false
+
+abbrev pub callsOn : Geometry → Request → Target → Bool
+callsOn g Xres b = false
+callsOn g LineReset b = false
+callsOn g ReadIdcode b = false
+callsOn g ReadDrw b = false
+callsOn g (WriteTar a) b = false
+callsOn g (WriteDrw w) b = isCall w && isSysreq (place g (b .tar))
+callsOn g (WriteSetup r w) b = false
+
+-- ---- answers
+
+abbrev pub saying : (ack : ℕ) → Reply → Reply
+saying n j = record { ack = n; word = j .word; parity = j .parity }
+
+-- the acknowledgement of a silence: any number but 1, 2 and 4
+abbrev pub silence : Reply → Reply
+silence j = saying (cond (eqb (j .ack) 1) 0 (cond (eqb (j .ack) 2) 0 (cond (eqb (j .ack) 4) 0 (j .ack)))) j
+
+-- OK: a read's word with its parity; on a write, word and parity are free
+abbrev pub okayReply : (reads : Bool) → (word : ℕ) → Reply → Reply
+okayReply true w j = record { ack = 1; word = w; parity = parity w }
+okayReply false w j = saying 1 j
+
+-- wrong parity: on a read any word with the other parity bit; on a write it is an OK
+abbrev pub garbledReply : (reads : Bool) → Reply → Reply
+garbledReply true j = record { ack = 1; word = j .word; parity = 1 - parity (j .word) }
+garbledReply false j = saying 1 j
+
+-- the answer to a transfer that is not silenced by KILL
+abbrev pub replyTo : Fate → (bars : Bool) → (reads : Bool) → (word : ℕ) → Reply → Reply
+replyTo clean bars r w j = cond bars (saying 4 j) (okayReply r w j)
+replyTo waits bars r w j = saying 2 j
+replyTo faults bars r w j = saying 4 j
+replyTo garbles bars r w j = cond bars (saying 4 j) (garbledReply r j)
+replyTo (silent c) bars r w j = silence j
+
+abbrev pub carriedOut : Fate → Bool
+carriedOut clean = true
+carriedOut waits = false
+carriedOut faults = false
+carriedOut garbles = true
+carriedOut (silent c) = c
+
+-- the target after a packet, its answer, and what is left of the lists
+pub record Met : Type 0 where
+  pub target : Target
+  pub answer : Answer
+  pub lists : Lists
+
+abbrev pub met : Bool → Geometry → Request → LineEvent → Lists → Reply → Target → Met
+met false g q e l a b = record { target = b; answer = Transferred a; lists = record { line = rest (l .line); calls = l .calls } }
+met true g q e l a b = record {
+  target = carry g q (e .other) (outcomeOf (l .calls)) b;
+  answer = Transferred a;
+  lists = record { line = rest (l .line); calls = cond (callsOn g q b) (rest (l .calls)) (l .calls) };
+}
+
+unfoldable pub transferred : Geometry → Request → LineEvent → Lists → Target → Met
+transferred g q e l b =
+    met
+    (not (dead b) && not (barred g q b) && carriedOut (e .fate))
+    g q e l
+    (cond (dead b) (silence (e .junk)) (replyTo (e .fate) (barred g q b) (isRead q) (gives q b) (e .junk)))
+    b
+
+abbrev pub meetOn : Geometry → Decoded → Lists → Target → Met
+meetOn g (known Xres) l b = record { target = reset g b; answer = ResetDone; lists = l }
+meetOn g (known LineReset) l b = record { target = b; answer = ResetDone; lists = l }
+meetOn g (known ReadIdcode) l b = transferred g ReadIdcode (eventOf (l .line)) l b
+meetOn g (known ReadDrw) l b = transferred g ReadDrw (eventOf (l .line)) l b
+meetOn g (known (WriteTar a)) l b = transferred g (WriteTar a) (eventOf (l .line)) l b
+meetOn g (known (WriteDrw w)) l b = transferred g (WriteDrw w) (eventOf (l .line)) l b
+meetOn g (known (WriteSetup r w)) l b = transferred g (WriteSetup r w) (eventOf (l .line)) l b
+meetOn g unknown l b =
+    record { target = b; answer = Transferred (silence ((eventOf (l .line)) .junk)); lists = record { line = rest (l .line); calls = l .calls } }
+
+-- 'The board meets every request once, in order, and nothing else.'
+unfoldable pub meet : Geometry → Packet → Lists → Target → Met
+meet g p l b = meetOn g (decode p) l b

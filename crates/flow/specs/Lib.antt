@@ -1,0 +1,13 @@
+pub mod Packets
+pub mod Sequence
+pub mod Plan
+pub mod Map
+pub mod Target
+pub mod Calls
+pub mod Exchange
+pub mod Monitor
+pub mod Judge
+pub mod Session
+pub mod Run
+pub mod Claim
+pub mod Examples

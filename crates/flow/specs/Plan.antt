@@ -1,0 +1,79 @@
+-- Document 01's count, and the counts of a list of moves. Assumes nothing.
+use mathlib.Core.List.{List, [], _∷_}
+use Prim.Native.Nat.{ℕ, suc, _+_, _*_, _/_}
+use Rattle.flow.specs.declared.Entry.{Entry}
+use Rattle.flow.specs.declared.Entry.the-variants.{FromOpen, FromProtected}
+use Rattle.flow.specs.declared.Move.{Move}
+use Rattle.flow.specs.declared.Purpose.{Purpose}
+use Rattle.flow.specs.declared.Purpose.the-variants.{Sent, Idcode, TestBit, Poll, Status, Keep, EntryLevel, Reopened, Same, StoredLevel, LastSum}
+use Rattle.flow.specs.declared.Request.{Request}
+use Rattle.flow.specs.declared.Request.the-variants.{Xres, LineReset, ReadIdcode, ReadDrw, WriteTar, WriteDrw, WriteSetup}
+use Rattle.parts.specs.Sizes.{rowBytes, macrosOf, rowsOf, locksIn, imoOf}
+use Rattle.parts.specs.declared.Geometry.{Geometry}
+
+-- what a request is to the count: 'the reads and writes handed out, repeats included, resets not', XRES, line resets
+pub record Traffic : Type 0 where
+  pub transfers : ℕ
+  pub xresets : ℕ
+  pub lineResets : ℕ
+
+abbrev pub noTraffic : Traffic
+noTraffic = record { transfers = 0; xresets = 0; lineResets = 0 }
+
+-- one request more
+abbrev pub counting : Request → Traffic → Traffic
+counting Xres t = record { transfers = t .transfers; xresets = suc (t .xresets); lineResets = t .lineResets }
+counting LineReset t = record { transfers = t .transfers; xresets = t .xresets; lineResets = suc (t .lineResets) }
+counting ReadIdcode t = record { transfers = suc (t .transfers); xresets = t .xresets; lineResets = t .lineResets }
+counting ReadDrw t = record { transfers = suc (t .transfers); xresets = t .xresets; lineResets = t .lineResets }
+counting (WriteTar w) t = record { transfers = suc (t .transfers); xresets = t .xresets; lineResets = t .lineResets }
+counting (WriteDrw w) t = record { transfers = suc (t .transfers); xresets = t .xresets; lineResets = t .lineResets }
+counting (WriteSetup r w) t = record { transfers = suc (t .transfers); xresets = t .xresets; lineResets = t .lineResets }
+
+-- the requests of a list of moves, and its loops: the polls
+unfoldable pub trafficIn : List Move → Traffic
+trafficIn [] = noTraffic
+trafficIn (m ∷ ms) = counting (m .request) (trafficIn ms)
+
+abbrev pub isPoll : Purpose → ℕ
+isPoll Sent = 0
+isPoll Idcode = 0
+isPoll TestBit = 0
+isPoll Poll = 1
+isPoll Status = 0
+isPoll Keep = 0
+isPoll EntryLevel = 0
+isPoll Reopened = 0
+isPoll (Same w n) = 0
+isPoll StoredLevel = 0
+isPoll LastSum = 0
+
+unfoldable pub pollsIn : List Move → ℕ
+pollsIn [] = 0
+pollsIn (m ∷ ms) = isPoll (m .purpose) + pollsIn ms
+
+abbrev pub fromProtected : Entry → (more : ℕ) → ℕ
+fromProtected FromOpen more = 0
+fromProtected FromProtected more = more
+
+-- 'plan = 69 + 10 × IMO + N × (26 + 5L / 4) + M × (24 + 5PB / 4), and from PROTECTED 26 + 10 × IMO more'
+unfoldable pub plan : Geometry → Entry → ℕ
+plan g y =
+    69 + 10 * imoOf g + rowsOf g * (26 + 5 * rowBytes g / 4) + macrosOf g * (24 + 5 * locksIn g 0 / 4) + fromProtected y (26 + 10 * imoOf g)
+
+-- 'loops = 5 + IMO + 2N + 2M, and from PROTECTED 2 + IMO more'
+unfoldable pub loops : Geometry → Entry → ℕ
+loops g y = 5 + imoOf g + 2 * rowsOf g + 2 * macrosOf g + fromProtected y (2 + imoOf g)
+
+-- 'A acquisitions (1, or 2 from PROTECTED)'
+abbrev pub acquisitions : Entry → ℕ
+acquisitions FromOpen = 1
+acquisitions FromProtected = 2
+
+-- 'A report comes within 17 × (plan + 29997 × loops + 29 × A) transfers, A XRES and 30 × A line resets'
+unfoldable pub mostTraffic : Geometry → Entry → Traffic
+mostTraffic g y = record {
+  transfers = 17 * (plan g y + 29997 * loops g y + 29 * acquisitions y);
+  xresets = acquisitions y;
+  lineResets = 30 * acquisitions y;
+}

@@ -1,0 +1,207 @@
+-- The state of the target, the plain board of document 01, and the two free lists that drive it. Assumes nothing.
+use mathlib.Core.Bool.{Bool, true, false, cond}
+use mathlib.Core.List.{List, [], _∷_, _++_}
+use Prim.Native.Nat.{ℕ, _+_}
+use lib.ListN.{length, take, drop, replicate}
+use Rattle.flow.specs.declared.Reply.{Reply}
+
+-- what calls alter: 'flash, locks, stored level, .. latch'
+pub record Memory : Type 0 where
+  pub flash : List ℕ
+  pub locks : List ℕ
+  pub latch : List ℕ
+  pub stored : ℕ
+
+-- what nothing alters: 'IDs and S, a 28-bit privileged sum that no call alters'; 'the IDs (IDCODE, high, low, revision, family) are free'
+pub record Silicon : Type 0 where
+  pub idcode : ℕ
+  pub high : ℕ
+  pub low : ℕ
+  pub revision : ℕ
+  pub family : ℕ
+  pub privilegedSum : ℕ
+
+-- what a failed call leaves: 'any flash, locks and latch', a SYSARG, and whether a failed 0x0D stored the level sent
+pub record Residue : Type 0 where
+  pub flash : List ℕ
+  pub locks : List ℕ
+  pub latch : List ℕ
+  pub sysarg : ℕ
+  pub newLevel : Bool
+
+-- 'Per call: how many DRW reads of SYSREQ post it busy (bit 31 set), then success or failure, which takes effect there.'
+pub record CallOutcome : Type 0 where
+  pub busyReads : ℕ
+  pub succeeds : Bool
+  pub residue : Residue
+
+-- a call under way: the busy reads left, its outcome and its number
+pub data Running : Type 0 where
+  idle : Running
+  busy : (left : ℕ) → (succeeds : Bool) → Residue → (c : ℕ) → Running
+
+pub record Target : Type 0 where
+  pub silicon : Silicon
+  pub memory : Memory
+  pub effect : ℕ
+  pub params : List ℕ
+  pub sysarg : ℕ
+  pub sysreq : ℕ
+  pub testMode : ℕ
+  pub tar : ℕ
+  pub posted : ℕ
+  pub running : Running
+
+-- 'Per transfer: OK; WAIT or FAULT, not carried out; silence, carried out or not; wrong parity on a read, carried out.'
+pub data Fate : Type 0 where
+  clean waits faults garbles : Fate
+  silent : (carriedOut : Bool) → Fate
+
+-- a transfer's fate, with what is free in its answer, and the word that is elsewhere
+pub record LineEvent : Type 0 where
+  pub fate : Fate
+  pub junk : Reply
+  pub other : ℕ
+
+-- 'Two free lists drive it; past a list's end it is OK, and success without busy reads.'
+pub record Lists : Type 0 where
+  pub line : List LineEvent
+  pub calls : List CallOutcome
+
+abbrev pub eventOf : List LineEvent → LineEvent
+eventOf [] = record { fate = clean; junk = record { ack = 0; word = 0; parity = 0 }; other = 0 }
+eventOf (e ∷ es) = e
+
+abbrev pub outcomeOf : List CallOutcome → CallOutcome
+outcomeOf [] =
+    record { busyReads = 0; succeeds = true; residue = record { flash = []; locks = []; latch = []; sysarg = 0; newLevel = false } }
+outcomeOf (o ∷ os) = o
+
+abbrev pub rest : {A : Type 0} → List A → List A
+rest [] = []
+rest (x ∷ xs) = xs
+
+-- bytes x laid over a list from o on; the list keeps its size
+abbrev pub lay : List ℕ → (o : ℕ) → List ℕ → List ℕ
+lay l o x = take (length l) (take o l ++ (x ++ drop (o + length x) l))
+
+-- any bytes, cut or filled to the size of a list
+abbrev pub sized : List ℕ → List ℕ → List ℕ
+sized l x = take (length l) (x ++ replicate (length l) 0)
+
+-- ---- updates of one piece of state
+
+abbrev pub setTar : ℕ → Target → Target
+setTar a b = record {
+  silicon = b .silicon;
+  memory = b .memory;
+  effect = b .effect;
+  params = b .params;
+  sysarg = b .sysarg;
+  sysreq = b .sysreq;
+  testMode = b .testMode;
+  tar = a;
+  posted = b .posted;
+  running = b .running;
+}
+
+abbrev pub setPosted : ℕ → Target → Target
+setPosted w b = record {
+  silicon = b .silicon;
+  memory = b .memory;
+  effect = b .effect;
+  params = b .params;
+  sysarg = b .sysarg;
+  sysreq = b .sysreq;
+  testMode = b .testMode;
+  tar = b .tar;
+  posted = w;
+  running = b .running;
+}
+
+abbrev pub setParams : List ℕ → Target → Target
+setParams ps b = record {
+  silicon = b .silicon;
+  memory = b .memory;
+  effect = b .effect;
+  params = ps;
+  sysarg = b .sysarg;
+  sysreq = b .sysreq;
+  testMode = b .testMode;
+  tar = b .tar;
+  posted = b .posted;
+  running = b .running;
+}
+
+abbrev pub setSysarg : ℕ → Target → Target
+setSysarg w b = record {
+  silicon = b .silicon;
+  memory = b .memory;
+  effect = b .effect;
+  params = b .params;
+  sysarg = w;
+  sysreq = b .sysreq;
+  testMode = b .testMode;
+  tar = b .tar;
+  posted = b .posted;
+  running = b .running;
+}
+
+abbrev pub setTestMode : ℕ → Target → Target
+setTestMode w b = record {
+  silicon = b .silicon;
+  memory = b .memory;
+  effect = b .effect;
+  params = b .params;
+  sysarg = b .sysarg;
+  sysreq = b .sysreq;
+  testMode = w;
+  tar = b .tar;
+  posted = b .posted;
+  running = b .running;
+}
+
+-- SYSREQ, with what is under way
+abbrev pub setSysreq : ℕ → Running → Target → Target
+setSysreq w r b = record {
+  silicon = b .silicon;
+  memory = b .memory;
+  effect = b .effect;
+  params = b .params;
+  sysarg = b .sysarg;
+  sysreq = w;
+  testMode = b .testMode;
+  tar = b .tar;
+  posted = b .posted;
+  running = r;
+}
+
+-- a call's end
+abbrev pub setEnded : Memory → (sysarg sysreq : ℕ) → Target → Target
+setEnded m a q b = record {
+  silicon = b .silicon;
+  memory = m;
+  effect = b .effect;
+  params = b .params;
+  sysarg = a;
+  sysreq = q;
+  testMode = b .testMode;
+  tar = b .tar;
+  posted = b .posted;
+  running = idle;
+}
+
+-- XRES, once nothing is under way
+abbrev pub setReset : Target → Target
+setReset b = record {
+  silicon = b .silicon;
+  memory = b .memory;
+  effect = b .memory .stored;
+  params = b .params;
+  sysarg = b .sysarg;
+  sysreq = 0;
+  testMode = b .testMode;
+  tar = b .tar;
+  posted = b .posted;
+  running = idle;
+}

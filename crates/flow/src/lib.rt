@@ -1,0 +1,93 @@
+// The programming sequence as moves, and what goes over the wire for each (document 01, 'Flow' and 'Wire').
+ghost use mathlib.Core.Path.{_≡_};
+ghost use Rattle.flow.specs.Packets.{packetOf};
+use wire::Access;
+use wire::Register;
+
+// What a move asks for: a reset, or a read or write of a register.
+pub enum Request {
+    Xres,
+    LineReset,
+    ReadIdcode,
+    ReadDrw,
+    WriteTar(u32),
+    WriteDrw(u32),
+    // CTRL/STAT, SELECT or CSW.
+    WriteSetup(Register, u32),
+}
+
+// What the answer to a move is judged by.
+pub enum Purpose {
+    // Nothing but the acknowledgement, and on a read the parity.
+    Sent,
+    Idcode,
+    TestBit,
+    Poll,
+    Status,
+    // The word is kept: the silicon ID, then the first sum.
+    Keep,
+    // The IDs and the level in effect, which decides the entry.
+    EntryLevel,
+    // The same after reopening.
+    Reopened,
+    // The word must be this one, else it is this number.
+    Same(u32, u8),
+    StoredLevel,
+    LastSum,
+}
+
+// A move of the sequence, with the flow step that it belongs to.
+pub struct Move {
+    pub step: u8,
+    pub request: Request,
+    pub purpose: Purpose,
+}
+
+// The target's level as step 2 finds it: which steps follow.
+pub enum Entry {
+    FromOpen,
+    FromProtected,
+}
+
+// What goes out: a reset, a read's request byte, or a write's request byte, word and parity bit.
+pub enum Packet {
+    Xres,
+    LineReset,
+    Read(u8),
+    Write(u8, u32, u8),
+}
+
+// What a transfer is answered by.
+pub struct Reply {
+    pub ack: u8,
+    pub word: u32,
+    pub parity: u8,
+}
+
+// What comes back.
+pub enum Answer {
+    ResetDone,
+    Transferred(Reply),
+}
+
+// A write with its word's parity.
+fn write_packet(r: Register, w: u32) -> Packet
+    ensures { λ p. ⌜ p ≡ packetOf (Request.WriteSetup r w) ⌝ }
+{
+    Packet::Write(wire::request_byte(r, Access::Write), w, wire::parity_of(w))
+}
+
+// What goes out for a request.
+pub fn packet_of(q: Request) -> Packet
+    ensures { λ p. ⌜ p ≡ packetOf q ⌝ }
+{
+    match q {
+        Request::Xres => Packet::Xres,
+        Request::LineReset => Packet::LineReset,
+        Request::ReadIdcode => Packet::Read(wire::request_byte(Register::Idcode, Access::Read)),
+        Request::ReadDrw => Packet::Read(wire::request_byte(Register::Drw, Access::Read)),
+        Request::WriteTar(w) => write_packet(Register::Tar, w),
+        Request::WriteDrw(w) => write_packet(Register::Drw, w),
+        Request::WriteSetup(r, w) => write_packet(r, w),
+    }
+}
