@@ -159,7 +159,7 @@ fn some_cancels(bytes: &[u8], n: u32, size: usize) -> bool
 }
 
 // Whether the metadata's version is 2.
-fn version_fits(h: Header) -> bool
+pub fn version_fits(h: Header) -> bool
     ensures { λ r. ⌜ r ≡ versionFits h ⌝ }
 {
     let m = h.metadata;
@@ -167,7 +167,7 @@ fn version_fits(h: Header) -> bool
 }
 
 // Whether the metadata's silicon ID is the part's.
-fn id_fits(g: Geometry, h: Header) -> bool
+pub fn id_fits(g: Geometry, h: Header) -> bool
     ensures { λ r. ⌜ r ≡ imageIdFits g h ⌝ }
 {
     let m = h.metadata;
@@ -176,7 +176,7 @@ fn id_fits(g: Geometry, h: Header) -> bool
 }
 
 // Whether a level may be asked for: OPEN, PROTECTED or KILL.
-fn level_fits(n: u8) -> bool
+pub fn level_fits(n: u8) -> bool
     ensures { λ r. ⌜ r ≡ levelFits n ⌝ }
 {
     let l = parts::read_level(n);

@@ -158,7 +158,8 @@ fn in_range(r: ByteRange, b: u8) -> bool
     false
 }
 
-fn low_fits(p: Part, low: u8) -> bool
+// Whether a low ID byte fits the part.
+pub fn low_fits(p: Part, low: u8) -> bool
     ensures { λ r. ⌜ r ≡ lowFits p low ⌝ }
 {
     let one = p.id_low;

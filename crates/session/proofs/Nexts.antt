@@ -1,0 +1,74 @@
+-- Where an answer leads, by what it says; and that this is the flow's own step. Assumes nothing.
+use mathlib.Core.Bool.{Bool, true, false, cond}
+use mathlib.Core.List.{List, []}
+use mathlib.Core.Path.{_≡_, refl}
+use Prim.Native.Nat.{ℕ, suc, _+_}
+use native.Mathlib.Numerals.{add-one}
+use lib.Dec.{ltb}
+use Rattle.flow.specs.Judge.{Judged, go, pollAgain, enter, report, judge, idsFit, sumsFit}
+use Rattle.flow.specs.Packets.{Verdict, okay, again, broken}
+use Rattle.flow.specs.Session.{running, reported, settled, tryAgain, waitAgain, heardBy}
+use Rattle.flow.specs.Session as Flow
+use Rattle.flow.specs.declared.Entry.{Entry}
+use Rattle.flow.specs.declared.Move.{Move}
+use Rattle.flow.specs.declared.Purpose.{Purpose}
+use Rattle.flow.specs.declared.Purpose.the-variants.{Sent, Idcode, TestBit, Poll, Status, Keep, EntryLevel, Reopened, Same, StoredLevel, LastSum}
+use Rattle.image.specs.Image.{Image, imageOf}
+use Rattle.image.specs.declared.Header.{Header}
+use Rattle.parts.specs.declared.Geometry.{Geometry}
+use Rattle.session.specs.Nexts.{nextOf, tryNext, waitNext, nextBy}
+use Rattle.session.specs.declared.Next.{Next}
+use Rattle.session.specs.declared.Next.the-variants.{Run, Stop}
+use Rattle.session.specs.declared.Progress.{Progress}
+
+module _ (i : Image) (u : Purpose) (y : Entry) (p : Progress) where
+  pub next-okay : (a : Bool) (w : ℕ) → nextBy a i u (okay w) y p ≡ nextOf (judge i u (p .polls) (p .kept) w) y (p .at) (cond a 0 (p .attempts))
+  unfolding nextBy
+  next-okay true w = refl
+  next-okay false w = refl
+
+  pub next-again : (a : Bool) → nextBy a i u again y p ≡ cond a (tryNext y p) (waitNext y p)
+  unfolding nextBy
+  next-again true = refl
+  next-again false = refl
+
+  pub next-broken : (a : Bool) (x : ℕ) → nextBy a i u (broken x) y p ≡ cond a (tryNext y p) (Stop x)
+  unfolding nextBy
+  next-broken true x = refl
+  next-broken false x = refl
+
+-- a word is judged by the header and the part alone
+pub judge-header : (g : Geometry) (h : Header) (bytes : List ℕ) (u : Purpose) (p k w : ℕ) → judge (imageOf g h []) u p k w ≡ judge (imageOf g h bytes) u p k w
+unfolding judge idsFit sumsFit
+judge-header g h bytes Sent p k w = refl
+judge-header g h bytes Idcode p k w = refl
+judge-header g h bytes TestBit p k w = refl
+judge-header g h bytes Poll p k w = refl
+judge-header g h bytes Status p k w = refl
+judge-header g h bytes Keep p k w = refl
+judge-header g h bytes EntryLevel p k w = refl
+judge-header g h bytes Reopened p k w = refl
+judge-header g h bytes (Same v n) p k w = refl
+judge-header g h bytes StoredLevel p k w = refl
+judge-header g h bytes LastSum p k w = refl
+
+-- the session of the flow that an answer leads to
+abbrev pub standAfter : Next → (step transfers : ℕ) → Flow.Session
+standAfter (Run y p) s h = running y (p .at) (p .waits) (p .polls) (p .attempts) (p .kept) h
+standAfter (Stop x) s h = reported x s h
+
+stand-next : (j : Judged) (y : Entry) (n a s h : ℕ) → standAfter (nextOf j y n a) s h ≡ settled j y n s a h
+stand-next (go p k) y n a s h = simp add-one
+stand-next (pollAgain p k) y n a s h = refl
+stand-next (enter e p k) y n a s h = simp add-one
+stand-next (report x) y n a s h = refl
+
+stand-try : (y : Entry) (p : Progress) (s h : ℕ) (t : Bool) → ltb (p .attempts + 1) 30 ≡ t
+    → standAfter (tryNext y p) s h ≡ tryAgain t y (p .at) s (p .polls) (p .attempts) (p .kept) h
+stand-try y p s h true e = rw e (simp add-one)
+stand-try y p s h false e = rw e
+
+stand-wait : (y : Entry) (p : Progress) (s h : ℕ) (t : Bool) → ltb (p .waits) 16 ≡ t
+    → standAfter (waitNext y p) s h ≡ waitAgain t y (p .at) s (p .waits) (p .polls) (p .attempts) (p .kept) h
+stand-wait y p s h true e = rw e (simp add-one)
+stand-wait y p s h false e = rw e

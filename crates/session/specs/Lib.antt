@@ -1,0 +1,5 @@
+pub mod Sessions
+pub mod Nexts
+pub mod Possible
+pub mod Ranges
+pub mod Given

@@ -1,0 +1,43 @@
+-- 13: 'session impossible for its part (never one that starting or a step gave)'. Assumes nothing.
+use mathlib.Core.Bool.{Bool, true, false, _&&_, _||_, cond}
+use Prim.Native.Nat.{ℕ, _+_, _*_}
+use lib.Dec.{eqb, leb, ltb}
+use Rattle.flow.specs.Plan.{plan, acquisitions}
+use Rattle.flow.specs.declared.Entry.{Entry}
+use Rattle.image.specs.Checks.{versionFits, imageIdFits, levelFits}
+use Rattle.image.specs.declared.Header.{Header}
+use Rattle.parts.specs.Parts.{lookupOf}
+use Rattle.parts.specs.declared.Geometry.{Geometry}
+use Rattle.parts.specs.declared.Lookup.{Lookup}
+use Rattle.parts.specs.declared.Lookup.the-variants.{Found, Refused}
+use Rattle.session.specs.Sessions.{mostOf}
+use Rattle.session.specs.declared.Progress.{Progress}
+use Rattle.session.specs.declared.Session.{Session}
+
+-- a header that 6, 7 and 8 let pass: no session, forged or not, sends VIRGIN
+abbrev pub headerFits : Geometry → Header → Bool
+headerFits g h = versionFits h && imageIdFits g h && levelFits (h .level)
+
+-- the moves of the sequence: the plan's reads and writes, and each acquisition's XRES and line reset
+abbrev pub movesIn : Geometry → Entry → ℕ
+movesIn g y = plan g y + 2 * acquisitions y
+
+-- 'WAIT repeats the transfer, 16 times running at most'; 'at most 10,000 polls'; 'up to 30 attempts'
+abbrev pub progressFits : Geometry → Entry → Progress → Bool
+progressFits g y p = ltb (p .at) (movesIn g y) && leb (p .waits) 16 && ltb (p .polls) 10000 && ltb (p .attempts) 30
+
+-- 0 at step 9, or 16 to 30 at steps 1 to 9
+abbrev pub reportFits : (number step : ℕ) → Bool
+reportFits n t = (eqb n 0 && eqb t 9) || (leb 16 n && leb n 30 && leb 1 t && leb t 9)
+
+unfoldable pub possibleIn : Geometry → Session → Bool
+possibleIn g s =
+    headerFits g (s .header) && leb (s .transfers) (mostOf g (s .entry))
+    && cond (s .finished) (reportFits (s .number) (s .step)) (progressFits g (s .entry) (s .progress))
+
+abbrev pub possibleFor : Lookup → Session → Bool
+possibleFor (Refused n) s = false
+possibleFor (Found g) s = possibleIn g s
+
+abbrev pub possible : Session → Bool
+possible s = possibleFor (lookupOf (s .header .part) (s .header .macros)) s

@@ -1,0 +1,58 @@
+-- A session's fields as the session of the flow, and the session of zeros. Assumes nothing.
+use mathlib.Core.Bool.{Bool, true, false, cond}
+use Prim.Native.Nat.{ℕ, min}
+use lib.ListN.{replicate}
+use Rattle.flow.specs.Plan.{mostTraffic}
+use Rattle.flow.specs.Session.{running, reported}
+use Rattle.flow.specs.Session as Flow
+use Rattle.flow.specs.declared.Entry.{Entry}
+use Rattle.flow.specs.declared.Entry.the-variants.{FromOpen, FromProtected}
+use Rattle.image.specs.declared.Header.{Header}
+use Rattle.parts.specs.declared.Geometry.{Geometry}
+use Rattle.session.specs.declared.Progress.{Progress}
+use Rattle.session.specs.declared.Session.{Session}
+
+-- where the session stands in the flow
+abbrev pub standOf : Session → Flow.Session
+standOf s =
+    cond (s .finished) (reported (s .number) (s .step) (s .transfers))
+    (running (s .entry) (s .progress .at) (s .progress .waits) (s .progress .polls) (s .progress .attempts) (s .progress .kept) (s .transfers))
+
+abbrev pub atStart : Progress
+atStart = record { at = 0; waits = 0; polls = 0; attempts = 0; kept = 0 }
+
+-- 'A record, session or length given with a refusal is all 0.'
+abbrev pub noHeader : Header
+noHeader = record { part = 0; macros = 0; sum = 0; metadata = replicate 12 0; level = 0 }
+
+abbrev pub noSession : Session
+noSession = record { header = noHeader; entry = FromOpen; progress = atStart; transfers = 0; finished = false; number = 0; step = 0 }
+
+-- the session that starting gives: XRES stands
+abbrev pub firstFor : Header → Session
+firstFor h = record { header = h; entry = FromOpen; progress = atStart; transfers = 0; finished = false; number = 0; step = 0 }
+
+-- the most transfers that document 01's count allows
+abbrev pub mostOf : Geometry → Entry → ℕ
+mostOf g y = (mostTraffic g y) .transfers
+
+-- a session of the same image that stands so; the count stops at document 01's formula, which no run from a start meets
+unfoldable pub resumed : Geometry → Session → Flow.Session → Session
+resumed g s (running y n w p a k h) = record {
+  header = s .header;
+  entry = y;
+  progress = record { at = n; waits = w; polls = p; attempts = a; kept = k };
+  transfers = min h (mostOf g y);
+  finished = false;
+  number = 0;
+  step = 0;
+}
+resumed g s (reported x t h) = record {
+  header = s .header;
+  entry = s .entry;
+  progress = atStart;
+  transfers = min h (mostOf g (s .entry));
+  finished = true;
+  number = x;
+  step = t;
+}

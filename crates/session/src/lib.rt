@@ -1,0 +1,517 @@
+// Starting and stepping a session: one request out, one answer in (document 01, 'Flow' and 'Who brings a number about').
+ghost use mathlib.Core.Bool.{Bool, true, false, cond};
+ghost use Rattle.wire.specs.Wire.{ackOf};
+ghost use mathlib.Core.List.{[]};
+ghost use mathlib.Core.Path.{_≡_};
+ghost use Prim.Native.Nat.{suc, _+_, _-_, _*_, _%_, _≤_, _<_, _^_, min};
+ghost use lib.Dec.{eqb, ltb};
+ghost use Rattle.flow.specs.Judge.{judge, go, free, testBitSet, succeeded, idsFit, levelIn, storedIn, sumsFit, entryBy, goIf, polled, report};
+ghost use Rattle.flow.specs.Monitor.{isReset, isAttempt};
+ghost use Rattle.flow.specs.Packets.{isRead, heard};
+ghost use Rattle.flow.specs.Plan.{fromProtected, plan, loops, acquisitions};
+ghost use Rattle.image.specs.Image.{imageOf};
+ghost use Rattle.session.specs.Nexts.{nextOf, tryNext, waitNext, nextBy};
+ghost use Rattle.session.specs.Possible.{headerFits, movesIn, progressFits, reportFits, possibleIn};
+ghost use Rattle.session.specs.Ranges.{InRange};
+ghost use Rattle.session.specs.Sessions.{mostOf};
+use flow::Answer;
+use flow::Entry;
+use flow::Move;
+use flow::Packet;
+use flow::Purpose;
+use flow::Reply;
+use flow::Request;
+use image::Header;
+use parts::Geometry;
+use parts::Level;
+use parts::Lookup;
+use wire::Ack;
+
+// Where a running session stands: the index of the standing move, what is counted there, and the word kept.
+pub struct Progress {
+    pub at: u32,
+    pub waits: u32,
+    pub polls: u32,
+    pub attempts: u32,
+    pub kept: u32,
+}
+
+// A session: what it holds of the image, where it stands or what it reported, and the reads and writes answered so far.
+pub struct Session {
+    pub header: Header,
+    pub entry: Entry,
+    pub progress: Progress,
+    pub transfers: u32,
+    pub finished: bool,
+    pub number: u8,
+    pub step: u8,
+}
+
+// A report: its number (0 done), the flow step then running, and the reads and writes handed out.
+pub struct Report {
+    pub number: u8,
+    pub step: u8,
+    pub transfers: u32,
+}
+
+// What a call gives beside the session.
+pub enum Outcome {
+    Refused(u8),
+    Ask(Packet),
+    Told(Report),
+}
+
+pub struct Given {
+    pub session: Session,
+    pub outcome: Outcome,
+}
+
+// Where one answer leads: on with the sequence, or to a report.
+pub enum Next {
+    Run(Entry, Progress),
+    Stop(u8),
+}
+
+// The addition for a target that was PROTECTED.
+fn if_protected(y: Entry, more: u64) -> u64
+    ensures { λ r. ⌜ r ≡ fromProtected y more ⌝ ∗ ⌜ r ≤ more ⌝ }
+{
+    match y {
+        Entry::FromOpen => 0,
+        Entry::FromProtected => more,
+    }
+}
+
+fn acquisitions_of(y: Entry) -> u64
+    ensures { λ r. ⌜ r ≡ acquisitions y ⌝ ∗ ⌜ r < 3 ⌝ }
+{
+    match y {
+        Entry::FromOpen => 1,
+        Entry::FromProtected => 2,
+    }
+}
+
+// The plan: the reads and writes of the sequence.
+fn plan_of(g: Geometry, y: Entry) -> u64
+    ensures { λ r. ⌜ r ≡ plan g y ⌝ ∗ ⌜ r < 2 ^ 54 ⌝ }
+{
+    let p = g.part;
+    let imo = p.imo as u64;
+    let row = 26 + 5 * (p.row_bytes as u64) / 4;
+    let locks = 24 + 5 * ((p.rows_per_macro / 8) as u64) / 4;
+    69
+        + 10 * imo
+        + (parts::rows(g) as u64) * row
+        + (g.macros as u64) * locks
+        + if_protected(y, 26 + 10 * imo)
+}
+
+// The poll loops of the sequence.
+fn loops_of(g: Geometry, y: Entry) -> u64
+    ensures { λ r. ⌜ r ≡ loops g y ⌝ ∗ ⌜ r < 2 ^ 40 ⌝ }
+{
+    let p = g.part;
+    let imo = p.imo as u64;
+    5 + imo + 2 * (parts::rows(g) as u64) + 2 * (g.macros as u64) + if_protected(y, 2 + imo)
+}
+
+// The most reads and writes that a session may hand out.
+fn most_of(g: Geometry, y: Entry) -> u64
+    ensures { λ r. ⌜ r ≡ mostOf g y ⌝ }
+{
+    17 * (plan_of(g, y) + 29997 * loops_of(g, y) + 29 * acquisitions_of(y))
+}
+
+// The moves of the sequence.
+fn moves_in(g: Geometry, y: Entry) -> u64
+    ensures { λ r. ⌜ r ≡ movesIn g y ⌝ }
+{
+    plan_of(g, y) + 2 * acquisitions_of(y)
+}
+
+// Whether a header is one that 6, 7 and 8 let pass.
+fn header_fits(g: Geometry, h: Header) -> bool
+    ensures { λ r. ⌜ r ≡ headerFits g h ⌝ }
+{
+    if image::version_fits(h) {
+        if image::id_fits(g, h) {
+            return image::level_fits(h.level);
+        }
+    }
+    false
+}
+
+// Whether a running session's index and counts are in range.
+fn progress_fits(g: Geometry, y: Entry, p: Progress) -> bool
+    ensures { λ r. ⌜ r ≡ progressFits g y p ⌝ }
+{
+    if (p.at as u64) < moves_in(g, y) {
+        if p.waits <= 16 {
+            if p.polls < 10000 {
+                return p.attempts < 30;
+            }
+        }
+    }
+    false
+}
+
+// Whether a report has a number and a step that a report can have.
+fn report_fits(number: u8, step: u8) -> bool
+    ensures { λ r. ⌜ r ≡ reportFits number step ⌝ }
+{
+    match number {
+        0 => step == 9,
+        16..=30 => 1 <= step && step <= 9,
+        _ => false,
+    }
+}
+
+// Whether a session is possible for its part (13).
+fn possible_in(g: Geometry, s: Session) -> bool
+    ensures { λ r. ⌜ r ≡ possibleIn g s ⌝ }
+{
+    let h = s.header;
+    let y = s.entry;
+    if !header_fits(g, h) {
+        return false;
+    }
+    if most_of(g, y) < (s.transfers as u64) {
+        return false;
+    }
+    if s.finished {
+        return report_fits(s.number, s.step);
+    }
+    let p = s.progress;
+    progress_fits(g, y, p)
+}
+
+// Whether a polled word has bits 31 and 28 clear.
+fn is_free(w: u32) -> bool
+    ensures { λ r. ⌜ r ≡ free w ⌝ }
+{
+    if w / 2147483648 % 2 == 0 {
+        return w / 268435456 % 2 == 0;
+    }
+    false
+}
+
+fn bit_set(w: u32) -> bool
+    ensures { λ r. ⌜ r ≡ testBitSet w ⌝ }
+{
+    w / 2147483648 % 2 == 1
+}
+
+fn call_succeeded(w: u32) -> bool
+    ensures { λ r. ⌜ r ≡ succeeded w ⌝ }
+{
+    w / 268435456 % 16 == 0xA
+}
+
+// Whether the silicon ID in SYSARG and SYSREQ is the image's and fits the part (20).
+fn ids_fit(g: Geometry, h: Header, sysarg: u32, sysreq: u32) -> bool
+    ensures { λ r. ⌜ r ≡ idsFit (imageOf g h []) sysarg sysreq ⌝ }
+{
+    let m = h.metadata;
+    let p = g.part;
+    if (sysarg / 256 % 256) as u8 == m[2] {
+        if (sysreq % 256) as u8 == m[5] {
+            return parts::low_fits(p, (sysarg % 256) as u8);
+        }
+    }
+    false
+}
+
+// The stored level in the word that step 8 reads, with 0 and 1 exchanged.
+fn stored_in(w: u32) -> u8
+    ensures { λ r. ⌜ r ≡ storedIn w ⌝ }
+{
+    let n = (w / 16777216 % 16) as u8;
+    match n {
+        0 => 1,
+        1 => 0,
+        _ => n,
+    }
+}
+
+// Whether the two privileged sums differ by the image's sum.
+fn sums_fit(g: Geometry, h: Header, this: u32, that: u32) -> bool
+    ensures { λ r. ⌜ r ≡ sumsFit (imageOf g h []) this that ⌝ }
+{
+    ((this % 268435456 + 268435456 - that % 268435456) % 65536) as u16 == h.sum
+}
+
+// On to the next move, with these polls and attempts and this word kept.
+fn onward(y: Entry, p: Progress, polls: u32, attempts: u32, kept: u32) -> Next
+    requires { ⌜ InRange p ⌝ }
+    ensures { λ r. ⌜ r ≡ nextOf (go polls kept) y (p .at) attempts ⌝ }
+{
+    Next::Run(
+        y,
+        Progress {
+            at: p.at + 1,
+            waits: 0,
+            polls: polls,
+            attempts: attempts,
+            kept: kept,
+        },
+    )
+}
+
+// On to the next move, or a report.
+fn onward_if(ok: bool, number: u8, y: Entry, p: Progress, attempts: u32) -> Next
+    requires { ⌜ InRange p ⌝ }
+    ensures { λ r. ⌜ r ≡ nextOf (goIf ok number (p .polls) (p .kept)) y (p .at) attempts ⌝ }
+{
+    if ok {
+        onward(y, p, p.polls, attempts, p.kept)
+    } else {
+        Next::Stop(number)
+    }
+}
+
+// A difference that stops at 0.
+fn back(at: u32, moves: u32) -> u32
+    ensures { λ r. ⌜ r ≡ at - moves ⌝ }
+{
+    if moves <= at { at - moves } else { 0 }
+}
+
+// Once more from a poll's first transfer, at most 10,000 times.
+fn polled_next(y: Entry, p: Progress, attempts: u32, w: u32) -> Next
+    requires { ⌜ InRange p ⌝ }
+    ensures { λ r. ⌜ r ≡ nextOf (polled (free w) (ltb (suc (p .polls)) 10000) (p .polls) (p .kept)) y (p .at) attempts ⌝ }
+{
+    if is_free(w) {
+        return onward(y, p, 0, attempts, p.kept);
+    }
+    let polls = p.polls + 1;
+    if polls < 10000 {
+        return Next::Run(
+            y,
+            Progress {
+                at: back(p.at, 2),
+                waits: 0,
+                polls: polls,
+                attempts: attempts,
+                kept: p.kept,
+            },
+        );
+    }
+    Next::Stop(18)
+}
+
+// The entry by the level in effect, or 21.
+fn enter_next(y: Entry, p: Progress, attempts: u32, w: u32) -> Next
+    requires { ⌜ InRange p ⌝ }
+    ensures { λ r. ⌜ r ≡ nextOf (entryBy (levelIn w) (p .polls) (p .kept)) y (p .at) attempts ⌝ }
+{
+    let level = parts::read_level((w / 4096 % 16) as u8);
+    match level {
+        Level::Virgin => Next::Stop(21),
+        Level::Open => onward(Entry::FromOpen, p, p.polls, attempts, p.kept),
+        Level::Protected => onward(Entry::FromProtected, p, p.polls, attempts, p.kept),
+        Level::Kill => Next::Stop(21),
+        Level::Unknown => Next::Stop(21),
+    }
+}
+
+// Steps 2's IDs and level, the first time.
+fn entered(g: Geometry, h: Header, y: Entry, p: Progress, attempts: u32, w: u32) -> Next
+    requires { ⌜ InRange p ⌝ }
+    ensures { λ r. ⌜ r ≡ nextOf (judge (imageOf g h []) Purpose.EntryLevel (p .polls) (p .kept) w) y (p .at) attempts ⌝ }
+{
+    if ids_fit(g, h, p.kept, w) {
+        enter_next(y, p, attempts, w)
+    } else {
+        Next::Stop(20)
+    }
+}
+
+// The same after reopening, where the level must be OPEN.
+fn reopened(g: Geometry, h: Header, y: Entry, p: Progress, attempts: u32, w: u32) -> Next
+    requires { ⌜ InRange p ⌝ }
+    ensures { λ r. ⌜ r ≡ nextOf (judge (imageOf g h []) Purpose.Reopened (p .polls) (p .kept) w) y (p .at) attempts ⌝ }
+{
+    if ids_fit(g, h, p.kept, w) {
+        onward_if(w / 4096 % 16 == 1, 21, y, p, attempts)
+    } else {
+        Next::Stop(20)
+    }
+}
+
+// The last sum: done, or 25.
+fn summed(g: Geometry, h: Header, y: Entry, p: Progress, attempts: u32, w: u32) -> Next
+    ensures { λ r. ⌜ r ≡ nextOf (judge (imageOf g h []) Purpose.LastSum (p .polls) (p .kept) w) y (p .at) attempts ⌝ }
+{
+    if sums_fit(g, h, w, p.kept) {
+        Next::Stop(0)
+    } else {
+        Next::Stop(25)
+    }
+}
+
+// A word, by the purpose of the move that it answers.
+fn on_word(g: Geometry, h: Header, y: Entry, p: Progress, u: Purpose, attempts: u32, w: u32) -> Next
+    requires { ⌜ InRange p ⌝ }
+    ensures { λ r. ⌜ r ≡ nextOf (judge (imageOf g h []) u (p .polls) (p .kept) w) y (p .at) attempts ⌝ }
+{
+    match u {
+        Purpose::Sent => onward(y, p, p.polls, attempts, p.kept),
+        Purpose::Idcode => onward_if(w == 0x0BB11477, 16, y, p, attempts),
+        Purpose::TestBit => onward_if(bit_set(w), 17, y, p, attempts),
+        Purpose::Poll => polled_next(y, p, attempts, w),
+        Purpose::Status => onward_if(call_succeeded(w), 19, y, p, attempts),
+        Purpose::Keep => onward(y, p, p.polls, attempts, w),
+        Purpose::EntryLevel => entered(g, h, y, p, attempts, w),
+        Purpose::Reopened => reopened(g, h, y, p, attempts, w),
+        Purpose::Same(v, n) => onward_if(w == v, n, y, p, attempts),
+        Purpose::StoredLevel => onward_if(stored_in(w) == h.level, 24, y, p, attempts),
+        Purpose::LastSum => summed(g, h, y, p, attempts, w),
+    }
+}
+
+// Another attempt, at most thirty.
+fn try_again(y: Entry, p: Progress) -> Next
+    requires { ⌜ InRange p ⌝ }
+    ensures { λ r. ⌜ r ≡ tryNext y p ⌝ }
+{
+    let attempts = p.attempts + 1;
+    if attempts < 30 {
+        return Next::Run(
+            y,
+            Progress {
+                at: back(p.at, 1),
+                waits: 0,
+                polls: p.polls,
+                attempts: attempts,
+                kept: p.kept,
+            },
+        );
+    }
+    Next::Stop(26)
+}
+
+// The same transfer again, at most sixteen times running.
+fn wait_again(y: Entry, p: Progress) -> Next
+    requires { ⌜ InRange p ⌝ }
+    ensures { λ r. ⌜ r ≡ waitNext y p ⌝ }
+{
+    if p.waits < 16 {
+        return Next::Run(
+            y,
+            Progress {
+                at: p.at,
+                waits: p.waits + 1,
+                polls: p.polls,
+                attempts: p.attempts,
+                kept: p.kept,
+            },
+        );
+    }
+    Next::Stop(27)
+}
+
+// A transfer that went wrong: it ends an attempt, or the session with this number.
+fn on_broken(q: Request, y: Entry, p: Progress, number: u8) -> Next
+    requires { ⌜ InRange p ⌝ }
+    ensures { λ r. ⌜ r ≡ cond (isAttempt q) (tryNext y p) (Next.Stop number) ⌝ }
+{
+    if is_attempt(q) {
+        try_again(y, p)
+    } else {
+        Next::Stop(number)
+    }
+}
+
+// WAIT: it ends an attempt, or the transfer is repeated.
+fn on_wait(q: Request, y: Entry, p: Progress) -> Next
+    requires { ⌜ InRange p ⌝ }
+    ensures { λ r. ⌜ r ≡ cond (isAttempt q) (tryNext y p) (waitNext y p) ⌝ }
+{
+    if is_attempt(q) {
+        try_again(y, p)
+    } else {
+        wait_again(y, p)
+    }
+}
+
+// The attempts counted after a transfer that went right: none are running after an attempt.
+fn attempts_after(q: Request, p: Progress) -> u32
+    ensures { λ r. ⌜ r ≡ cond (isAttempt q) 0 (p .attempts) ⌝ }
+{
+    if is_attempt(q) { 0 } else { p.attempts }
+}
+
+fn is_attempt(q: Request) -> bool
+    ensures { λ r. ⌜ r ≡ isAttempt q ⌝ }
+{
+    match q {
+        Request::Xres => false,
+        Request::LineReset => false,
+        Request::ReadIdcode => true,
+        Request::ReadDrw => false,
+        Request::WriteTar(_) => false,
+        Request::WriteDrw(_) => false,
+        Request::WriteSetup(_, _) => false,
+    }
+}
+
+fn is_read(q: Request) -> bool
+    ensures { λ r. ⌜ r ≡ isRead q ⌝ }
+{
+    match q {
+        Request::Xres => false,
+        Request::LineReset => false,
+        Request::ReadIdcode => true,
+        Request::ReadDrw => true,
+        Request::WriteTar(_) => false,
+        Request::WriteDrw(_) => false,
+        Request::WriteSetup(_, _) => false,
+    }
+}
+
+fn is_reset(q: Request) -> bool
+    ensures { λ r. ⌜ r ≡ isReset q ⌝ }
+{
+    match q {
+        Request::Xres => true,
+        Request::LineReset => true,
+        Request::ReadIdcode => false,
+        Request::ReadDrw => false,
+        Request::WriteTar(_) => false,
+        Request::WriteDrw(_) => false,
+        Request::WriteSetup(_, _) => false,
+    }
+}
+
+// An OK: the parity of a read's word counts, and a write has no word.
+fn on_okay(g: Geometry, h: Header, y: Entry, p: Progress, m: Move, r: Reply) -> Next
+    requires { ⌜ InRange p ⌝ }
+    ensures { λ n. ⌜ n ≡ nextBy (isAttempt (m .request)) (imageOf g h []) (m .purpose) (heard (isRead (m .request)) Ack.Okay (r .word) (r .parity)) y p ⌝ }
+{
+    let q = m.request;
+    let u = m.purpose;
+    let attempts = attempts_after(q, p);
+    if is_read(q) {
+        if r.parity == wire::parity_of(r.word) {
+            return on_word(g, h, y, p, u, attempts, r.word);
+        }
+        return on_broken(q, y, p, 30);
+    }
+    on_word(g, h, y, p, u, attempts, 0)
+}
+
+// A reply to the standing move.
+fn on_reply(g: Geometry, h: Header, y: Entry, p: Progress, m: Move, r: Reply) -> Next
+    requires { ⌜ InRange p ⌝ }
+    ensures { λ n. ⌜ n ≡ nextBy (isAttempt (m .request)) (imageOf g h []) (m .purpose) (heard (isRead (m .request)) (ackOf (r .ack)) (r .word) (r .parity)) y p ⌝ }
+{
+    let q = m.request;
+    let a = wire::read_ack(r.ack);
+    match a {
+        Ack::Okay => on_okay(g, h, y, p, m, r),
+        Ack::Wait => on_wait(q, y, p),
+        Ack::Fault => on_broken(q, y, p, 28),
+        Ack::Silence => on_broken(q, y, p, 29),
+    }
+}
