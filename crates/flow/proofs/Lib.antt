@@ -4,3 +4,4 @@ pub mod Counting
 pub mod Examples
 pub mod Reaches
 pub mod Hearing
+pub mod Transfer

@@ -145,3 +145,8 @@ pub data Reaches {i : Image} (f : Frame i) : Run → Type 0 where
 
 pub clear : (w p a : ℕ) (t : Watch) (d : Delays) → NoError (watching w p a t d)
 clear w p a t d n e = let no : _≡_ {A = ℕ} 0 1 = cc in omega arith
+
+-- a step whose outcome is known
+pub steps : {i : Image} (f : Frame i) (r r′ : Run) → f .Safe (r .target .memory) → Bounded f (handedOut i r) → NoError (r .monitor) → advance i r ≡ r′
+    → Reaches f r′ → Reaches f r
+steps f r r′ safe most clean e l = step {r = r} safe most clean (rw e l)
