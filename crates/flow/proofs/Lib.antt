@@ -5,3 +5,4 @@ pub mod Examples
 pub mod Reaches
 pub mod Hearing
 pub mod Transfer
+pub mod Access

@@ -10,7 +10,7 @@ use mathlib.Core.Bool.{Bool, true, false, _&&_}
 use Rattle.flow.specs.Claim.{CalmLine, CalmCalls, NoError}
 use Rattle.flow.specs.Judge.{idsFit}
 use Rattle.flow.specs.Monitor.{Monitor, watching, linkError, Watch, Delays, delayed}
-use Rattle.flow.specs.Plan.{Traffic, counting, isPoll}
+use Rattle.flow.specs.Plan.{Traffic, counting}
 use Rattle.flow.specs.Run.{Run, advance, handedOut}
 use Rattle.flow.specs.Sequence.{move, sequence, endMove}
 use Rattle.flow.specs.Session.{Session, running, reported, moveAt}
@@ -18,6 +18,7 @@ use Rattle.flow.specs.Target.{Target, Memory, Silicon, Lists}
 use Rattle.flow.specs.declared.Entry.{Entry}
 use Rattle.flow.specs.declared.Move.{Move}
 use Rattle.flow.specs.declared.Purpose.{Purpose}
+use Rattle.flow.specs.declared.Purpose.the-variants.{Sent, Idcode, TestBit, Poll, Status, Keep, EntryLevel, Reopened, Same, StoredLevel, LastSum}
 use Rattle.flow.specs.declared.Request.{Request}
 use Rattle.flow.specs.declared.Request.the-variants.{Xres, LineReset, ReadIdcode, ReadDrw, WriteTar, WriteDrw, WriteSetup}
 use Rattle.image.specs.Checks.{metadataAt}
@@ -33,15 +34,33 @@ pub record Purse : Type 0 where
   pub xres : ℕ
   pub lines : ℕ
 
--- each transfer may be handed out 17 times, a poll 9,999 times three transfers more, an attempt 29 times more
+-- each transfer may be handed out 17 times
+abbrev pub spend : Purse → Purse
+spend κ = record { due = suc (κ .due); room = 17 + κ .room; xres = κ .xres; lines = κ .lines }
+
+-- a poll 9,999 times three transfers more
+abbrev pub payRead : Purpose → Purse → Purse
+payRead Sent κ = spend κ
+payRead Idcode κ = spend κ
+payRead TestBit κ = spend κ
+payRead Poll κ = record { due = suc (κ .due); room = 17 + (509949 + κ .room); xres = κ .xres; lines = κ .lines }
+payRead Status κ = spend κ
+payRead Keep κ = spend κ
+payRead EntryLevel κ = spend κ
+payRead Reopened κ = spend κ
+payRead (Same w n) κ = spend κ
+payRead StoredLevel κ = spend κ
+payRead LastSum κ = spend κ
+
+-- an attempt 29 times more
 abbrev pub payFor : Request → Purpose → Purse → Purse
 payFor Xres u κ = record { due = κ .due; room = κ .room; xres = suc (κ .xres); lines = κ .lines }
 payFor LineReset u κ = record { due = κ .due; room = 13 + κ .room; xres = κ .xres; lines = 30 + κ .lines }
-payFor ReadIdcode u κ = record { due = suc (κ .due); room = 17 + κ .room; xres = κ .xres; lines = κ .lines }
-payFor ReadDrw u κ = record { due = suc (κ .due); room = 17 + (509949 * isPoll u + κ .room); xres = κ .xres; lines = κ .lines }
-payFor (WriteTar w) u κ = record { due = suc (κ .due); room = 17 + κ .room; xres = κ .xres; lines = κ .lines }
-payFor (WriteDrw w) u κ = record { due = suc (κ .due); room = 17 + κ .room; xres = κ .xres; lines = κ .lines }
-payFor (WriteSetup r w) u κ = record { due = suc (κ .due); room = 17 + κ .room; xres = κ .xres; lines = κ .lines }
+payFor ReadIdcode u κ = spend κ
+payFor ReadDrw u κ = payRead u κ
+payFor (WriteTar w) u κ = spend κ
+payFor (WriteDrw w) u κ = spend κ
+payFor (WriteSetup r w) u κ = spend κ
 
 unfoldable pub pay : List Move → Purse → Purse
 pay [] κ = κ
@@ -113,6 +132,11 @@ pub record Stood {i : Image} (f : Frame i) (y : Entry) (n : ℕ) (ms : List Move
   pub xres : e .traffic .xresets + κ .xres ≤ f .most .xresets
   pub lines : e .traffic .lineResets + κ .lines ≤ f .most .lineResets
   pub calm : f .Still → StillCalm e
+
+-- less may be left
+pub poorer : {i : Image} {f : Frame i} {y : Entry} {n : ℕ} {ms : List Move} {κ : Purse} {e : Env} (r : ℕ) → r ≤ κ .room → Stood f y n ms κ e
+    → Stood f y n ms (record { due = κ .due; room = r; xres = κ .xres; lines = κ .lines }) e
+poorer r h st = record { at = st .at; spent = st .spent; room = omega (arith, st .room); xres = st .xres; lines = st .lines; calm = st .calm }
 
 -- the moves of ms, then the rest, and what they may cost
 abbrev pub Stands : {i : Image} → Frame i → Entry → ℕ → List Move → List Move → Purse → Env → Type 0

@@ -22,7 +22,7 @@ use Rattle.flow.specs.declared.Purpose.{Purpose}
 use Rattle.flow.specs.declared.Request.{Request}
 use Rattle.flow.specs.declared.Request.the-variants.{ReadDrw, WriteTar, WriteDrw, WriteSetup}
 use Rattle.flow.proofs.Hearing.{Plain, aTar, aDrw, aRead, aCtrl, aSelect, aCsw, Wired, plain, meets, listsAfter, Heard, well, held, ill, illDone, hears}
-use Rattle.flow.proofs.Reaches.{Purse, payFor, Env, sync, Frame, StillCalm, Stood, at-move, at-next, Bounded, Reaches, stop, steps, clear}
+use Rattle.flow.proofs.Reaches.{Purse, spend, Env, sync, Frame, StillCalm, Stood, at-move, at-next, Bounded, Reaches, stop, steps, clear}
 use Rattle.image.specs.Image.{Image}
 
 -- one transfer more
@@ -100,16 +100,6 @@ module _ {i : Image} (f : Frame i) where
   bounded h v κ {e} w p a k b t st =
       rw (at-move st, counts h (e .traffic)) (record { transfers = omega (arith, st .room); xresets = omega (arith, st .xres); lineResets = omega (arith, st .lines) })
 
-  -- what a transfer may cost, at least
-  waits-for : {q : Request} → Plain q → {s : ℕ} (u : Purpose) {y : Entry} {n : ℕ} {ms : List Move} (κ : Purse) {e : Env}
-      → Stood f y n (move s q u ∷ ms) (payFor q u κ) e → Stood f y n (move s q u ∷ ms) (waiting 16 κ) e
-  waits-for aTar u κ st = record { at = st .at; spent = st .spent; room = st .room; xres = st .xres; lines = st .lines; calm = st .calm }
-  waits-for aDrw u κ st = record { at = st .at; spent = st .spent; room = st .room; xres = st .xres; lines = st .lines; calm = st .calm }
-  waits-for aRead u κ st = record { at = st .at; spent = st .spent; room = omega (arith, st .room); xres = st .xres; lines = st .lines; calm = st .calm }
-  waits-for aCtrl u κ st = record { at = st .at; spent = st .spent; room = st .room; xres = st .xres; lines = st .lines; calm = st .calm }
-  waits-for aSelect u κ st = record { at = st .at; spent = st .spent; room = st .room; xres = st .xres; lines = st .lines; calm = st .calm }
-  waits-for aCsw u κ st = record { at = st .at; spent = st .spent; room = st .room; xres = st .xres; lines = st .lines; calm = st .calm }
-
   -- one exchange: `onWait` is where a WAIT leads to
   once : {q : Request} → Plain q → {s : ℕ} {u : Purpose} {y : Entry} {n : ℕ} {ms : List Move} (v : ℕ) {κ : Purse} {e : Env} (w p a k : ℕ) (b : Target) (t : Watch)
       → Stood f y n (move s q u ∷ ms) (waiting v κ) e → dead b ≡ false → barred (i .geometry) q b ≡ false
@@ -169,10 +159,9 @@ module _ {i : Image} (f : Frame i) where
 
   -- any transfer outside the attempts
   pub transfer : {q : Request} → Plain q → {s : ℕ} {u : Purpose} {y : Entry} {n : ℕ} {ms : List Move} {κ : Purse} {e : Env} {p a k : ℕ} {b : Target} {t : Watch}
-      → Stood f y n (move s q u ∷ ms) (payFor q u κ) e → dead b ≡ false → barred (i .geometry) q b ≡ false
+      → Stood f y n (move s q u ∷ ms) (spend κ) e → dead b ≡ false → barred (i .geometry) q b ≡ false
       → f .Safe (b .memory) → ((o : ℕ) → f .Safe ((carry (i .geometry) q o (outcomeOf (e .lists .calls)) b) .memory))
       → (next : (o : ℕ) (e′ : Env) → e′ .lists .calls ≡ cond (callsOn (i .geometry) q b) (rest (e .lists .calls)) (e .lists .calls) → Stood f y (suc n) ms κ e′
       → Reaches f (okayed s q u y n p a k (gives q b) (carry (i .geometry) q o (outcomeOf (e .lists .calls)) b) t e′))
       → Reaches f (sync y n 0 p a k b t e)
-  transfer h {u = u} {κ = κ} {e = e} st alive free safe safe′ next =
-      transfer-from 16 h e 0 _ _ _ _ _ refl (waits-for h u κ st) alive free safe safe′ next
+  transfer h {e = e} st alive free safe safe′ next = transfer-from 16 h e 0 _ _ _ _ _ refl st alive free safe safe′ next
