@@ -6,3 +6,4 @@ pub mod Reaches
 pub mod Hearing
 pub mod Transfer
 pub mod Access
+pub mod Polling
