@@ -7,3 +7,4 @@ pub mod Hearing
 pub mod Transfer
 pub mod Access
 pub mod Polling
+pub mod Calling
