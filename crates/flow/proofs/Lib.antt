@@ -8,3 +8,5 @@ pub mod Transfer
 pub mod Access
 pub mod Polling
 pub mod Calling
+pub mod Lists
+pub mod Listing

@@ -1,5 +1,5 @@
 -- What a run is held to on its way: where it stands in the sequence, what it may still hand out, and where it leads. Assumes nothing.
-use mathlib.Core.List.{List, [], _∷_, _++_}
+use mathlib.Core.List.{List, [], _∷_, _++_, append-assoc}
 use mathlib.Core.Path.{_≡_, refl, ap, sym, _∙_}
 use Prim.Native.Nat.{ℕ, zero, suc, _+_, _*_, _≤_}
 use native.Mathlib.Omega.{arith}
@@ -141,6 +141,11 @@ poorer r h st = record { at = st .at; spent = st .spent; room = omega (arith, st
 -- the moves of ms, then the rest, and what they may cost
 abbrev pub Stands : {i : Image} → Frame i → Entry → ℕ → List Move → List Move → Purse → Env → Type 0
 Stands f y n ms later κ e = Stood f y n (ms ++ later) (pay ms κ) e
+
+-- the first of two lists of moves
+pub split : {i : Image} {f : Frame i} {y : Entry} {n : ℕ} (a b : List Move) (ms : List Move) (κ : Purse) {e : Env}
+    → Stands f y n (a ++ b) ms κ e → Stands f y n a (b ++ ms) (pay b κ) e
+split a b ms κ st = rw (append-assoc a b ms, pay-append a b κ) at st
 
 module _ {i : Image} {f : Frame i} {y : Entry} {n : ℕ} {m : Move} {ms : List Move} {κ : Purse} {e : Env} where
   -- the standing move
