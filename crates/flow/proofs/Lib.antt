@@ -10,3 +10,4 @@ pub mod Polling
 pub mod Calling
 pub mod Lists
 pub mod Listing
+pub mod Legs

@@ -11,7 +11,7 @@ use Rattle.flow.specs.Calls.{finish, effectOf, sysargAfter, sysreqAfter}
 use Rattle.flow.specs.Judge.{free, succeeded}
 use Rattle.flow.specs.Map.{inParams}
 use Rattle.flow.specs.Sequence.{call, write, writes, listed}
-use Rattle.flow.specs.Target.{Target, Residue, lay}
+use Rattle.flow.specs.Target.{Target, Residue, idle, lay}
 use Rattle.flow.specs.declared.Entry.{Entry}
 use Rattle.flow.specs.declared.Move.{Move}
 use Rattle.flow.proofs.Access.{admits-open, write-reaches}
@@ -32,6 +32,7 @@ pub record ListReturned (g : Geometry) (c : ℕ) (ws : List ℕ) (b b′ : Targe
   pub effect : b′ .effect ≡ b .effect
   pub room : length (b′ .params) ≡ length (b .params)
   pub memory : b′ .memory ≡ effectOf g c (b .effect) PARAMS (ws ++ behind) (b .memory)
+  pub ended : b′ .running ≡ idle
 
 -- the target after the words of a list
 record Filled (ws : List ℕ) (b b′ : Target) : Type 0 where
@@ -89,4 +90,5 @@ module _ {i : Image} (f : Frame i) (fx : Facts (i .geometry)) where
         effect = ret .effect ∙ d .effect;
         room = ap length (ret .params) ∙ d .room;
         memory = ret .memory ∙ rw (d .effect, d .memory, d .params) refl;
+        ended = ret .ended;
       }) n₂ e₂ st₂
