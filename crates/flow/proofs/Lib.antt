@@ -11,3 +11,5 @@ pub mod Calling
 pub mod Lists
 pub mod Listing
 pub mod Legs
+pub mod Phases
+pub mod Verifying
