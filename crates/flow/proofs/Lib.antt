@@ -13,3 +13,5 @@ pub mod Listing
 pub mod Legs
 pub mod Phases
 pub mod Verifying
+pub mod Programming
+pub mod Locking
