@@ -15,3 +15,5 @@ pub mod Phases
 pub mod Verifying
 pub mod Programming
 pub mod Locking
+pub mod Attempts
+pub mod Acquiring
