@@ -17,3 +17,4 @@ pub mod Programming
 pub mod Locking
 pub mod Attempts
 pub mod Acquiring
+pub mod Finishing

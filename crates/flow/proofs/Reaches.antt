@@ -97,6 +97,16 @@ ended n s b l m t = record { session = reported n s (t .transfers); target = b; 
 unfoldable pub rightSilicon : Image → Silicon → Bool
 rightSilicon i x = eqb (x .high) (metadataAt (i .header) 2) && eqb (x .family) (metadataAt (i .header) 5) && lowFits (i .geometry .part) (x .low)
 
+pub record RightIds (i : Image) (x : Silicon) : Type 0 where
+  pub idcode : eqb (x .idcode) 0x0BB11477 ≡ true
+  pub silicon : rightSilicon i x ≡ true
+
+-- the memory bears the image
+pub record Bears (i : Image) (m : Memory) : Type 0 where
+  pub flash : m .flash ≡ i .flash
+  pub locks : m .locks ≡ i .protection
+  pub level : m .stored ≡ i .header .level
+
 -- what a run is held to: Safe of the memory at each step, Stop where it ends early, Goal where it is to come; Still says that the
 -- lists were calm at the start
 pub record Frame (i : Image) : Type 1 where
@@ -112,6 +122,9 @@ pub record Frame (i : Image) : Type 1 where
   pub safeImage : (m : Memory) → m .stored ≡ i .header .level → Safe m
   -- a mishap is a reason to stop, with its number, if the lists were not calm
   pub caught : (n s : ℕ) (b : Target) (l : Lists) (t : Traffic) → 1 ≤ n → (Still → ⊥) → Safe (b .memory) → Stop (ended n s b l (linkError n) t)
+  -- done
+  pub finished : (b : Target) (l : Lists) (w : Watch) (d : Delays) (t : Traffic) → RightIds i silicon → Bears i (b .memory)
+      → t .transfers ≡ planned + delayed d → (Still → delayed d ≡ 0) → Goal (ended 0 9 b l (watching 0 0 0 w d) t)
   -- another part
   pub wrongId : (s w p a : ℕ) (b : Target) (l : Lists) (x : Watch) (d : Delays) (t : Traffic) → Safe (b .memory)
       → eqb (silicon .idcode) 0x0BB11477 ≡ false → Stop (ended 16 s b l (watching w p a x d) t)
