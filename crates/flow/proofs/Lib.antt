@@ -4,3 +4,17 @@ pub mod Counting
 pub mod Examples
 pub mod Reaches
 pub mod Hearing
+pub mod Transfer
+pub mod Access
+pub mod Polling
+pub mod Calling
+pub mod Lists
+pub mod Listing
+pub mod Legs
+pub mod Phases
+pub mod Verifying
+pub mod Programming
+pub mod Locking
+pub mod Attempts
+pub mod Acquiring
+pub mod Finishing

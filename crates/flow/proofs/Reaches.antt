@@ -1,5 +1,5 @@
 -- What a run is held to on its way: where it stands in the sequence, what it may still hand out, and where it leads. Assumes nothing.
-use mathlib.Core.List.{List, [], _∷_, _++_}
+use mathlib.Core.List.{List, [], _∷_, _++_, append-assoc}
 use mathlib.Core.Path.{_≡_, refl, ap, sym, _∙_}
 use Prim.Native.Nat.{ℕ, zero, suc, _+_, _*_, _≤_}
 use native.Mathlib.Omega.{arith}
@@ -10,7 +10,7 @@ use mathlib.Core.Bool.{Bool, true, false, _&&_}
 use Rattle.flow.specs.Claim.{CalmLine, CalmCalls, NoError}
 use Rattle.flow.specs.Judge.{idsFit}
 use Rattle.flow.specs.Monitor.{Monitor, watching, linkError, Watch, Delays, delayed}
-use Rattle.flow.specs.Plan.{Traffic, counting, isPoll}
+use Rattle.flow.specs.Plan.{Traffic, counting}
 use Rattle.flow.specs.Run.{Run, advance, handedOut}
 use Rattle.flow.specs.Sequence.{move, sequence, endMove}
 use Rattle.flow.specs.Session.{Session, running, reported, moveAt}
@@ -18,6 +18,7 @@ use Rattle.flow.specs.Target.{Target, Memory, Silicon, Lists}
 use Rattle.flow.specs.declared.Entry.{Entry}
 use Rattle.flow.specs.declared.Move.{Move}
 use Rattle.flow.specs.declared.Purpose.{Purpose}
+use Rattle.flow.specs.declared.Purpose.the-variants.{Sent, Idcode, TestBit, Poll, Status, Keep, EntryLevel, Reopened, Same, StoredLevel, LastSum}
 use Rattle.flow.specs.declared.Request.{Request}
 use Rattle.flow.specs.declared.Request.the-variants.{Xres, LineReset, ReadIdcode, ReadDrw, WriteTar, WriteDrw, WriteSetup}
 use Rattle.image.specs.Checks.{metadataAt}
@@ -33,15 +34,33 @@ pub record Purse : Type 0 where
   pub xres : ℕ
   pub lines : ℕ
 
--- each transfer may be handed out 17 times, a poll 9,999 times three transfers more, an attempt 29 times more
+-- each transfer may be handed out 17 times
+abbrev pub spend : Purse → Purse
+spend κ = record { due = suc (κ .due); room = 17 + κ .room; xres = κ .xres; lines = κ .lines }
+
+-- a poll 9,999 times three transfers more
+abbrev pub payRead : Purpose → Purse → Purse
+payRead Sent κ = spend κ
+payRead Idcode κ = spend κ
+payRead TestBit κ = spend κ
+payRead Poll κ = record { due = suc (κ .due); room = 17 + (509949 + κ .room); xres = κ .xres; lines = κ .lines }
+payRead Status κ = spend κ
+payRead Keep κ = spend κ
+payRead EntryLevel κ = spend κ
+payRead Reopened κ = spend κ
+payRead (Same w n) κ = spend κ
+payRead StoredLevel κ = spend κ
+payRead LastSum κ = spend κ
+
+-- an attempt 29 times more
 abbrev pub payFor : Request → Purpose → Purse → Purse
 payFor Xres u κ = record { due = κ .due; room = κ .room; xres = suc (κ .xres); lines = κ .lines }
 payFor LineReset u κ = record { due = κ .due; room = 13 + κ .room; xres = κ .xres; lines = 30 + κ .lines }
-payFor ReadIdcode u κ = record { due = suc (κ .due); room = 17 + κ .room; xres = κ .xres; lines = κ .lines }
-payFor ReadDrw u κ = record { due = suc (κ .due); room = 17 + (509949 * isPoll u + κ .room); xres = κ .xres; lines = κ .lines }
-payFor (WriteTar w) u κ = record { due = suc (κ .due); room = 17 + κ .room; xres = κ .xres; lines = κ .lines }
-payFor (WriteDrw w) u κ = record { due = suc (κ .due); room = 17 + κ .room; xres = κ .xres; lines = κ .lines }
-payFor (WriteSetup r w) u κ = record { due = suc (κ .due); room = 17 + κ .room; xres = κ .xres; lines = κ .lines }
+payFor ReadIdcode u κ = spend κ
+payFor ReadDrw u κ = payRead u κ
+payFor (WriteTar w) u κ = spend κ
+payFor (WriteDrw w) u κ = spend κ
+payFor (WriteSetup r w) u κ = spend κ
 
 unfoldable pub pay : List Move → Purse → Purse
 pay [] κ = κ
@@ -78,6 +97,16 @@ ended n s b l m t = record { session = reported n s (t .transfers); target = b; 
 unfoldable pub rightSilicon : Image → Silicon → Bool
 rightSilicon i x = eqb (x .high) (metadataAt (i .header) 2) && eqb (x .family) (metadataAt (i .header) 5) && lowFits (i .geometry .part) (x .low)
 
+pub record RightIds (i : Image) (x : Silicon) : Type 0 where
+  pub idcode : eqb (x .idcode) 0x0BB11477 ≡ true
+  pub silicon : rightSilicon i x ≡ true
+
+-- the memory bears the image
+pub record Bears (i : Image) (m : Memory) : Type 0 where
+  pub flash : m .flash ≡ i .flash
+  pub locks : m .locks ≡ i .protection
+  pub level : m .stored ≡ i .header .level
+
 -- what a run is held to: Safe of the memory at each step, Stop where it ends early, Goal where it is to come; Still says that the
 -- lists were calm at the start
 pub record Frame (i : Image) : Type 1 where
@@ -93,6 +122,9 @@ pub record Frame (i : Image) : Type 1 where
   pub safeImage : (m : Memory) → m .stored ≡ i .header .level → Safe m
   -- a mishap is a reason to stop, with its number, if the lists were not calm
   pub caught : (n s : ℕ) (b : Target) (l : Lists) (t : Traffic) → 1 ≤ n → (Still → ⊥) → Safe (b .memory) → Stop (ended n s b l (linkError n) t)
+  -- done
+  pub finished : (b : Target) (l : Lists) (w : Watch) (d : Delays) (t : Traffic) → RightIds i silicon → Bears i (b .memory)
+      → t .transfers ≡ planned + delayed d → (Still → delayed d ≡ 0) → Goal (ended 0 9 b l (watching 0 0 0 w d) t)
   -- another part
   pub wrongId : (s w p a : ℕ) (b : Target) (l : Lists) (x : Watch) (d : Delays) (t : Traffic) → Safe (b .memory)
       → eqb (silicon .idcode) 0x0BB11477 ≡ false → Stop (ended 16 s b l (watching w p a x d) t)
@@ -114,9 +146,19 @@ pub record Stood {i : Image} (f : Frame i) (y : Entry) (n : ℕ) (ms : List Move
   pub lines : e .traffic .lineResets + κ .lines ≤ f .most .lineResets
   pub calm : f .Still → StillCalm e
 
+-- less may be left
+pub poorer : {i : Image} {f : Frame i} {y : Entry} {n : ℕ} {ms : List Move} {κ : Purse} {e : Env} (r : ℕ) → r ≤ κ .room → Stood f y n ms κ e
+    → Stood f y n ms (record { due = κ .due; room = r; xres = κ .xres; lines = κ .lines }) e
+poorer r h st = record { at = st .at; spent = st .spent; room = omega (arith, st .room); xres = st .xres; lines = st .lines; calm = st .calm }
+
 -- the moves of ms, then the rest, and what they may cost
 abbrev pub Stands : {i : Image} → Frame i → Entry → ℕ → List Move → List Move → Purse → Env → Type 0
 Stands f y n ms later κ e = Stood f y n (ms ++ later) (pay ms κ) e
+
+-- the first of two lists of moves
+pub split : {i : Image} {f : Frame i} {y : Entry} {n : ℕ} (a b : List Move) (ms : List Move) (κ : Purse) {e : Env}
+    → Stands f y n (a ++ b) ms κ e → Stands f y n a (b ++ ms) (pay b κ) e
+split a b ms κ st = rw (append-assoc a b ms, pay-append a b κ) at st
 
 module _ {i : Image} {f : Frame i} {y : Entry} {n : ℕ} {m : Move} {ms : List Move} {κ : Purse} {e : Env} where
   -- the standing move
@@ -145,3 +187,8 @@ pub data Reaches {i : Image} (f : Frame i) : Run → Type 0 where
 
 pub clear : (w p a : ℕ) (t : Watch) (d : Delays) → NoError (watching w p a t d)
 clear w p a t d n e = let no : _≡_ {A = ℕ} 0 1 = cc in omega arith
+
+-- a step whose outcome is known
+pub steps : {i : Image} (f : Frame i) (r r′ : Run) → f .Safe (r .target .memory) → Bounded f (handedOut i r) → NoError (r .monitor) → advance i r ≡ r′
+    → Reaches f r′ → Reaches f r
+steps f r r′ safe most clean e l = step {r = r} safe most clean (rw e l)

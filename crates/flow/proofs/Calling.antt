@@ -1,0 +1,127 @@
+-- A call, whatever the line and the target do. Assumes nothing.
+use mathlib.Core.Bool.{Bool, true, false, cond}
+use mathlib.Core.List.{List, [], _∷_, _++_}
+use mathlib.Core.Path.{_≡_, refl, ap, sym, _∙_}
+use Prim.Native.Nat.{ℕ, zero, suc, _+_, _*_, _-_, _/_, _%_, _≤_, _<_}
+use native.Mathlib.Omega.{arith}
+use lib.Dec.{eqb, ltb, leb, lit≤}
+use Rattle.flow.specs.Calls.{finish, effectOf, sysargAfter, sysreqAfter, failedArg, leftBy, listAt}
+use Rattle.flow.specs.Claim.{CalmCalls, callsEnd, calmCall}
+use Rattle.flow.specs.Exchange.{isCall}
+use Rattle.flow.specs.Judge.{free, succeeded, judge}
+use Rattle.flow.specs.Map.{Place, atSysreq, atSysarg, place}
+use Rattle.flow.specs.Monitor.{Watch, noticeRead}
+use Rattle.flow.specs.Sequence.{move, call, poll, read, write}
+use Rattle.flow.specs.Target.{Target, Residue, CallOutcome, Running, idle, busy, outcomeOf}
+use Rattle.flow.specs.declared.Entry.{Entry}
+use Rattle.flow.specs.declared.Move.{Move}
+use Rattle.flow.specs.declared.Purpose.the-variants.{Poll, Status}
+use Rattle.flow.proofs.Access.{aim, Admits, Awake, admits, write-reaches, call-reaches, read-still}
+use Rattle.flow.proofs.Places.{place-sysreq, place-sysarg}
+use Rattle.flow.proofs.Polling.{idleAt, during, looping, loopAt, poll-busy, finish-effect}
+use Rattle.flow.proofs.Reaches.{Purse, spend, pay, Env, sync, Frame, Stood, Stands, poorer, Reaches, stop}
+use Rattle.flow.proofs.Table.{Facts}
+use Rattle.image.specs.Image.{Image}
+use Rattle.parts.specs.Sizes.{sysreqOf, sysargOf}
+use Rattle.parts.specs.declared.Geometry.{Geometry}
+
+-- a call's number, as SYSREQ has it
+pub record Command (c : ℕ) : Type 0 where
+  pub started : isCall (0x80000000 + c) ≡ true
+  pub number : (0x80000000 + c) % 256 ≡ c
+
+-- the target once the call is asked for, but for what is under way
+abbrev pub asked : (c w : ℕ) → Target → Target
+asked c w b = record {
+  silicon = b .silicon;
+  memory = b .memory;
+  effect = b .effect;
+  params = b .params;
+  sysarg = w;
+  sysreq = 0x80000000 + c;
+  testMode = b .testMode;
+  tar = b .tar;
+  posted = b .posted;
+  running = b .running;
+}
+
+-- the target after a successful call
+pub record Returned (g : Geometry) (c w : ℕ) (b b′ : Target) : Type 0 where
+  pub silicon : b′ .silicon ≡ b .silicon
+  pub effect : b′ .effect ≡ b .effect
+  pub params : b′ .params ≡ b .params
+  pub memory : b′ .memory ≡ effectOf g c (b .effect) w (listAt w (b .params)) (b .memory)
+  pub sysarg : b′ .sysarg ≡ sysargAfter c (b .silicon) (b .memory)
+  pub sysreq : b′ .sysreq ≡ sysreqAfter c (b .silicon) (b .effect)
+  pub ended : b′ .running ≡ idle
+
+calm-success : {l : List CallOutcome} → CalmCalls l → (outcomeOf l) .succeeds ≡ true
+calm-success callsEnd = refl
+calm-success (calmCall h h′ c) = h′
+
+calm-idle : {l : List CallOutcome} → CalmCalls l → (outcomeOf l) .busyReads ≡ 0
+calm-idle callsEnd = refl
+calm-idle (calmCall h h′ c) = h
+
+failed : (w : ℕ) → succeeded (failedArg w) ≡ false
+unfolding succeeded
+failed w = by (eqb (w / 268435456 % 16) 0xA) refl
+  where
+    by : (t : Bool) → eqb (w / 268435456 % 16) 0xA ≡ t → eqb (failedArg w / 268435456 % 16) 0xA ≡ false
+    by true h = rw h
+    by false h = rw h h
+
+-- the monitor's test of a status
+status-is : (w : ℕ) → eqb (w / 268435456 % 16) 0xA ≡ succeeded w
+unfolding succeeded
+status-is w = refl
+
+pub free-zero : free 0 ≡ true
+unfolding free
+free-zero = refl
+
+module _ {i : Image} (f : Frame i) (fx : Facts (i .geometry)) where
+  -- from the poll on
+  call-tail : (s₀ : Bool) (r₀ : Residue) (q c s : ℕ) {y : Entry} {n : ℕ} {ms : List Move} {κ : Purse} {e : Env} {k : ℕ} (b : Target) (x z : ℕ) {v : Bool}
+      → Stood f y n (poll (i .geometry) s ++ (read s (sysargOf (i .geometry)) Status ++ ms)) (looping 9999 (spend (spend (spend κ)))) e
+      → Awake (b .effect) → f .Safe (b .memory) → ((y : Bool) (r : Residue) → f .Safe ((finish (i .geometry) y r c b) .memory))
+      → (f .Still → q ≡ 0) → (f .Still → s₀ ≡ true)
+      → free (sysreqAfter c (b .silicon) (b .effect)) ≡ true → succeeded (sysargAfter c (b .silicon) (b .memory)) ≡ true
+      → (next : (b′ : Target) → Returned (i .geometry) c (b .sysarg) b b′ → (n′ : ℕ) (e′ : Env) → Stood f y n′ ms κ e′
+      → Reaches f (sync y n′ 0 0 0 k b′ (idleAt (sysargOf (i .geometry))) e′))
+      → Reaches f (sync y n 0 0 0 k (aim x z (during (busy q s₀ r₀ c) b)) (loopAt x v true) e)
+  unfolding finish judge noticeRead
+  call-tail true r₀ q c s b x z st awake safe safes idles wins ready good next =
+      poll-busy f (place-sysreq (i .geometry) fx) true r₀ c b (admits (b .effect) atSysreq refl awake) safe (safes true r₀) ready q 9999 s 0 x z refl st idles λ e₁ h₁ st₁.
+      read-still f s (sysargOf (i .geometry)) Status st₁ atSysarg (place-sysarg (i .geometry) fx) (admits (b .effect) atSysarg refl awake) (safes true r₀)
+      (λ o. sysargAfter c (b .silicon) (b .memory)) (λ o z. refl) λ o o′ e₂ h₂ st₂.
+      rw (good, status-is (sysargAfter c (b .silicon) (b .memory)), good) (
+      next _ (record { silicon = refl; effect = refl; params = refl; memory = refl; sysarg = refl; sysreq = refl; ended = refl }) _ e₂ st₂)
+  call-tail false r₀ q c s b x z st awake safe safes idles wins ready good next =
+      poll-busy f (place-sysreq (i .geometry) fx) false r₀ c b (admits (b .effect) atSysreq refl awake) safe (safes false r₀) free-zero q 9999 s 0 x z refl st idles λ e₁ h₁ st₁.
+      read-still f s (sysargOf (i .geometry)) Status st₁ atSysarg (place-sysarg (i .geometry) fx) (admits (b .effect) atSysarg refl awake) (safes false r₀)
+      (λ o. failedArg (r₀ .sysarg)) (λ o z. refl) λ o o′ e₂ h₂ st₂.
+      rw (failed (r₀ .sysarg), status-is (failedArg (r₀ .sysarg)), failed (r₀ .sysarg)) (
+      stop (f .caught 19 s _ _ _ (lit≤ tt) (λ still. let no′ : false ≡ true = wins still in let z : _≡_ {A = ℕ} 0 1 = cc in omega arith) (safes false r₀)))
+
+  -- what a call may cost
+  call-purse : (s c w : ℕ) {y : Entry} {n : ℕ} (ms : List Move) (κ : Purse) {e : Env} → Stands f y n (call (i .geometry) s c w) ms κ e
+      → Stood f y n (call (i .geometry) s c w ++ ms) (spend (spend (spend (spend (looping 9999 (spend (spend (spend κ)))))))) e
+  unfolding call write read pay
+  call-purse s c w ms κ st = poorer (17 + (17 + (17 + (17 + (51 * 10000 + (17 + (17 + (17 + κ .room)))))))) (omega arith) st
+
+  pub calling : (s c w : ℕ) {y : Entry} {n : ℕ} {ms : List Move} {κ : Purse} {e : Env} {k : ℕ} {b : Target} {t : Watch}
+      → Command c → Stands f y n (call (i .geometry) s c w) ms κ e
+      → Awake (b .effect) → f .Safe (b .memory) → ((y : Bool) (r : Residue) → f .Safe ((finish (i .geometry) y r c (asked c w b)) .memory))
+      → free (sysreqAfter c (b .silicon) (b .effect)) ≡ true → succeeded (sysargAfter c (b .silicon) (b .memory)) ≡ true
+      → (next : (b′ : Target) → Returned (i .geometry) c w b b′ → (n′ : ℕ) (e′ : Env) → Stood f y n′ ms κ e′
+      → Reaches f (sync y n′ 0 0 0 k b′ (idleAt (sysargOf (i .geometry))) e′))
+      → Reaches f (sync y n 0 0 0 k b t e)
+  unfolding call write read pay
+  calling s c w {ms = ms} {κ = κ} {b = b} cmd st awake safe safes ready good next =
+      write-reaches f s (sysargOf (i .geometry)) w (call-purse s c w ms κ st) atSysarg (place-sysarg (i .geometry) fx) (admits (b .effect) atSysarg refl awake) safe refl λ e₁ h₁ st₁.
+      call-reaches f s (sysreqOf (i .geometry)) (0x80000000 + c) st₁ (place-sysreq (i .geometry) fx) (admits (b .effect) atSysreq refl awake) safe (cmd .started) λ e₂ h₂ st₂.
+      rw (cmd .number) (
+      call-tail ((outcomeOf (e₁ .lists .calls)) .succeeds) ((outcomeOf (e₁ .lists .calls)) .residue) ((outcomeOf (e₁ .lists .calls)) .busyReads) c s (asked c w b) (sysreqOf (i .geometry)) (b .posted)
+      st₂ awake safe safes (λ still. calm-idle ((st₁ .calm still) .calls)) (λ still. calm-success ((st₁ .calm still) .calls)) ready good
+      λ b′ ret n′ e′ st′. next b′ (record { silicon = ret .silicon; effect = ret .effect; params = ret .params; memory = ret .memory; sysarg = ret .sysarg; sysreq = ret .sysreq; ended = ret .ended }) n′ e′ st′)

@@ -1,0 +1,183 @@
+-- Steps 4 to 9. Assumes nothing.
+use mathlib.Core.Bool.{Bool, true, false}
+use mathlib.Core.List.{List, [], _∷_, _++_}
+use mathlib.Core.Logic.{inl}
+use mathlib.Core.Path.{_≡_, refl, ap, sym, subst, _∙_}
+use Prim.Native.Nat.{ℕ, zero, suc, _+_, _*_, _-_, _/_, _%_, _≤_, _<_}
+use native.Mathlib.Nat.{zero-mul}
+use native.Mathlib.Omega.{arith}
+use lib.Dec.{eqb}
+use lib.ListN.{length, take}
+use borrow.Author.Tests.{eq-eqb}
+use Rattle.flow.specs.Calls.{finish, effectOf, sysargAfter, sysreqAfter, leftBy}
+use Rattle.flow.specs.Judge.{free, succeeded, sumsFit, judge}
+use Rattle.flow.specs.Map.{atSysarg}
+use Rattle.flow.specs.Monitor.{watching, noticeRead}
+use Rattle.flow.specs.Run.{Run}
+use Rattle.flow.specs.Sequence.{key, call, read, privileged, pieces, programRow, verifyFlash, lockMacro, verifyMacro, program}
+use Rattle.flow.specs.Session.{settled}
+use Rattle.flow.specs.Target.{Target, Silicon, Memory, Residue}
+use Rattle.flow.specs.declared.Entry.{Entry}
+use Rattle.flow.specs.declared.Move.{Move}
+use Rattle.flow.specs.declared.Purpose.{Purpose}
+use Rattle.flow.specs.declared.Purpose.the-variants.{Keep, StoredLevel, LastSum}
+use Rattle.flow.proofs.Access.{admits-open, read-still}
+use Rattle.flow.proofs.Calling.{Command, calling}
+use Rattle.flow.proofs.Legs.{Core, core, Leg}
+use Rattle.flow.proofs.Locking.{macros-leg}
+use Rattle.flow.proofs.Phases.{Valid, Opened, Sized, Kept, Wrote, Locked, level-safe, wrote-all, locked-all, last-level, same-core}
+use Rattle.flow.proofs.Places.{place-sysarg}
+use Rattle.flow.proofs.Polling.{idleAt}
+use Rattle.flow.proofs.Programming.{rows-leg}
+use Rattle.flow.proofs.Reaches.{Purse, spend, pay, Env, sync, RightIds, Bears, Frame, Stood, Stands, split, Reaches, here}
+use Rattle.flow.proofs.Table.{Facts}
+use Rattle.flow.proofs.Verifying.{flash-leg, locks-leg, level-leg}
+use Rattle.image.specs.Image.{Image}
+use Rattle.image.specs.Words.{total}
+use Rattle.parts.specs.Sizes.{rowBytes, macrosOf, rowsPerMacro, rowsOf, sysargOf, levelAt}
+use Rattle.parts.specs.declared.Geometry.{Geometry}
+
+commandB : Command 0x0B
+commandB = record { started = refl; number = refl }
+
+free-B : (x : Silicon) (l : ℕ) → free (sysreqAfter 0x0B x l) ≡ true
+unfolding free sysreqAfter
+free-B x l = refl
+
+-- the privileged sum
+abbrev sumOf : Silicon → Memory → ℕ
+sumOf x m = (x .privilegedSum + total (m .flash)) % 268435456
+
+sysarg-B : (x : Silicon) (m : Memory) → sysargAfter 0x0B x m ≡ 0xA0000000 + sumOf x m
+unfolding sysargAfter
+sysarg-B x m = refl
+
+good-B : (x : Silicon) (m : Memory) → succeeded (sysargAfter 0x0B x m) ≡ true
+unfolding succeeded
+good-B x m = rw (sysarg-B x m) (eq-eqb ((0xA0000000 + sumOf x m) / 268435456 % 16) 0xA (omega arith))
+
+low-28 : (x : Silicon) (m : Memory) → sysargAfter 0x0B x m % 268435456 ≡ sumOf x m
+low-28 x m = rw (sysarg-B x m) (omega arith)
+
+still-B : (g : Geometry) (y : Bool) (r : Residue) (b : Target) → (finish g y r 0x0B b) .memory ≡ b .memory
+unfolding finish effectOf leftBy
+still-B g true r b = refl
+still-B g false r b = refl
+
+effect-B : (g : Geometry) (l a : ℕ) (ps : List ℕ) (m : Memory) → effectOf g 0x0B l a ps m ≡ m
+unfolding effectOf
+effect-B g l a ps m = refl
+
+-- the difference of the two sums is the flash's own sum
+sums-fit : (i : Image) (x : Silicon) (m : Memory) (k : ℕ) → k % 268435456 ≡ x .privilegedSum % 268435456 → m .flash ≡ i .flash → total (i .flash) % 65536 ≡ i .header .sum
+    → sumsFit i (sysargAfter 0x0B x m) k ≡ true
+unfolding sumsFit
+sums-fit i x m k hk hf hs = eq-eqb ((sysargAfter 0x0B x m % 268435456 + 268435456 - k % 268435456) % 65536) (i .header .sum) (rw (low-28 x m, hk, hf) (omega arith))
+
+-- an erased target, OPEN in effect
+pub record Blank {i : Image} (f : Frame i) (k : ℕ) (c : Core) : Type 0 where
+  pub opened : Opened f c
+  pub sized : Sized f (c .memory)
+  pub level : c .memory .stored ≡ 1
+  pub erased : total (c .memory .flash) ≡ 0
+
+unfoldable pub nothing : Purse
+nothing = record { due = 0; room = 0; xres = 0; lines = 0 }
+
+module _ {i : Image} (f : Frame i) (fx : Facts (i .geometry)) (v : Valid i) where
+  abbrev sumWord : ℕ
+  sumWord = key 0x0B + 0x80000000
+
+  -- the run after the Read of SYSARG
+  abbrev summed : (s : ℕ) → Purpose → Entry → (n k : ℕ) → Memory → Target → Env → Run
+  summed s u y n k m b e = record {
+    session = settled (judge i u 0 k (sysargAfter 0x0B (f .silicon) m)) y n s 0 (e .traffic .transfers);
+    target = b;
+    lists = e .lists;
+    monitor = watching 0 0 0 (idleAt (sysargOf (i .geometry))) (e .delays);
+    traffic = e .traffic;
+  }
+
+  sum-reaches : (s : ℕ) (u : Purpose) {y : Entry} {n x k : ℕ} {ms : List Move} {κ : Purse} {e : Env} {b : Target} → Opened f (core b) → f .Safe (b .memory)
+      → Stands f y n (call (i .geometry) s 0x0B sumWord) (read s (sysargOf (i .geometry)) u ++ ms) (spend (spend (spend κ))) e
+      → (next : (b′ : Target) → core b′ ≡ core b → (n′ : ℕ) (e′ : Env) → Stood f y (suc n′) ms κ e′ → Reaches f (summed s u y n′ k (b .memory) b′ e′))
+      → Reaches f (sync y n 0 0 0 k b (idleAt x) e)
+  unfolding noticeRead
+  sum-reaches s u {b = b} p safe st next =
+      calling f fx s 0x0B sumWord commandB st (inl (p .effect)) safe (λ y r. rw (still-B (i .geometry) y r _) safe) (free-B _ _) (good-B _ _) λ b₁ ret n₁ e₁ st₁.
+      let arg : b₁ .sysarg ≡ sysargAfter 0x0B (f .silicon) (b .memory) = ret .sysarg ∙ rw (p .silicon) in
+      read-still f s (sysargOf (i .geometry)) u st₁ atSysarg (place-sysarg (i .geometry) fx) (admits-open (b₁ .effect) atSysarg (ret .effect ∙ p .effect))
+      (rw (ret .memory, effect-B) safe) (λ o. sysargAfter 0x0B (f .silicon) (b .memory)) (λ o z. rw arg) λ _ _ e₂ _ st₂.
+      next _ (same-core ret (ret .memory ∙ effect-B _ _ _ _ _) (p .quiet)) _ e₂ st₂
+
+  -- step 4
+  first-leg : (y : Entry) → Leg f y (privileged (i .geometry) 4 Keep) (Blank f) (Wrote f 0)
+  unfolding privileged read pay judge
+  first-leg y = record {
+    along = λ n x k later κ e b p st next.
+        sum-reaches 4 Keep (p .opened) (f .safeOpen _ (p .level)) (split (call (i .geometry) 4 0x0B sumWord) (read 4 (sysargOf (i .geometry)) Keep) later κ st) λ b′ same n′ e′ st′.
+        next (sysargAfter 0x0B (f .silicon) (b .memory)) b′ (subst (Wrote f 0 _) (sym same) (wrote k b p)) (suc n′) _ e′ st′;
+  }
+    where
+      wrote : (k : ℕ) (b : Target) → Blank f k (core b) → Wrote f 0 (sysargAfter 0x0B (f .silicon) (b .memory)) (core b)
+      wrote k b p = record {
+        opened = p .opened;
+        sized = p .sized;
+        done = rw (zero-mul (rowBytes (i .geometry)));
+        level = p .level;
+        kept = rw (low-28 (f .silicon) (b .memory), p .erased) (omega arith);
+      }
+
+  -- what follows each step
+  abbrev after8 : List Move
+  after8 = read 8 (levelAt (i .geometry)) StoredLevel ++ privileged (i .geometry) 9 LastSum
+
+  abbrev after7 : List Move
+  after7 = pieces (verifyMacro i) 0 (macrosOf (i .geometry)) ++ after8
+
+  abbrev after6 : List Move
+  after6 = pieces (lockMacro i) 0 (macrosOf (i .geometry)) ++ after7
+
+  abbrev after5 : List Move
+  after5 = verifyFlash i ++ after6
+
+  abbrev after4 : List Move
+  after4 = pieces (programRow i) 0 (rowsOf (i .geometry)) ++ after5
+
+  -- the locks are still to come
+  unlocked : {k : ℕ} {c : Core} → Wrote f (rowsOf (i .geometry)) k c → Locked f 0 k c
+  unlocked w = record {
+    opened = w .opened;
+    flash = wrote-all v w;
+    sized = w .sized;
+    done = rw (zero-mul (rowsPerMacro (i .geometry) / 8));
+    level = w .level;
+    kept = w .kept;
+  }
+
+  -- step 9
+  last-reaches : {y : Entry} {n x k : ℕ} {e : Env} {b : Target} → RightIds i (f .silicon) → Locked f (macrosOf (i .geometry)) k (core b)
+      → Stands f y n (privileged (i .geometry) 9 LastSum) [] nothing e → Reaches f (sync y n 0 0 0 k b (idleAt x) e)
+  unfolding privileged read pay judge nothing
+  last-reaches {k = k} {b = b} right p st =
+      sum-reaches 9 LastSum {κ = nothing} (p .opened) (level-safe f (macrosOf (i .geometry)) (b .memory) (p .level))
+      (split (call (i .geometry) 9 0x0B sumWord) (read 9 (sysargOf (i .geometry)) LastSum) [] nothing st) λ b′ same n′ e′ st′.
+      rw (sums-fit i (f .silicon) (b .memory) k (p .kept) (p .flash) (v .sum)) (
+      here (f .finished b′ (e′ .lists) (idleAt (sysargOf (i .geometry))) (e′ .delays) (e′ .traffic) right (bears b′ same) (omega (arith, st′ .spent)) (λ still. (st′ .calm still) .none)))
+    where
+      bears : (b′ : Target) → core b′ ≡ core b → Bears i (b′ .memory)
+      bears b′ same =
+          let m : b′ .memory ≡ b .memory = ap (λ (c : Core). c .memory) same in
+          rw m (record { flash = p .flash; locks = locked-all v fx p; level = last-level fx p })
+
+  pub program-reaches : {y : Entry} {n x k : ℕ} {e : Env} {b : Target} → RightIds i (f .silicon) → Blank f k (core b) → Stands f y n (program i) [] nothing e
+      → Reaches f (sync y n 0 0 0 k b (idleAt x) e)
+  unfolding program
+  program-reaches {y} right blank st =
+      (first-leg y) .along _ _ _ _ _ _ _ blank (split (privileged (i .geometry) 4 Keep) after4 [] nothing st) λ k₁ b₁ w₁ n₁ x₁ e₁ st₁.
+      (rows-leg f fx v y) .along _ _ _ _ _ _ _ w₁ (split (pieces (programRow i) 0 (rowsOf (i .geometry))) after5 [] nothing st₁) λ k₂ b₂ w₂ n₂ x₂ e₂ st₂.
+      (flash-leg f y fx v) .along _ _ _ _ _ _ _ w₂ (split (verifyFlash i) after6 [] nothing st₂) λ k₃ b₃ w₃ n₃ x₃ e₃ st₃.
+      (macros-leg f fx v y) .along _ _ _ _ _ _ _ (unlocked w₃) (split (pieces (lockMacro i) 0 (macrosOf (i .geometry))) after7 [] nothing st₃) λ k₄ b₄ w₄ n₄ x₄ e₄ st₄.
+      (locks-leg f y fx v) .along _ _ _ _ _ _ _ w₄ (split (pieces (verifyMacro i) 0 (macrosOf (i .geometry))) after8 [] nothing st₄) λ k₅ b₅ w₅ n₅ x₅ e₅ st₅.
+      (level-leg f y fx v) .along _ _ _ _ _ _ _ w₅ (split (read 8 (levelAt (i .geometry)) StoredLevel) (privileged (i .geometry) 9 LastSum) [] nothing st₅) λ k₆ b₆ w₆ n₆ x₆ e₆ st₆.
+      last-reaches right w₆ st₆

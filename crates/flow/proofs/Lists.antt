@@ -1,0 +1,90 @@
+-- Words and bytes; bytes laid over a list. Assumes nothing.
+use mathlib.Core.List.{List, [], _∷_, _++_, append-assoc, append-nil}
+use mathlib.Core.Path.{_≡_, refl, ap, _∙_, sym}
+use Prim.Native.Nat.{ℕ, zero, suc, _+_, _*_, _-_, _/_, _%_, _≤_, _<_, min}
+use native.Mathlib.Numerals.{towards-suc}
+use native.Mathlib.Omega.{arith}
+use lib.ListN.{length, getD, take, drop, replicate, length-append, length-take, length-drop, drop-of-length-le}
+use lib.Seq.{drop-cons, take-append-seam, drop-append-add, take-append-add, length-take-le, take-all, take-at, take-append-le}
+use Rattle.flow.specs.Calls.{bytesOf, bytesIn}
+use Rattle.flow.specs.Target.{lay}
+use Rattle.image.specs.Words.{total, wordAt, wordsAt}
+
+-- every element is a byte
+abbrev pub Small : List ℕ → Type 0
+Small l = (j : ℕ) → getD l j 0 < 256
+
+bytes-word : (a b c d : ℕ) → a < 256 → b < 256 → c < 256 → d < 256 → bytesOf (a + 256 * b + 65536 * c + 16777216 * d) ≡ a ∷ b ∷ c ∷ d ∷ []
+bytes-word a b c d ha hb hc hd = rw (e₀, e₁, e₂, e₃)
+  where
+    e₀ : (a + 256 * b + 65536 * c + 16777216 * d) % 256 ≡ a
+    e₀ = omega arith
+
+    e₁ : (a + 256 * b + 65536 * c + 16777216 * d) / 256 % 256 ≡ b
+    e₁ = omega arith
+
+    e₂ : (a + 256 * b + 65536 * c + 16777216 * d) / 65536 % 256 ≡ c
+    e₂ = omega arith
+
+    e₃ : (a + 256 * b + 65536 * c + 16777216 * d) / 16777216 % 256 ≡ d
+    e₃ = omega arith
+
+take-four : (l : List ℕ) (o m : ℕ) → o + 4 ≤ length l
+    → take (suc (suc (suc (suc m)))) (drop o l) ≡ getD l o 0 ∷ getD l (o + 1) 0 ∷ getD l (o + 2) 0 ∷ getD l (o + 3) 0 ∷ take m (drop (o + 4) l)
+take-four l o m h =
+    rw (drop-cons l o 0 (omega arith), drop-cons l (suc o) 0 (omega arith), drop-cons l (suc (suc o)) 0 (omega arith), drop-cons l (suc (suc (suc o))) 0 (omega arith))
+    (simp towards-suc)
+
+pub bytes-words : (l : List ℕ) (o n : ℕ) → Small l → o + 4 * n ≤ length l → bytesIn (wordsAt l o n) ≡ take (4 * n) (drop o l)
+unfolding bytesIn wordsAt wordAt
+bytes-words l o zero small h = refl
+bytes-words l o (suc n) small h =
+    let e : 4 * suc n ≡ suc (suc (suc (suc (4 * n)))) = omega arith in
+    ap (λ (y : List ℕ). y ++ bytesIn (wordsAt l (o + 4) n))
+    (bytes-word (getD l o 0) (getD l (o + 1) 0) (getD l (o + 2) 0) (getD l (o + 3) 0) (small o) (small (o + 1)) (small (o + 2)) (small (o + 3)))
+    ∙ rw (bytes-words l (o + 4) n small (omega arith), e, take-four l o (4 * n) (omega arith))
+
+bytes-append : (a b : List ℕ) → bytesIn (a ++ b) ≡ bytesIn a ++ bytesIn b
+unfolding bytesIn
+bytes-append [] b = refl
+bytes-append (w ∷ a) b = ap (λ (y : List ℕ). bytesOf w ++ y) (bytes-append a b)
+
+pub length-part : (n o : ℕ) (l : List ℕ) → o + n ≤ length l → length (take n (drop o l)) ≡ n
+length-part n o l h = simp (length-take, length-drop) (omega arith)
+
+-- n bytes sent as words come back as bytes
+pub sent-bytes : (n o : ℕ) (l behind : List ℕ) → 4 * (n / 4) ≡ n → 1 ≤ n → Small l → o + n ≤ length l
+    → take (n - 1 + 1) (bytesIn (wordsAt l o (n / 4) ++ behind)) ≡ take n (drop o l)
+sent-bytes n o l behind hq hn small room =
+    let e : n - 1 + 1 ≡ n = omega arith in
+    rw (e, bytes-append, bytes-words l o (n / 4) small (omega arith), hq) (take-at (take n (drop o l)) (bytesIn behind) n (length-part n o l room))
+
+-- ---- bytes laid over a list
+
+-- where they fit, nothing is cut
+pub lay-fits : (l x : List ℕ) (o : ℕ) → o + length x ≤ length l → lay l o x ≡ take o l ++ (x ++ drop (o + length x) l)
+lay-fits l x o h = take-all (length l) (take o l ++ (x ++ drop (o + length x) l)) (simp (length-append, length-take, length-drop) (omega arith))
+
+pub length-lay : (l x : List ℕ) (o : ℕ) → length (lay l o x) ≡ length l
+length-lay l x o = length-take-le (length l) (take o l ++ (x ++ drop (o + length x) l)) (simp (length-append, length-take, length-drop) (omega arith))
+
+pub take-lay : (l x : List ℕ) (o : ℕ) → o + length x ≤ length l → take (o + length x) (lay l o x) ≡ take o l ++ x
+take-lay l x o h =
+    ap (take (o + length x)) (lay-fits l x o h)
+    ∙ ap (λ (n : ℕ). take (n + length x) (take o l ++ (x ++ drop (o + length x) l))) (sym (length-take-le o l (omega arith)))
+    ∙ take-append-add (take o l) (x ++ drop (o + length x) l) (length x)
+    ∙ ap (λ (y : List ℕ). take o l ++ y) (take-append-seam x (drop (o + length x) l))
+
+pub lay-whole : (l x : List ℕ) → length x ≡ length l → lay l 0 x ≡ x
+lay-whole l x h = lay-fits l x 0 (omega arith) ∙ rw (drop-of-length-le l {i = 0 + length x} (omega arith)) (append-nil x)
+
+-- one word behind those of `pre`
+pub lay-next : (pre tl : List ℕ) (w : ℕ) → 1 ≤ length tl → lay (pre ++ tl) (length pre) (w ∷ []) ≡ (pre ++ (w ∷ [])) ++ drop 1 tl
+lay-next pre tl w h =
+    lay-fits (pre ++ tl) (w ∷ []) (length pre) (rw (length-append pre tl) (omega arith))
+    ∙ rw (take-append-seam pre tl, drop-append-add pre tl 1, append-assoc pre (w ∷ []) (drop 1 tl))
+
+pub total-zero : (n : ℕ) → total (replicate n 0) ≡ 0
+unfolding total
+total-zero zero = refl
+total-zero (suc n) = let ih = total-zero n in omega arith

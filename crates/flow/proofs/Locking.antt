@@ -1,0 +1,158 @@
+-- Step 7: a macro's locks, and all macros'. Assumes nothing.
+use mathlib.Core.Bool.{Bool, true, false, _&&_, cond}
+use mathlib.Core.List.{List, [], _∷_, _++_}
+use mathlib.Core.Logic.{inl}
+use mathlib.Core.Path.{_≡_, refl, ap, sym, _∙_}
+use Prim.Native.Nat.{ℕ, zero, suc, _+_, _*_, _-_, _/_, _%_, _≤_, _<_}
+use native.Mathlib.Nat.{mul-le-mul-right, suc-mul}
+use native.Mathlib.Omega.{arith}
+use lib.Dec.{eqb, eqb·suc-zero}
+use lib.ListN.{length, take, drop}
+use lib.Seq.{take-add}
+use Rattle.flow.specs.Calls.{finish, effectOf, leftBy, protect, levelSent, macroSent, listAt}
+use Rattle.flow.specs.Sequence.{key, call, listed, latchList, lockStart, lockMacro, pieces}
+use Rattle.flow.specs.Target.{Target, Memory, Residue, lay}
+use Rattle.flow.specs.declared.Entry.{Entry}
+use Rattle.flow.proofs.Calling.{Returned, asked, calling}
+use Rattle.flow.proofs.Counting.{length-words}
+use Rattle.flow.proofs.Legs.{Core, core, Leg, leg-pieces}
+use Rattle.flow.proofs.Listing.{ListReturned, listing}
+use Rattle.flow.proofs.Lists.{length-part, length-lay, take-lay}
+use Rattle.flow.proofs.Phases.{Level, isOpen, isProtected, isKill, Valid, Opened, Sized, Locked, levelAfter, level-safe, call4, callD, steady-4}
+use Rattle.flow.proofs.Programming.{effect-4}
+use Rattle.flow.proofs.Reaches.{Frame, split}
+use Rattle.flow.proofs.Table.{Facts}
+use Rattle.image.specs.Image.{Image}
+use Rattle.parts.specs.Sizes.{rowBytes, macrosOf, rowsPerMacro, locksIn, lockTotal, PARAMS}
+use Rattle.parts.specs.declared.Geometry.{Geometry}
+
+pub level-small : {l : ℕ} → Level l → l < 16
+level-small isOpen = omega arith
+level-small isProtected = omega arith
+level-small isKill = omega arith
+
+-- the word of call 0x0D
+abbrev pub lockWord : (l m : ℕ) → ℕ
+lockWord l m = key 0x0D + l * 0x10000 + m * 0x1000000
+
+sent-level : (l m : ℕ) → l < 16 → levelSent (lockWord l m) ≡ l
+sent-level l m h = omega arith
+
+sent-macro : (l m : ℕ) → l < 16 → macroSent (lockWord l m) ≡ m
+sent-macro l m h = omega arith
+
+effect-D : (g : Geometry) (lv l m : ℕ) (ps : List ℕ) (x : Memory) → l < 16 → lv ≡ 1 → effectOf g 0x0D lv (lockWord l m) ps x ≡ protect g l m x
+unfolding effectOf
+effect-D g lv l m ps x h e = rw (e, sent-level l m h, sent-macro l m h)
+
+next-level : (i : Image) (m old : ℕ) → old ≡ levelAfter i m → cond (eqb m 0) (i .header .level) old ≡ i .header .level
+next-level i zero old h = refl
+next-level i (suc m) old h = rw (eqb·suc-zero m) h
+
+-- whatever call 0x0D comes to, the level stored is the old one or the one sent
+safe-D : {i : Image} (f : Frame i) (y : Bool) (r : Residue) (l m : ℕ) (b : Target) → l < 16 → b .effect ≡ 1 → b .sysarg ≡ lockWord l m
+    → ((x : Memory) → x .stored ≡ l → f .Safe x) → ((x : Memory) → x .stored ≡ b .memory .stored → f .Safe x) → f .Safe ((finish (i .geometry) y r 0x0D b) .memory)
+unfolding finish leftBy
+safe-D {i} f true r l m b h he ha new old = rw (ha, effect-D (i .geometry) (b .effect) l m (listAt (lockWord l m) (b .params)) (b .memory) h he) (by (eqb m 0) refl)
+  where
+    by : (y : Bool) → eqb m 0 ≡ y → f .Safe (protect (i .geometry) l m (b .memory))
+    by true e = new _ (rw e)
+    by false e = old _ (rw e)
+safe-D {i} f false r l m b h he ha new old = by (r .newLevel && true && eqb (macroSent (b .sysarg)) 0) refl
+  where
+    by : (y : Bool) → r .newLevel && true && eqb (macroSent (b .sysarg)) 0 ≡ y → f .Safe (leftBy 0x0D (b .sysarg) r (b .memory))
+    by true e = new _ (rw e (rw ha (sent-level l m h)))
+    by false e = old _ (rw e)
+
+module _ {i : Image} (f : Frame i) (fx : Facts (i .geometry)) (v : Valid i) (m : ℕ) (room : m < macrosOf (i .geometry)) where
+  -- the macro's protection bytes, and the list of call 4
+  abbrev bytes : List ℕ
+  bytes = take (locksIn (i .geometry) m) (drop (lockStart (i .geometry) m) (i .protection))
+
+  abbrev lockList : List ℕ
+  lockList = latchList m (locksIn (i .geometry) m) (i .protection) (lockStart (i .geometry) m)
+
+  -- the next macro's start
+  next-start : lockStart (i .geometry) (suc m) ≡ lockStart (i .geometry) m + locksIn (i .geometry) m
+  unfolding locksIn
+  next-start = suc-mul m (rowsPerMacro (i .geometry) / 8)
+
+  locks-fit : lockStart (i .geometry) m + locksIn (i .geometry) m ≤ lockTotal (i .geometry)
+  unfolding locksIn
+  locks-fit = omega (arith, fx .lockAll, mul-le-mul-right (rowsPerMacro (i .geometry) / 8) room, suc-mul m (rowsPerMacro (i .geometry) / 8))
+
+  bytes-size : length bytes ≡ locksIn (i .geometry) m
+  bytes-size = length-part (locksIn (i .geometry) m) (lockStart (i .geometry) m) (i .protection) (omega (arith, v .locks, locks-fit))
+
+  abbrev latched : Memory → Memory
+  latched x = record { flash = x .flash; locks = x .locks; latch = lay (x .latch) 0 bytes; stored = x .stored }
+
+  -- the two calls of a macro
+  macro-memory : (l l′ a : ℕ) (z ps : List ℕ) (x : Memory) → l′ ≡ 1
+      → effectOf (i .geometry) 0x0D l′ (lockWord (i .header .level) m) ps (effectOf (i .geometry) 4 l a (lockList ++ z) x) ≡ protect (i .geometry) (i .header .level) m (latched x)
+  macro-memory l l′ a z ps x e =
+      ap (effectOf (i .geometry) 0x0D l′ (lockWord (i .header .level) m) ps)
+      (effect-4 (i .geometry) l a m (locksIn (i .geometry) m) (lockStart (i .geometry) m) (i .protection) z x (fx .lockQuads m) (fx .lockSome m) (v .lockSmall) (omega (arith, v .locks, locks-fit)))
+      ∙ effect-D (i .geometry) l′ (i .header .level) m ps _ (level-small (v .level)) e
+
+  -- the latch's first bytes are the macro's
+  first-bytes : (x : List ℕ) → length x ≡ rowBytes (i .geometry) → take (locksIn (i .geometry) m) (lay x 0 bytes) ≡ bytes
+  first-bytes x h =
+      let e : locksIn (i .geometry) m ≡ 0 + length bytes = omega (arith, bytes-size) in
+      ap (λ (n : ℕ). take n (lay x 0 bytes)) e ∙ take-lay x bytes 0 (omega (arith, bytes-size, fx .lockFit m))
+
+  macro-done : (x : List ℕ) → length x ≡ lockTotal (i .geometry) → take (lockStart (i .geometry) m) x ≡ take (lockStart (i .geometry) m) (i .protection)
+      → take (lockStart (i .geometry) (suc m)) (lay x (lockStart (i .geometry) m) bytes) ≡ take (lockStart (i .geometry) (suc m)) (i .protection)
+  macro-done x h done = rw next-start (
+      ap (λ (n : ℕ). take (lockStart (i .geometry) m + n) (lay x (lockStart (i .geometry) m) bytes)) (sym bytes-size)
+      ∙ take-lay x bytes (lockStart (i .geometry) m) (omega (arith, bytes-size, locks-fit))
+      ∙ ap (λ (y : List ℕ). y ++ bytes) done
+      ∙ sym (take-add (lockStart (i .geometry) m) (locksIn (i .geometry) m) (i .protection)))
+
+  locked : (k : ℕ) (b b₁ b₂ : Target) → Locked f m k (core b) → ListReturned (i .geometry) 4 lockList b b₁ → Returned (i .geometry) 0x0D (lockWord (i .header .level) m) b₁ b₂
+      → Locked f (suc m) k (core b₂)
+  locked k b b₁ b₂ w r₁ r₂ =
+      let e : b₂ .memory ≡ protect (i .geometry) (i .header .level) m (latched (b .memory)) =
+      r₂ .memory ∙ rw (r₁ .memory) (macro-memory (b .effect) (b₁ .effect) PARAMS (r₁ .behind) _ (b .memory) (r₁ .effect ∙ w .opened .effect)) in
+      let first : take (locksIn (i .geometry) m) (lay (b .memory .latch) 0 bytes) ≡ bytes = first-bytes (b .memory .latch) (w .sized .latch) in
+      record {
+        opened = record {
+          silicon = r₂ .silicon ∙ r₁ .silicon ∙ w .opened .silicon;
+          effect = r₂ .effect ∙ r₁ .effect ∙ w .opened .effect;
+          room = rw (r₂ .params, r₁ .room) (w .opened .room);
+          quiet = r₂ .ended;
+        };
+        flash = ap (λ (x : Memory). x .flash) e ∙ w .flash;
+        sized = record {
+          flash = ap (λ (x : Memory). length (x .flash)) e ∙ w .sized .flash;
+          locks = ap (λ (x : Memory). length (x .locks)) e ∙ length-lay (b .memory .locks) (take (locksIn (i .geometry) m) (lay (b .memory .latch) 0 bytes)) (lockStart (i .geometry) m) ∙ w .sized .locks;
+          latch = ap (λ (x : Memory). length (x .latch)) e ∙ length-lay (b .memory .latch) bytes 0 ∙ w .sized .latch;
+        };
+        done = ap (λ (x : Memory). take (lockStart (i .geometry) (suc m)) (x .locks)) e
+            ∙ ap (λ (z : List ℕ). take (lockStart (i .geometry) (suc m)) (lay (b .memory .locks) (lockStart (i .geometry) m) z)) first
+            ∙ macro-done (b .memory .locks) (w .sized .locks) (w .done);
+        level = ap (λ (x : Memory). x .stored) e ∙ next-level i m (b .memory .stored) (w .level);
+        kept = w .kept;
+      }
+
+  stored-4 : (b b₁ : Target) → b .memory .stored ≡ levelAfter i m → ListReturned (i .geometry) 4 lockList b b₁ → b₁ .memory .stored ≡ levelAfter i m
+  unfolding effectOf
+  stored-4 b b₁ h r₁ = ap (λ (x : Memory). x .stored) (r₁ .memory) ∙ h
+
+  macro-leg : (y : Entry) → Leg f y (lockMacro i m) (Locked f m) (Locked f (suc m))
+  unfolding lockMacro
+  macro-leg y = record {
+    along = λ n x k later κ e b w st next.
+        listing f fx 7 4 lockList (call4 .command) (split (listed (i .geometry) 7 4 lockList) (call (i .geometry) 7 0x0D (lockWord (i .header .level) m)) later κ st)
+        (omega (arith, length-words (i .protection) (lockStart (i .geometry) m) (locksIn (i .geometry) m / 4), fx .lockFit m)) (w .opened .room) (w .opened .effect)
+        (level-safe f m (b .memory) (w .level)) (λ y r b′ he hm _. level-safe f m _ (steady-4 (i .geometry) y r b′ ∙ ap (λ (x : Memory). x .stored) hm ∙ w .level))
+        (call4 .ready _ _) (call4 .good _ _) λ b₁ r₁ n₁ e₁ st₁.
+        calling f fx 7 0x0D (lockWord (i .header .level) m) (callD .command) st₁ (inl (r₁ .effect ∙ w .opened .effect))
+        (level-safe f m (b₁ .memory) (stored-4 b b₁ (w .level) r₁))
+        (λ y r. safe-D f y r (i .header .level) m _ (level-small (v .level)) (r₁ .effect ∙ w .opened .effect) refl (f .safeImage)
+        (λ x hx. level-safe f m x (hx ∙ stored-4 b b₁ (w .level) r₁))) (callD .ready _ _) (callD .good _ _) λ b₂ r₂ n₂ e₂ st₂.
+        next k b₂ (locked k b b₁ b₂ w r₁ r₂) n₂ _ e₂ st₂;
+  }
+
+pub macros-leg : {i : Image} (f : Frame i) → Facts (i .geometry) → Valid i → (y : Entry) → Leg f y (pieces (lockMacro i) 0 (macrosOf (i .geometry))) (Locked f 0) (Locked f (macrosOf (i .geometry)))
+macros-leg {i} f fx v y = leg-pieces f y (lockMacro i) (Locked f) (macrosOf (i .geometry)) (λ m h. macro-leg f fx v m h y) (macrosOf (i .geometry)) 0 (omega arith)

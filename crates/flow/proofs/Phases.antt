@@ -1,0 +1,151 @@
+-- What holds between the steps of the flow, and of the calls that alter nothing but what document 01 says. Assumes nothing.
+use mathlib.Core.Bool.{Bool, true, false, _&&_, cond}
+use mathlib.Core.List.{List, [], _∷_, _++_}
+use mathlib.Core.Path.{_≡_, refl, ap, sym, _∙_}
+use Prim.Native.Nat.{ℕ, zero, suc, _+_, _*_, _-_, _/_, _%_, _≤_, _<_}
+use native.Mathlib.Omega.{arith}
+use lib.ListN.{length, take}
+use lib.Seq.{take-all}
+use Rattle.flow.specs.Calls.{finish, effectOf, sysargAfter, sysreqAfter, leftBy}
+use Rattle.flow.specs.Judge.{free, succeeded}
+use Rattle.flow.specs.Sequence.{lockStart}
+use Rattle.flow.specs.Target.{Target, Silicon, Memory, Residue, Running, idle}
+use Rattle.flow.proofs.Calling.{Command, Returned}
+use Rattle.flow.proofs.Legs.{Core, core}
+use Rattle.flow.proofs.Lists.{Small}
+use Rattle.flow.proofs.Reaches.{Frame}
+use Rattle.flow.proofs.Table.{Facts}
+use Rattle.image.specs.Image.{Image}
+use Rattle.image.specs.Words.{total}
+use Rattle.parts.specs.Sizes.{rowBytes, macrosOf, rowsOf, flashSize, lockTotal}
+use Rattle.parts.specs.declared.Geometry.{Geometry}
+
+-- the levels that an image can have
+pub data Level : ℕ → Type 0 where
+  isOpen : Level 1
+  isProtected : Level 2
+  isKill : Level 4
+
+-- what the checks leave to be known of an image
+pub record Valid (i : Image) : Type 0 where
+  pub flash : length (i .flash) ≡ flashSize (i .geometry)
+  pub locks : length (i .protection) ≡ lockTotal (i .geometry)
+  pub flashSmall : Small (i .flash)
+  pub lockSmall : Small (i .protection)
+  pub sum : total (i .flash) % 65536 ≡ i .header .sum
+  pub level : Level (i .header .level)
+
+-- OPEN in effect, nothing under way
+pub record Opened {i : Image} (f : Frame i) (c : Core) : Type 0 where
+  pub silicon : c .silicon ≡ f .silicon
+  pub effect : c .effect ≡ 1
+  pub room : 2 + rowBytes (i .geometry) / 4 ≤ length (c .params)
+  pub quiet : c .running ≡ idle
+
+-- the first sum is kept
+abbrev pub Kept : {i : Image} → Frame i → ℕ → Type 0
+Kept f k = k % 268435456 ≡ f .silicon .privilegedSum % 268435456
+
+-- the target's sizes
+pub record Sized {i : Image} (f : Frame i) (m : Memory) : Type 0 where
+  pub flash : length (m .flash) ≡ flashSize (i .geometry)
+  pub locks : length (m .locks) ≡ lockTotal (i .geometry)
+  pub latch : length (m .latch) ≡ rowBytes (i .geometry)
+
+-- step 5: the rows before r hold the image's
+pub record Wrote {i : Image} (f : Frame i) (r k : ℕ) (c : Core) : Type 0 where
+  pub opened : Opened f c
+  pub sized : Sized f (c .memory)
+  pub done : take (r * rowBytes (i .geometry)) (c .memory .flash) ≡ take (r * rowBytes (i .geometry)) (i .flash)
+  pub level : c .memory .stored ≡ 1
+  pub kept : Kept f k
+
+-- the level that is stored once the macros before m are locked
+abbrev pub levelAfter : Image → ℕ → ℕ
+levelAfter i zero = 1
+levelAfter i (suc m) = i .header .level
+
+-- step 7: the locks of the macros before m are the image's
+pub record Locked {i : Image} (f : Frame i) (m k : ℕ) (c : Core) : Type 0 where
+  pub opened : Opened f c
+  pub flash : c .memory .flash ≡ i .flash
+  pub sized : Sized f (c .memory)
+  pub done : take (lockStart (i .geometry) m) (c .memory .locks) ≡ take (lockStart (i .geometry) m) (i .protection)
+  pub level : c .memory .stored ≡ levelAfter i m
+  pub kept : Kept f k
+
+pub level-safe : {i : Image} (f : Frame i) (m : ℕ) (x : Memory) → x .stored ≡ levelAfter i m → f .Safe x
+level-safe f zero x e = f .safeOpen x e
+level-safe f (suc m) x e = f .safeImage x e
+
+-- ---- all rows, all macros
+
+whole : (l m : List ℕ) (n k : ℕ) → k ≡ n → length l ≡ n → length m ≡ n → take k l ≡ take k m → l ≡ m
+whole l m n k hk hl hm e = sym (take-all k l (omega arith)) ∙ e ∙ take-all k m (omega arith)
+
+pub wrote-all : {i : Image} {f : Frame i} → Valid i → {k : ℕ} {c : Core} → Wrote f (rowsOf (i .geometry)) k c → c .memory .flash ≡ i .flash
+unfolding flashSize
+wrote-all {i} v {c = c} w = whole (c .memory .flash) (i .flash) _ _ refl (w .sized .flash) (v .flash) (w .done)
+
+pub locked-all : {i : Image} {f : Frame i} → Valid i → Facts (i .geometry) → {k : ℕ} {c : Core} → Locked f (macrosOf (i .geometry)) k c → c .memory .locks ≡ i .protection
+locked-all {i} v fx {c = c} w = whole (c .memory .locks) (i .protection) _ _ (sym (fx .lockAll)) (w .sized .locks) (v .locks) (w .done)
+
+last : (i : Image) (m : ℕ) → 1 ≤ m → levelAfter i m ≡ i .header .level
+last i zero h = absurd (omega arith)
+last i (suc m) h = refl
+
+pub last-level : {i : Image} {f : Frame i} → Facts (i .geometry) → {k : ℕ} {c : Core} → Locked f (macrosOf (i .geometry)) k c → c .memory .stored ≡ i .header .level
+last-level {i} fx w = w .level ∙ last i (macrosOf (i .geometry)) (fx .any)
+
+-- ---- calls
+
+-- a call whose success shows as 0xA0000000 and 0
+pub record PlainCall (c : ℕ) : Type 0 where
+  pub command : Command c
+  pub ready : (x : Silicon) (l : ℕ) → free (sysreqAfter c x l) ≡ true
+  pub good : (x : Silicon) (m : Memory) → succeeded (sysargAfter c x m) ≡ true
+
+pub call4 : PlainCall 4
+unfolding free succeeded sysreqAfter sysargAfter
+call4 = record { command = record { started = refl; number = refl }; ready = λ x l. refl; good = λ x m. refl }
+
+pub call6 : PlainCall 6
+unfolding free succeeded sysreqAfter sysargAfter
+call6 = record { command = record { started = refl; number = refl }; ready = λ x l. refl; good = λ x m. refl }
+
+pub callA : PlainCall 0x0A
+unfolding free succeeded sysreqAfter sysargAfter
+callA = record { command = record { started = refl; number = refl }; ready = λ x l. refl; good = λ x m. refl }
+
+pub callD : PlainCall 0x0D
+unfolding free succeeded sysreqAfter sysargAfter
+callD = record { command = record { started = refl; number = refl }; ready = λ x l. refl; good = λ x m. refl }
+
+pub call15 : PlainCall 0x15
+unfolding free succeeded sysreqAfter sysargAfter
+call15 = record { command = record { started = refl; number = refl }; ready = λ x l. refl; good = λ x m. refl }
+
+-- ---- the stored level stays with these, whatever they come to
+
+no-level : (t : Bool) (l m : ℕ) (z : Bool) → cond (t && false && z) l m ≡ m
+no-level true l m z = refl
+no-level false l m z = refl
+
+pub steady-4 : (g : Geometry) (y : Bool) (r : Residue) (b : Target) → (finish g y r 4 b) .memory .stored ≡ b .memory .stored
+unfolding finish effectOf leftBy
+steady-4 g true r b = refl
+steady-4 g false r b = no-level (r .newLevel) _ _ _
+
+pub steady-6 : (g : Geometry) (y : Bool) (r : Residue) (b : Target) → (finish g y r 6 b) .memory .stored ≡ b .memory .stored
+unfolding finish effectOf leftBy
+steady-6 g true r b = refl
+steady-6 g false r b = no-level (r .newLevel) _ _ _
+
+pub steady-A : (g : Geometry) (y : Bool) (r : Residue) (b : Target) → (finish g y r 0x0A b) .memory .stored ≡ b .memory .stored
+unfolding finish effectOf leftBy
+steady-A g true r b = refl
+steady-A g false r b = no-level (r .newLevel) _ _ _
+
+-- a call that alters nothing
+pub same-core : {g : Geometry} {c w : ℕ} {b b′ : Target} → Returned g c w b b′ → b′ .memory ≡ b .memory → b .running ≡ idle → core b′ ≡ core b
+same-core ret hm hr = rw (ret .silicon, hm, ret .effect, ret .params, ret .ended, hr)

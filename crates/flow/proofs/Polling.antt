@@ -1,0 +1,189 @@
+-- A poll loop, whatever the line and the call do. Assumes nothing.
+use mathlib.Core.Bool.{Bool, true, false, _&&_, _||_, not, cond}
+use mathlib.Core.List.{List, [], _∷_, _++_}
+use mathlib.Core.Path.{_≡_, refl, ap, sym, _∙_}
+use Prim.Native.Nat.{ℕ, zero, suc, _+_, _*_, _-_, _/_, _%_, _≤_, _<_}
+use native.Mathlib.Omega.{arith}
+use lib.Dec.{eqb, ltb, leb, lit≤}
+use borrow.Author.Tests.{lt-ltb, le-ltb, eq-eqb, ne-eqb, eqb-true, eqb-false}
+use Rattle.flow.specs.Calls.{finish, effectOf}
+use Rattle.flow.specs.Exchange.{fetch, tick}
+use Rattle.flow.specs.Judge.{free, judge}
+use Rattle.flow.specs.Map.{Place, atSysreq, place}
+use Rattle.flow.specs.Monitor.{Monitor, Watch, Delays, oneBusy, stillBusy, noticeRead}
+use Rattle.flow.specs.Run.{Run}
+use Rattle.flow.specs.Sequence.{move, poll, read}
+use Rattle.flow.specs.Target.{Target, Residue, Running, idle, busy, setSysreq}
+use Rattle.flow.specs.declared.Entry.{Entry}
+use Rattle.flow.specs.declared.Move.{Move}
+use Rattle.flow.specs.declared.Purpose.the-variants.{Poll}
+use Rattle.flow.proofs.Access.{aim, Admits, read-any, read-still}
+use Rattle.flow.proofs.Reaches.{Purse, spend, pay, Env, sync, Frame, Stood, poorer, Reaches, stop}
+use Rattle.image.specs.Image.{Image}
+use Rattle.parts.specs.Sizes.{sysreqOf}
+use Rattle.parts.specs.declared.Geometry.{Geometry}
+
+-- at rest, TAR at a: no loop, nothing due
+abbrev pub idleAt : (a : ℕ) → Watch
+idleAt a = record { tar = a; counts = false; polling = false; due = false }
+
+-- what is under way
+abbrev pub during : Running → Target → Target
+during r b = setSysreq (b .sysreq) r b
+
+-- the purse of a loop that may still poll m times more
+abbrev pub looping : (m : ℕ) → Purse → Purse
+looping m κ = record { due = suc (suc (suc (κ .due))); room = 51 * suc m + κ .room; xres = κ .xres; lines = κ .lines }
+
+-- what a loop of m more polls leaves after this one
+abbrev left : (m : ℕ) → Purse → Purse
+left m κ = record { due = κ .due; room = 51 * m + κ .room; xres = κ .xres; lines = κ .lines }
+
+-- one poll of it
+this-poll : {i : Image} {f : Frame i} {y : Entry} {n : ℕ} {ms : List Move} (κ : Purse) {e : Env} (m : ℕ) → Stood f y n ms (looping m κ) e
+    → Stood f y n ms (spend (spend (spend (left m κ)))) e
+this-poll κ m st = poorer (17 + (17 + (17 + (51 * m + κ .room)))) (omega arith) st
+
+-- and the last of it
+last-poll : {i : Image} {f : Frame i} {y : Entry} {n : ℕ} {ms : List Move} (κ : Purse) {e : Env} (m : ℕ) → Stood f y n ms (left m κ) e → Stood f y n ms κ e
+last-poll κ m st = poorer (κ .room) (omega arith) st
+
+-- ---- words
+
+-- the monitor's test and the session's are one
+pub polls-agree : (w : ℕ) → stillBusy w ≡ not (free w)
+unfolding free
+polls-agree w = by (eqb (w / 2147483648 % 2) 0) (eqb (w / 268435456 % 2) 0) refl refl
+  where
+    bit : (x : ℕ) (y : Bool) → eqb (x % 2) 0 ≡ y → eqb (x % 2) 1 ≡ not y
+    bit x true h = ne-eqb (x % 2) 1 (λ e. let z = eqb-true (x % 2) 0 h in omega arith)
+    bit x false h = eq-eqb (x % 2) 1 (let z = eqb-false (x % 2) 0 h in omega arith)
+
+    by : (x y : Bool) → eqb (w / 2147483648 % 2) 0 ≡ x → eqb (w / 268435456 % 2) 0 ≡ y → stillBusy w ≡ not (eqb (w / 2147483648 % 2) 0 && eqb (w / 268435456 % 2) 0)
+    by true true p q = rw (bit (w / 2147483648) true p, bit (w / 268435456) true q, p, q)
+    by true false p q = rw (bit (w / 2147483648) true p, bit (w / 268435456) false q, p, q)
+    by false y p q = rw (bit (w / 2147483648) false p, p)
+
+-- a busy word: any but for bit 31
+abbrev busyWord : ℕ → ℕ
+busyWord o = 2147483648 + o % 2147483648
+
+busy-word : (o : ℕ) → free (busyWord o) ≡ false
+unfolding free
+busy-word o = rw (ne-eqb (busyWord o / 2147483648 % 2) 0 (omega arith))
+
+-- ---- the target
+
+-- TAR, the posted word and what is under way matter to no call's end
+finish-aim : (g : Geometry) (s : Bool) (r : Residue) (c a z : ℕ) (x : Running) (b : Target) → finish g s r c (aim a z (during x b)) ≡ aim a z (finish g s r c b)
+unfolding finish
+finish-aim g true r c a z x b = refl
+finish-aim g false r c a z x b = refl
+
+pub finish-effect : (g : Geometry) (s : Bool) (r : Residue) (c : ℕ) (b : Target) → (finish g s r c b) .effect ≡ b .effect
+unfolding finish
+finish-effect g true r c b = refl
+finish-effect g false r c b = refl
+
+pub finish-idle : (g : Geometry) (s : Bool) (r : Residue) (c : ℕ) (b : Target) → (finish g s r c b) .running ≡ idle
+unfolding finish
+finish-idle g true r c b = refl
+finish-idle g false r c b = refl
+
+-- a DRW read of SYSREQ at the call's end, after it, and before it
+fetch-last : (g : Geometry) (s : Bool) (r : Residue) (c a z o : ℕ) (b : Target)
+    → fetch g o atSysreq (aim a z (during (busy 0 s r c) b)) ≡ aim a ((finish g s r c b) .sysreq) (finish g s r c b)
+fetch-last g s r c a z o b = rw (finish-aim g s r c a z (busy 0 s r c) b)
+
+fetch-idle : (g : Geometry) (a z o : ℕ) (b : Target) → b .running ≡ idle → fetch g o atSysreq (aim a z b) ≡ aim a (b .sysreq) b
+fetch-idle g a z o b h = rw h
+
+fetch-ended : (g : Geometry) (s : Bool) (r : Residue) (c a z o : ℕ) (b : Target)
+    → fetch g o atSysreq (aim a z (finish g s r c b)) ≡ aim a ((finish g s r c b) .sysreq) (finish g s r c b)
+fetch-ended g s r c a z o b = fetch-idle g a z o (finish g s r c b) (finish-idle g s r c b)
+
+fetch-busy : (g : Geometry) (q : ℕ) (s : Bool) (r : Residue) (c a z o : ℕ) (b : Target)
+    → fetch g o atSysreq (aim a z (during (busy (suc q) s r c) b)) ≡ aim a (busyWord o) (during (busy q s r c) b)
+fetch-busy g q s r c a z o b = refl
+
+-- ---- the loop
+
+-- a loop runs, TAR at a
+abbrev pub loopAt : (a : ℕ) (c d : Bool) → Watch
+loopAt a c d = record { tar = a; counts = c; polling = true; due = d }
+
+abbrev busied : Env → Env
+busied e = record { lists = e .lists; delays = oneBusy (e .delays); traffic = e .traffic }
+
+module _ {i : Image} (f : Frame i) (hp : place (i .geometry) (sysreqOf (i .geometry)) ≡ atSysreq) where
+  -- a poll that finds nothing under way
+  pub poll-idle : (s : ℕ) {y : Entry} {n : ℕ} {ms : List Move} {κ : Purse} {e : Env} {p a k : ℕ} (b : Target) {x : ℕ} {c d : Bool}
+      → Stood f y n (poll (i .geometry) s ++ ms) (spend (spend (spend κ))) e → Admits (b .effect) atSysreq → f .Safe (b .memory) → b .running ≡ idle → free (b .sysreq) ≡ true
+      → (next : (e′ : Env) → e′ .lists .calls ≡ e .lists .calls → Stood f y (suc (suc (suc n))) ms κ e′
+      → Reaches f (sync y (suc (suc (suc n))) 0 0 a k (aim (sysreqOf (i .geometry)) (b .sysreq) b) (record { tar = sysreqOf (i .geometry); counts = false; polling = false; due = d }) e′))
+      → Reaches f (sync y n 0 p a k b (loopAt x c d) e)
+  unfolding judge noticeRead
+  poll-idle s b st ok safe rest ready next =
+      read-still f s (sysreqOf (i .geometry)) Poll st atSysreq hp ok safe (λ o. b .sysreq) (λ o z. rw rest) λ o o′ e′ h st′.
+      rw (ready, polls-agree (b .sysreq), ready) (next e′ h st′)
+
+  module _ (s₀ : Bool) (r₀ : Residue) (c₀ : ℕ) (b : Target) (ok : Admits (b .effect) atSysreq) (safe : f .Safe (b .memory))
+      (safe′ : f .Safe ((finish (i .geometry) s₀ r₀ c₀ b) .memory)) (ready : free ((finish (i .geometry) s₀ r₀ c₀ b) .sysreq) ≡ true) where
+    abbrev over : Target
+    over = finish (i .geometry) s₀ r₀ c₀ b
+
+    -- back to the first transfer of the Read
+    back : {y : Entry} {n n′ : ℕ} {ms later : List Move} (κ : Purse) {κ₀ : Purse} {e e′ : Env} (m : ℕ) → Stood f y n ms κ₀ e → Stood f y n′ later (left (suc m) κ) e′ → (f .Still → ⊥)
+        → Stood f y n ms (looping m κ) (busied e′)
+    back κ m st st′ bad = record {
+      at = st .at;
+      spent = omega (arith, st′ .spent);
+      room = omega (arith, st′ .room);
+      xres = st′ .xres;
+      lines = st′ .lines;
+      calm = λ still. absurd (bad still);
+    }
+
+    -- q busy reads are left; after this poll m more are allowed
+    pub poll-busy : (q m s : ℕ) {y : Entry} {n : ℕ} {ms : List Move} {κ : Purse} {e : Env} {a k : ℕ} (p x z : ℕ) {c d : Bool}
+        → p + suc m ≡ 10000 → Stood f y n (poll (i .geometry) s ++ ms) (looping m κ) e → (f .Still → q ≡ 0)
+        → (next : (e′ : Env) → e′ .lists .calls ≡ e .lists .calls → Stood f y (suc (suc (suc n))) ms κ e′
+        → Reaches f (sync y (suc (suc (suc n))) 0 0 a k (aim (sysreqOf (i .geometry)) (over .sysreq) over) (record { tar = sysreqOf (i .geometry); counts = false; polling = false; due = d }) e′))
+        → Reaches f (sync y n 0 p a k (aim x z (during (busy q s₀ r₀ c₀) b)) (loopAt x c d) e)
+    unfolding judge noticeRead
+    poll-busy zero m s {κ = κ} p x z count st calm next =
+        read-any f s (sysreqOf (i .geometry)) Poll (this-poll κ m st) atSysreq hp ok safe
+        (λ o. aim (sysreqOf (i .geometry)) (over .sysreq) over) (λ o o′. aim (sysreqOf (i .geometry)) (over .sysreq) over)
+        (λ o. fetch-last (i .geometry) s₀ r₀ c₀ (sysreqOf (i .geometry)) z o b) (λ o o′. fetch-ended (i .geometry) s₀ r₀ c₀ (sysreqOf (i .geometry)) (over .sysreq) o′ b)
+        (λ o. refl) (λ o. finish-effect (i .geometry) s₀ r₀ c₀ b) (λ o. safe′) (λ o o′. safe′) λ o o′ e′ h st′.
+        rw (ready, polls-agree (over .sysreq), ready) (next e′ h (last-poll κ m st′))
+    poll-busy (suc zero) zero s {κ = κ} p x z count st calm next =
+        read-any f s (sysreqOf (i .geometry)) Poll (this-poll κ 0 st) atSysreq hp ok safe
+        (λ o. aim (sysreqOf (i .geometry)) (busyWord o) (during (busy 0 s₀ r₀ c₀) b)) (λ o o′. aim (sysreqOf (i .geometry)) (over .sysreq) over)
+        (λ o. refl) (λ o o′. fetch-last (i .geometry) s₀ r₀ c₀ (sysreqOf (i .geometry)) (busyWord o) o′ b)
+        (λ o. refl) (λ o. refl) (λ o. safe) (λ o o′. safe′) λ o o′ e′ h st′.
+        rw (busy-word o, polls-agree (busyWord o), busy-word o, le-ltb (suc p) 10000 (omega arith)) (stop (f .caught 18 s _ _ _ (lit≤ tt) (λ still. let e = calm still in omega arith) safe′))
+    poll-busy (suc zero) (suc m) s {n = n} {κ = κ} p x z count st calm next =
+        let again : suc (suc n) - 2 ≡ n = omega arith in
+        read-any f s (sysreqOf (i .geometry)) Poll (this-poll κ (suc m) st) atSysreq hp ok safe
+        (λ o. aim (sysreqOf (i .geometry)) (busyWord o) (during (busy 0 s₀ r₀ c₀) b)) (λ o o′. aim (sysreqOf (i .geometry)) (over .sysreq) over)
+        (λ o. refl) (λ o o′. fetch-last (i .geometry) s₀ r₀ c₀ (sysreqOf (i .geometry)) (busyWord o) o′ b)
+        (λ o. refl) (λ o. refl) (λ o. safe) (λ o o′. safe′) λ o o′ e′ h st′.
+        rw (busy-word o, polls-agree (busyWord o), busy-word o, lt-ltb (suc p) 10000 (omega arith), again) (
+        poll-idle s (aim (sysreqOf (i .geometry)) (over .sysreq) over) (this-poll κ m (back κ m st st′ (λ still. let e = calm still in omega arith)))
+        (rw (finish-effect (i .geometry) s₀ r₀ c₀ b) ok) safe′ (finish-idle (i .geometry) s₀ r₀ c₀ b) ready λ e″ h″ st″.
+        next e″ (h″ ∙ h) (last-poll κ m st″))
+    poll-busy (suc (suc q)) zero s {κ = κ} p x z count st calm next =
+        read-any f s (sysreqOf (i .geometry)) Poll (this-poll κ 0 st) atSysreq hp ok safe
+        (λ o. aim (sysreqOf (i .geometry)) (busyWord o) (during (busy (suc q) s₀ r₀ c₀) b)) (λ o o′. aim (sysreqOf (i .geometry)) (busyWord o′) (during (busy q s₀ r₀ c₀) b))
+        (λ o. refl) (λ o o′. refl) (λ o. refl) (λ o. refl) (λ o. safe) (λ o o′. safe) λ o o′ e′ h st′.
+        rw (busy-word o, polls-agree (busyWord o), busy-word o, le-ltb (suc p) 10000 (omega arith)) (stop (f .caught 18 s _ _ _ (lit≤ tt) (λ still. let e = calm still in omega arith) safe))
+    poll-busy (suc (suc q)) (suc m) s {n = n} {κ = κ} p x z count st calm next =
+        let again : suc (suc n) - 2 ≡ n = omega arith in
+        read-any f s (sysreqOf (i .geometry)) Poll (this-poll κ (suc m) st) atSysreq hp ok safe
+        (λ o. aim (sysreqOf (i .geometry)) (busyWord o) (during (busy (suc q) s₀ r₀ c₀) b)) (λ o o′. aim (sysreqOf (i .geometry)) (busyWord o′) (during (busy q s₀ r₀ c₀) b))
+        (λ o. refl) (λ o o′. refl) (λ o. refl) (λ o. refl) (λ o. safe) (λ o o′. safe) λ o o′ e′ h st′.
+        rw (busy-word o, polls-agree (busyWord o), busy-word o, lt-ltb (suc p) 10000 (omega arith), again) (
+        poll-busy q m s (suc p) (sysreqOf (i .geometry)) (busyWord o′) (omega arith) (back κ m st st′ (λ still. let e = calm still in omega arith))
+        (λ still. let e = calm still in absurd (omega arith)) λ e″ h″ st″.
+        next e″ (h″ ∙ h) st″)
