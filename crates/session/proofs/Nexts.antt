@@ -72,3 +72,19 @@ stand-wait : (y : Entry) (p : Progress) (s h : ℕ) (t : Bool) → ltb (p .waits
     → standAfter (waitNext y p) s h ≡ waitAgain t y (p .at) s (p .waits) (p .polls) (p .attempts) (p .kept) h
 stand-wait y p s h true e = rw e (simp add-one)
 stand-wait y p s h false e = rw e
+
+tried : (y : Entry) (p : Progress) (s h : ℕ)
+    → standAfter (tryNext y p) s h ≡ tryAgain (ltb (suc (p .attempts)) 30) y (p .at) s (p .polls) (p .attempts) (p .kept) h
+tried y p s h = rw (← add-one (p .attempts)) (stand-try y p s h (ltb (p .attempts + 1) 30) refl)
+
+-- what the code comes to is the flow's own step
+pub stand-heard : (a : Bool) (i : Image) (m : Move) (v : Verdict) (y : Entry) (p : Progress) (h : ℕ)
+    → standAfter (nextBy a i (m .purpose) v y p) (m .step) h
+    ≡ heardBy a i m v y (p .at) (p .waits) (p .polls) (p .attempts) (p .kept) h
+unfolding nextBy
+stand-heard true i m (okay w) y p h = stand-next (judge i (m .purpose) (p .polls) (p .kept) w) y (p .at) 0 (m .step) h
+stand-heard false i m (okay w) y p h = stand-next (judge i (m .purpose) (p .polls) (p .kept) w) y (p .at) (p .attempts) (m .step) h
+stand-heard true i m again y p h = tried y p (m .step) h
+stand-heard false i m again y p h = stand-wait y p (m .step) h (ltb (p .waits) 16) refl
+stand-heard true i m (broken x) y p h = tried y p (m .step) h
+stand-heard false i m (broken x) y p h = refl

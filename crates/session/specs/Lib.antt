@@ -3,3 +3,5 @@ pub mod Nexts
 pub mod Possible
 pub mod Ranges
 pub mod Given
+pub mod Calls
+pub mod Claim

@@ -1,0 +1,193 @@
+-- 13 is closed under steps: what an answer makes of a possible session is possible, also of one that nobody's start gave.
+-- Assumes nothing.
+use mathlib.Core.Bool.{Bool, true, false, false≢true, _&&_, _||_, cond}
+use mathlib.Core.List.{List}
+use mathlib.Core.Path.{_≡_, refl, sym, ap, _∙_}
+use Prim.Native.Nat.{ℕ, zero, suc, _+_, _*_, _-_, _/_, _%_, _≤_, _<_}
+use native.Mathlib.Omega.{arith}
+use borrow.Author.Tests.{lt-ltb, le-leb, eq-eqb, ne-eqb, ltb-true, leb-true}
+use lib.Dec.{eqb, leb, ltb, lit≤}
+use lib.ListN.{length}
+use Rattle.flow.proofs.Table.{Facts}
+use Rattle.flow.specs.Judge.{Judged, go, pollAgain, enter, report, judge, goIf, polled, entryBy, free, testBitSet, succeeded, idsFit, levelIn, storedIn, sumsFit}
+use Rattle.flow.specs.Monitor.{isReset, isAttempt}
+use Rattle.flow.specs.Packets.{Verdict, okay, again, broken, heard, verdict, isRead, replyIn}
+use Rattle.flow.specs.Sequence.{opening, endMove}
+use Rattle.flow.specs.Session.{running, reported, moveAt, settled, tryAgain, waitAgain, heardBy, act, stepOf}
+use Rattle.flow.specs.Session as Flow
+use Rattle.flow.specs.declared.Answer.{Answer}
+use Rattle.flow.specs.declared.Entry.{Entry}
+use Rattle.flow.specs.declared.Entry.the-variants.{FromOpen, FromProtected}
+use Rattle.flow.specs.declared.Move.{Move}
+use Rattle.flow.specs.declared.Purpose.{Purpose}
+use Rattle.flow.specs.declared.Purpose.the-variants.{Sent, Idcode, TestBit, Poll, Status, Keep, EntryLevel, Reopened, Same, StoredLevel, LastSum}
+use Rattle.flow.specs.declared.Request.{Request}
+use Rattle.image.specs.Image.{Image}
+use Rattle.session.specs.Possible.{movesIn, reportFits}
+use Rattle.session.proofs.Moves.{Proper, Reports}
+use Rattle.session.proofs.Places.{lastMove, has-next, opening-in, proper-at}
+use Rattle.wire.specs.Wire.{parity, ackOf}
+use Rattle.wire.specs.declared.Ack.{Ack}
+use Rattle.wire.specs.declared.Ack.the-variants.{Okay, Wait, Fault, Silence}
+
+pub record Within (i : Image) (y : Entry) (n w p a : ℕ) : Type 0 where
+  pub at : n < movesIn (i .geometry) y
+  pub waits : w ≤ 16
+  pub polls : p < 10000
+  pub attempts : a < 30
+
+-- what 13 asks of where a session stands
+abbrev pub Stands : Image → Flow.Session → Type 0
+Stands i (running y n w p a k h) = Within i y n w p a
+Stands i (reported x t h) = reportFits x t ≡ true
+
+abbrev Numbered : ℕ → Type 0
+Numbered x = (16 ≤ x) × (x ≤ 30)
+
+numbered : (x t : ℕ) → Numbered x → 1 ≤ t → t ≤ 9 → reportFits x t ≡ true
+numbered x t h low high =
+    simp (ne-eqb x 0 (λ e. omega (arith, h .0)), le-leb 16 x (h .0), le-leb x 30 (h .1), le-leb 1 t low, le-leb t 9 high)
+
+at-nine : (t : ℕ) → t ≡ 9 → reportFits 0 t ≡ true
+at-nine t e = simp (eq-eqb t 9 e)
+
+abbrev isLast : Purpose → Bool
+isLast Sent = false
+isLast Idcode = false
+isLast TestBit = false
+isLast Poll = false
+isLast Status = false
+isLast Keep = false
+isLast EntryLevel = false
+isLast Reopened = false
+isLast (Same w n) = false
+isLast StoredLevel = false
+isLast LastSum = true
+
+-- the numbers of a broken transfer
+abbrev Line : Verdict → Type 0
+Line (okay x) = Unit {0}
+Line again = Unit {0}
+Line (broken x) = Numbered x
+
+line-heard : (b : Bool) (a : Ack) (w p : ℕ) → Line (heard b a w p)
+unfolding heard
+line-heard false Okay w p = tt
+line-heard true Okay w p = either (eqb p (parity w))
+  where
+    either : (c : Bool) → Line (cond c (okay w) (broken 30))
+    either true = tt
+    either false = (lit≤ tt, lit≤ tt)
+line-heard false Wait w p = tt
+line-heard true Wait w p = tt
+line-heard false Fault w p = (lit≤ tt, lit≤ tt)
+line-heard true Fault w p = (lit≤ tt, lit≤ tt)
+line-heard false Silence w p = (lit≤ tt, lit≤ tt)
+line-heard true Silence w p = (lit≤ tt, lit≤ tt)
+
+line-verdict : (q : Request) (r : Answer) → Line (verdict q r)
+unfolding verdict
+line-verdict q r = line-heard (isRead q) (ackOf ((replyIn r) .ack)) ((replyIn r) .word) ((replyIn r) .parity)
+
+module _ (i : Image) (f : Facts (i .geometry)) (y : Entry) (n : ℕ) (inside : n < movesIn (i .geometry) y) where
+  p-at : Proper (n < length (opening i)) (moveAt i y n)
+  p-at = proper-at i f y n inside
+
+  -- where a judged word leads, for the purpose of the move
+  Allowed : Judged → (step : ℕ) → Type 0
+  Allowed (go p k) s = (suc n < movesIn (i .geometry) y) × (p < 10000)
+  Allowed (pollAgain p k) s = p < 10000
+  Allowed (enter e p k) s = (suc n < movesIn (i .geometry) e) × (p < 10000)
+  Allowed (report x) s = reportFits x s ≡ true
+
+  module _ (s : ℕ) (low : 1 ≤ s) (high : s ≤ 9) (p k : ℕ) (small : p < 10000) where
+    allow-if : (b : Bool) (x : ℕ) → suc n < movesIn (i .geometry) y → Numbered x → Allowed (goIf b x p k) s
+    unfolding Allowed
+    allow-if true x nx h = (nx, small)
+    allow-if false x nx h = numbered x s h low high
+
+    allow-poll : (b c : Bool) → ltb (suc p) 10000 ≡ c → suc n < movesIn (i .geometry) y → Allowed (polled b c p k) s
+    unfolding Allowed
+    allow-poll true c e nx = (nx, lit≤ tt)
+    allow-poll false true e nx = ltb-true (suc p) 10000 e
+    allow-poll false false e nx = numbered 18 s (lit≤ tt, lit≤ tt) low high
+
+    allow-entry : (l : ℕ) (b c : Bool) → eqb l 1 ≡ b → eqb l 2 ≡ c → n < length (opening i) → Allowed (entryBy l p k) s
+    unfolding Allowed
+    allow-entry l true c d e o = rw d (omega (arith, opening-in i f FromOpen), small)
+    allow-entry l false true d e o = rw (d, e) (omega (arith, opening-in i f FromProtected), small)
+    allow-entry l false false d e o = rw (d, e) (numbered 21 s (lit≤ tt, lit≤ tt) low high)
+
+    allow-either : (b : Bool) (j j′ : Judged) → Allowed j s → Allowed j′ s → Allowed (cond b j j′) s
+    allow-either true j j′ h h′ = h
+    allow-either false j j′ h h′ = h′
+
+    allow-report : (x : ℕ) → Numbered x → Allowed (report x) s
+    unfolding Allowed
+    allow-report x h = numbered x s h low high
+
+    allowed : (u : Purpose) (w : ℕ) → Reports (n < length (opening i)) u s → (isLast u ≡ false → suc n < movesIn (i .geometry) y)
+        → Allowed (judge i u p k w) s
+    unfolding judge Allowed
+    allowed Sent w r nx = (nx refl, small)
+    allowed Idcode w r nx = allow-if (eqb w 0x0BB11477) 16 (nx refl) (lit≤ tt, lit≤ tt)
+    allowed TestBit w r nx = allow-if (testBitSet w) 17 (nx refl) (lit≤ tt, lit≤ tt)
+    allowed Poll w r nx = allow-poll (free w) (ltb (suc p) 10000) refl (nx refl)
+    allowed Status w r nx = allow-if (succeeded w) 19 (nx refl) (lit≤ tt, lit≤ tt)
+    allowed Keep w r nx = (nx refl, small)
+    allowed EntryLevel w r nx =
+        allow-either (idsFit i k w) (entryBy (levelIn w) p k) (report 20)
+        (allow-entry (levelIn w) (eqb (levelIn w) 1) (eqb (levelIn w) 2) refl refl r) (allow-report 20 (lit≤ tt, lit≤ tt))
+    allowed Reopened w r nx =
+        allow-either (idsFit i k w) (goIf (eqb (levelIn w) 1) 21 p k) (report 20)
+        (allow-if (eqb (levelIn w) 1) 21 (nx refl) (lit≤ tt, lit≤ tt)) (allow-report 20 (lit≤ tt, lit≤ tt))
+    allowed (Same v x) w r nx = allow-if (eqb w v) x (nx refl) r
+    allowed StoredLevel w r nx = allow-if (eqb (storedIn w) (i .header .level)) 24 (nx refl) (lit≤ tt, lit≤ tt)
+    allowed LastSum w r nx =
+        allow-either (sumsFit i w k) (report 0) (report 25) (at-nine s r) (allow-report 25 (lit≤ tt, lit≤ tt))
+
+  -- an answer to the standing move
+  module _ (w p a k : ℕ) (h : Within i y n w p a) where
+    abbrev m : Move
+    m = moveAt i y n
+
+    next-of : isLast (m .purpose) ≡ false → suc n < movesIn (i .geometry) y
+    next-of e = has-next i f y n inside (λ q. false≢true (sym e ∙ ap (λ (x : Move). isLast (x .purpose)) q))
+
+    settle : (j : Judged) (a′ t : ℕ) → a′ < 30 → Allowed j (m .step) → Stands i (settled j y n (m .step) a′ t)
+    unfolding Allowed
+    settle (go p′ k′) a′ t l q = record { at = q .0; waits = lit≤ tt; polls = q .1; attempts = l }
+    settle (pollAgain p′ k′) a′ t l q = record { at = omega arith; waits = lit≤ tt; polls = q; attempts = l }
+    settle (enter e p′ k′) a′ t l q = record { at = q .0; waits = lit≤ tt; polls = q .1; attempts = l }
+    settle (report x) a′ t l q = q
+
+    try-in : (b : Bool) (t : ℕ) → ltb (suc a) 30 ≡ b → Stands i (tryAgain b y n (m .step) p a k t)
+    try-in true t e = record { at = omega arith; waits = lit≤ tt; polls = h .polls; attempts = ltb-true (suc a) 30 e }
+    try-in false t e = numbered 26 (m .step) (lit≤ tt, lit≤ tt) (p-at .low) (p-at .high)
+
+    wait-in : (b : Bool) (t : ℕ) → ltb w 16 ≡ b → Stands i (waitAgain b y n (m .step) w p a k t)
+    wait-in true t e = record { at = inside; waits = ltb-true w 16 e; polls = h .polls; attempts = h .attempts }
+    wait-in false t e = numbered 27 (m .step) (lit≤ tt, lit≤ tt) (p-at .low) (p-at .high)
+
+    judged-in : (x : ℕ) → Allowed (judge i (m .purpose) p k x) (m .step)
+    judged-in x = allowed (m .step) (p-at .low) (p-at .high) p k (h .polls) (m .purpose) x (p-at .reports) next-of
+
+    heard-in : (b : Bool) (v : Verdict) (t : ℕ) → Line v → Stands i (heardBy b i m v y n w p a k t)
+    heard-in true (okay x) t l = settle (judge i (m .purpose) p k x) 0 t (lit≤ tt) (judged-in x)
+    heard-in false (okay x) t l = settle (judge i (m .purpose) p k x) a t (h .attempts) (judged-in x)
+    heard-in true again t l = try-in (ltb (suc a) 30) t refl
+    heard-in false again t l = wait-in (ltb w 16) t refl
+    heard-in true (broken x) t l = try-in (ltb (suc a) 30) t refl
+    heard-in false (broken x) t l = numbered x (m .step) l (p-at .low) (p-at .high)
+
+    reset-in : (b : Bool) (r : Answer) (t : ℕ) → isReset (m .request) ≡ b
+        → Stands i (cond b (running y (suc n) w p a k t) (heardBy (isAttempt (m .request)) i m (verdict (m .request) r) y n w p a k (suc t)))
+    reset-in true r t e =
+        record { at = has-next i f y n inside (λ q. false≢true (ap (λ (x : Move). isReset (x .request)) (sym q) ∙ e)); waits = h .waits; polls = h .polls; attempts = h .attempts }
+    reset-in false r t e = heard-in (isAttempt (m .request)) (verdict (m .request) r) (suc t) (line-verdict (m .request) r)
+
+-- a step keeps what 13 asks
+pub step-stands : (i : Image) → Facts (i .geometry) → (x : Flow.Session) (r : Answer) → Stands i x → Stands i (stepOf i x r)
+unfolding stepOf
+step-stands i f (running y n w p a k t) r h = reset-in i f y n (h .at) w p a k h (isReset ((moveAt i y n) .request)) r t refl
+step-stands i f (reported x s t) r h = h

@@ -1,0 +1,77 @@
+-- A possible session as facts; the session that starting gives and what a step makes of a possible one are possible. Assumes nothing.
+use mathlib.Core.Bool.{Bool, true, false, _&&_, cond}
+use mathlib.Core.List.{List}
+use mathlib.Core.Path.{_≡_, refl, sym, ap, _∙_}
+use Prim.Native.Nat.{ℕ, suc, _+_, _*_, _≤_, _<_, min}
+use native.Mathlib.Omega.{arith}
+use borrow.Author.Tests.{lt-ltb, le-leb, ltb-true, leb-true, eqb-true}
+use lib.Dec.{eqb, leb, ltb, lit≤}
+use Rattle.flow.proofs.Table.{Facts}
+use Rattle.flow.specs.Plan.{plan, acquisitions}
+use Rattle.flow.specs.Session.{running, reported, stepOf, firstSession}
+use Rattle.flow.specs.Session as Flow
+use Rattle.flow.specs.declared.Answer.{Answer}
+use Rattle.image.specs.Checks.{versionFits, imageIdFits, levelFits}
+use Rattle.image.specs.Image.{Image, imageOf}
+use Rattle.image.specs.declared.Header.{Header}
+use Rattle.parts.proofs.Table.{both}
+use Rattle.parts.specs.declared.Geometry.{Geometry}
+use Rattle.session.specs.Possible.{headerFits, movesIn, progressFits, reportFits, possibleIn}
+use Rattle.session.specs.Sessions.{standOf, mostOf, resumed, firstFor}
+use Rattle.session.specs.declared.Session.{Session}
+use Rattle.session.proofs.Closed.{Within, Stands, step-stands}
+
+pub both-true : {a b : Bool} → a ≡ true → b ≡ true → (a && b) ≡ true
+both-true p q = rw (p, q)
+
+-- the parts of 13's test
+pub record Parts (g : Geometry) (s : Session) : Type 0 where
+  pub header : headerFits g (s .header) ≡ true
+  pub count : s .transfers ≤ mostOf g (s .entry)
+  pub stands : cond (s .finished) (reportFits (s .number) (s .step)) (progressFits g (s .entry) (s .progress)) ≡ true
+
+pub parts : (g : Geometry) (s : Session) → possibleIn g s ≡ true → Parts g s
+unfolding possibleIn
+parts g s h =
+    let t = both (headerFits g (s .header) && leb (s .transfers) (mostOf g (s .entry))) _ h in
+    let u = both (headerFits g (s .header)) (leb (s .transfers) (mostOf g (s .entry))) (t .0) in
+    record { header = u .0; count = leb-true _ _ (u .1); stands = t .1 }
+
+pub whole : (g : Geometry) (s : Session) → Parts g s → possibleIn g s ≡ true
+unfolding possibleIn
+whole g s p = both-true (both-true (p .header) (le-leb _ _ (p .count))) (p .stands)
+
+module _ (g : Geometry) (h : Header) (bytes : List ℕ) where
+  -- where a possible session stands
+  pub stands-of : (s : Session) → Parts g s → Stands (imageOf g h bytes) (standOf s)
+  stands-of s p = by (s .finished) refl
+    where
+      by : (t : Bool) → s .finished ≡ t → Stands (imageOf g h bytes) (standOf s)
+      by true e = rw e (rw e at (p .stands))
+      by false e =
+          let q : progressFits g (s .entry) (s .progress) ≡ true = rw e at (p .stands) in
+          let t = both (ltb (s .progress .at) (movesIn g (s .entry)) && leb (s .progress .waits) 16 && ltb (s .progress .polls) 10000) _ q in
+          let u = both (ltb (s .progress .at) (movesIn g (s .entry)) && leb (s .progress .waits) 16) _ (t .0) in
+          let v = both (ltb (s .progress .at) (movesIn g (s .entry))) _ (u .0) in
+          let w : Within (imageOf g h bytes) (s .entry) (s .progress .at) (s .progress .waits) (s .progress .polls) (s .progress .attempts) =
+          record { at = ltb-true _ _ (v .0); waits = leb-true _ _ (v .1); polls = ltb-true _ _ (u .1); attempts = ltb-true _ _ (t .1) } in
+          rw e w
+
+  -- a session that is made to stand where 13 allows
+  pub resumed-parts : (s : Session) → headerFits g (s .header) ≡ true → (x : Flow.Session) → Stands (imageOf g h bytes) x → Parts g (resumed g s x)
+  unfolding resumed
+  resumed-parts s e (running y n w p a k t) q =
+      record {
+        header = e;
+        count = omega arith;
+        stands = both-true (both-true (both-true (lt-ltb _ _ (q .at)) (le-leb _ _ (q .waits))) (lt-ltb _ _ (q .polls))) (lt-ltb _ _ (q .attempts));
+      }
+  resumed-parts s e (reported x r t) q = record { header = e; count = omega arith; stands = q }
+
+-- a step keeps a session possible
+pub step-possible : (g : Geometry) (bytes : List ℕ) (s : Session) (a : Answer) → Facts g → possibleIn g s ≡ true
+    → possibleIn g (resumed g s (stepOf (imageOf g (s .header) bytes) (standOf s) a)) ≡ true
+step-possible g bytes s a f h =
+    let i = imageOf g (s .header) bytes in
+    let p = parts g s h in
+    whole g _ (resumed-parts g (s .header) bytes s (p .header) (stepOf i (standOf s) a) (step-stands i f (standOf s) a (stands-of g (s .header) bytes s p)))

@@ -1,0 +1,104 @@
+-- Any list of calls on one target: document 01, 'In such a list a step carries the board's answer to the last request, or anything
+-- that 12 or 14 refuses, after which the request still stands; after the report, any answer.' Assumes nothing.
+use mathlib.Core.List.{List}
+use mathlib.Core.Path.{_≡_}
+use Prim.Native.Nat.{ℕ, suc}
+use Rattle.flow.specs.Exchange.{Decoded, known, unknown, decode, Met, meet}
+use Rattle.flow.specs.Monitor.{Monitor, linkError, watch}
+use Rattle.flow.specs.Plan.{Traffic, noTraffic}
+use Rattle.flow.specs.Run.{started}
+use Rattle.flow.specs.Target.{Target, Lists}
+use Rattle.flow.specs.declared.Answer.{Answer}
+use Rattle.flow.specs.declared.Packet.{Packet}
+use Rattle.flow.specs.declared.Packet.the-variants.{Xres, LineReset, Read, Write}
+use Rattle.parts.specs.declared.Geometry.{Geometry}
+use Rattle.session.specs.Given.{stepWith}
+use Rattle.session.specs.declared.Given.{Given}
+use Rattle.session.specs.declared.Outcome.{Outcome}
+use Rattle.session.specs.declared.Outcome.the-variants.{Refused, Ask, Told}
+use Rattle.session.specs.declared.Report.{Report}
+use Rattle.session.specs.declared.Session.{Session}
+
+-- one packet more that was handed out
+abbrev pub sent : Packet → Traffic → Traffic
+sent Xres t = record { transfers = t .transfers; xresets = suc (t .xresets); lineResets = t .lineResets }
+sent LineReset t = record { transfers = t .transfers; xresets = t .xresets; lineResets = suc (t .lineResets) }
+sent (Read b) t = record { transfers = suc (t .transfers); xresets = t .xresets; lineResets = t .lineResets }
+sent (Write b w p) t = record { transfers = suc (t .transfers); xresets = t .xresets; lineResets = t .lineResets }
+
+abbrev pub handing : Outcome → Traffic → Traffic
+handing (Refused n) t = t
+handing (Ask p) t = sent p t
+handing (Told r) t = t
+
+-- a refused step hands out nothing: what stood still stands
+abbrev pub standing : (before now : Outcome) → Outcome
+standing before (Refused n) = before
+standing before (Ask p) = Ask p
+standing before (Told r) = Told r
+
+-- the mishaps are told by what is on the wire; a packet that is no request is met by silence (29)
+abbrev pub watching : Geometry → Decoded → Answer → Monitor → Monitor
+watching g (known q) a m = watch g q a m
+watching g unknown a m = linkError 29
+
+-- the session that the last call gave, the request or report that stands, the target, what is left of its free lists, what the
+-- monitor has seen, and the requests handed out, the standing one included
+pub record State : Type 0 where
+  pub session : Session
+  pub stands : Outcome
+  pub target : Target
+  pub lists : Lists
+  pub monitor : Monitor
+  pub traffic : Traffic
+
+-- after a start that gave this
+abbrev pub begun : Given → Target → Lists → State
+begun r b l = record {
+  session = r .session;
+  stands = r .outcome;
+  target = b;
+  lists = l;
+  monitor = (started b l) .monitor;
+  traffic = handing (r .outcome) noTraffic;
+}
+
+-- how the target meets the standing packet
+abbrev pub reaction : Geometry → Packet → State → Met
+reaction g p s = meet g p (s .lists) (s .target)
+
+-- after a step that gave this on the target's answer
+abbrev pub answered : Geometry → Packet → Met → Given → State → State
+answered g p m r s = record {
+  session = r .session;
+  stands = standing (s .stands) (r .outcome);
+  target = m .target;
+  lists = m .lists;
+  monitor = watching g (decode p) (m .answer) (s .monitor);
+  traffic = handing (r .outcome) (s .traffic);
+}
+
+-- after any other step: the target meets nothing
+abbrev pub called : Given → State → State
+called r s = record {
+  session = r .session;
+  stands = standing (s .stands) (r .outcome);
+  target = s .target;
+  lists = s .lists;
+  monitor = s .monitor;
+  traffic = handing (r .outcome) (s .traffic);
+}
+
+-- lists of steps, n of them answers; each has the session that the call before it gave, and what a step gives is what its contract says
+pub data Steps (g : Geometry) (bytes : List ℕ) : (n : ℕ) → State → State → Type 0 where
+  none : {s : State} → Steps g bytes 0 s s
+  -- the image lent, and the target's answer to the standing packet
+  answer : {n : ℕ} {s s′ : State} (p : Packet) → s .stands ≡ Ask p
+      → Steps g bytes n (answered g p (reaction g p s) (stepWith (s .session) bytes ((reaction g p s) .answer)) s) s′
+      → Steps g bytes (suc n) s s′
+  -- any bytes and any answer, if the step is refused
+  refusal : {n : ℕ} {s s′ : State} (lent : List ℕ) (a : Answer) (number : ℕ) → (stepWith (s .session) lent a) .outcome ≡ Refused number
+      → Steps g bytes n (called (stepWith (s .session) lent a) s) s′ → Steps g bytes n s s′
+  -- after the report, the image lent and any answer
+  later : {n : ℕ} {s s′ : State} (a : Answer) (r : Report) → s .stands ≡ Told r
+      → Steps g bytes n (called (stepWith (s .session) bytes a) s) s′ → Steps g bytes n s s′
