@@ -18,3 +18,4 @@ pub mod Locking
 pub mod Attempts
 pub mod Acquiring
 pub mod Finishing
+pub mod Entering
