@@ -19,3 +19,4 @@ pub mod Attempts
 pub mod Acquiring
 pub mod Finishing
 pub mod Entering
+pub mod Frames
