@@ -20,3 +20,5 @@ pub mod Acquiring
 pub mod Finishing
 pub mod Entering
 pub mod Frames
+pub mod Passing
+pub mod Demand
