@@ -173,3 +173,109 @@ module _ (i : Image) (lv : Level (i .header .level)) (b : Target) (l : Lists) wh
   the-number x m (mishap n some bad) = inl refl
   the-number x m (otherId c e) = inr ((λ right. false≢true (sym e ∙ (right-ids i (b .silicon) right) .idcode)), inl refl)
   the-number x m (otherPart c e) = inr ((λ right. false≢true (sym e ∙ (right-ids i (b .silicon) right) .silicon)), inr refl)
+
+  -- ---- the claim of a run that is fair
+
+  same-number : (x t h x′ t′ h′ : ℕ) → reported x t h ≡ reported x′ t′ h′ → x ≡ x′
+  same-number x t h x′ t′ h′ e = cc
+
+  same-step : (x t h x′ t′ h′ : ℕ) → reported x t h ≡ reported x′ t′ h′ → t ≡ t′
+  same-step x t h x′ t′ h′ e = cc
+
+  same-sent : (x t h x′ t′ h′ : ℕ) → reported x t h ≡ reported x′ t′ h′ → h ≡ h′
+  same-sent x t h x′ t′ h′ e = cc
+
+  sound-of : {r : Run} → Fair r → Sound (r .target .memory)
+  sound-of (onWay g safe clean) = safe
+  sound-of (done d) = d .sound
+  sound-of (ended s) = s .sound
+
+  provoked-of : {r : Run} → Fair r → Calm l → NoError (r .monitor)
+  provoked-of (onWay g safe clean) calm = clean
+  provoked-of (done d) calm = d .clean
+  provoked-of {r} (ended s) calm = quiet-reason (s .number) (r .monitor) (s .why) calm
+
+  -- what a report is
+  data Report (r : Run) (x t h : ℕ) : Type 0 where
+    isDone : x ≡ 0 → t ≡ 9 → h ≡ r .traffic .transfers → Finished i b l r → Report r x t h
+    isStopped : h ≡ r .traffic .transfers → Why i (b .silicon) l x (r .monitor) → Report r x t h
+
+  report-of : {r : Run} (x t h : ℕ) → Fair r → r .session ≡ reported x t h → Report r x t h
+  report-of {r} x t h (onWay g safe clean) e = absurd (not-going (r .session) x t h e g)
+  report-of {r} x t h (done d) e =
+      let z : reported x t h ≡ reported 0 9 (r .traffic .transfers) = sym e ∙ d .is in
+      isDone (same-number x t h _ _ _ z) (same-step x t h _ _ _ z) (same-sent x t h _ _ _ z) d
+  report-of {r} x t h (ended s) e =
+      let z : reported x t h ≡ reported (s .number) (s .step) (r .traffic .transfers) = sym e ∙ s .is in
+      isStopped (same-sent x t h _ _ _ z) (rw (same-number x t h _ _ _ z) (s .why))
+
+  exactly-of : {r : Run} {x t h : ℕ} → Report r x t h → (x ≡ 0) ↔ (RightPart i (b .silicon) × NoError (r .monitor))
+  exactly-of (isDone e e′ e″ d) = ((λ _. (right-part i (b .silicon) (d .right), d .clean)), (λ _. e))
+  exactly-of {r} {x} (isStopped e w) = ((λ z. absurd (not-zero x (r .monitor) w z)), (λ g. absurd (no-reason x (r .monitor) w (g .0) (g .1))))
+
+  number-of : {r : Run} {x t h : ℕ} → Report r x t h
+      → (x ≡ 0) ⊎ ((r .monitor ≡ linkError x) ⊎ ((¬ RightPart i (b .silicon)) × ((x ≡ 16) ⊎ (x ≡ 20))))
+  number-of (isDone e e′ e″ d) = inl e
+  number-of {r} {x} (isStopped e w) = inr (the-number x (r .monitor) w)
+
+  calm-of : {r : Run} {x t h : ℕ} → Report r x t h → Calm l → RightPart i (b .silicon) → (x ≡ 0) × (h ≡ plan (i .geometry) (entryOf b))
+  calm-of (isDone e e′ e″ d) calm right = (e, omega (arith, d .count, d .calm calm))
+  calm-of {r} {x} (isStopped e w) calm right = absurd (no-calm-reason x (r .monitor) w right calm)
+
+  sent-of : {r : Run} {x t h : ℕ} → r .session ≡ reported x t h → Report r x t h → h ≡ (handedOut i r) .transfers
+  sent-of {r} s (isDone e e′ e″ d) = e″ ∙ ap (λ (z : Traffic). z .transfers) (sym (stands-none i (r .session) (r .traffic) (ap going s)))
+  sent-of {r} s (isStopped e w) = e ∙ ap (λ (z : Traffic). z .transfers) (sym (stands-none i (r .session) (r .traffic) (ap going s)))
+
+  done-of : {r : Run} {t h : ℕ} → Report r 0 t h → (t ≡ 9) × (h ≡ r .traffic .transfers) × Finished i b l r
+  done-of (isDone e e′ e″ d) = (e′, e″, d)
+  done-of {r} (isStopped e w) = absurd (not-zero 0 (r .monitor) w refl)
+
+  claim : (n : ℕ) (r : Run) → Fair r → Bounded ours (handedOut i r)
+      → (total (mostTraffic (i .geometry) (entryOf b)) ≤ n → going (r .session) ≡ false) → Demand3 i b l n r
+  unfolding frame
+  claim n r f most late = record {
+    neverVirgin = sound-of f;
+    transfers = most .transfers;
+    xresets = most .xresets;
+    lineResets = most .lineResets;
+    comes = λ h. as-report (r .session) (late h);
+    counted = λ x t h e. sent-of e (report-of x t h f e);
+    exactly = λ x t h e. exactly-of (report-of x t h f e);
+    number = λ x t h e. number-of (report-of x t h f e);
+    done = λ t h e.
+        let d = done-of (report-of 0 t h f e) in
+        record {
+          atEnd = d .0;
+          flash = d .2 .bears .flash;
+          locks = d .2 .bears .locks;
+          level = d .2 .bears .level;
+          planned = d .1 ∙ d .2 .count;
+        };
+    provoked = provoked-of f;
+    calm = λ c right x t h e. calm-of (report-of x t h f e) c right;
+  }
+
+-- ---- the start
+
+goes : (b : Target) → (b .memory .stored ≡ 1) ⊎ (b .memory .stored ≡ 2) → Goes (b .memory) (entryOf b)
+goes b (inl e) = rw e (byOpen refl)
+goes b (inr e) = rw e (byProtected refl)
+
+level-sound : (b : Target) → (b .memory .stored ≡ 1) ⊎ (b .memory .stored ≡ 2) → Sound (b .memory)
+level-sound b (inl e) = λ h. omega arith
+level-sound b (inr e) = λ h. omega arith
+
+-- demand 3 of every image that passes, every target that may start, both free lists, every number of steps
+pub demand3-holds : Demand3Holds
+unfolding frame
+demand3-holds g h bytes p b s l n =
+    let i = imageOf g h bytes in
+    let fx = table-facts g h bytes p in
+    let v = valid g h bytes p in
+    let lv = v .level in
+    let way : Reaches (frame i lv b l) (started b l) =
+    start-reaches (frame i lv b l) fx v (record { high = s .high; low = s .low; revision = s .revision; family = s .family }) (b .memory)
+    (record { flash = s .flash; locks = s .locks; latch = s .latch }) (level-sound b (s .level)) (goes b (s .level))
+    (record { silicon = refl; memory = refl; room = s .params; quiet = s .quiet }) (start-stands i fx lv b l) in
+    claim i lv b l n (after i n (started b l)) (fair i lv b l n (started b l) way) (bounded i lv b l n (started b l) way (λ e. absurd (false≢true (sym e))))
+    (λ late. comes i lv b l n (started b l) way (omega arith))
