@@ -49,7 +49,7 @@ module _ {i : Image} (f : Frame i) where
       → (Stood f y (suc n) ms κ (reset-by Xres e) → Reaches f (sync y (suc n) 0 0 0 k (setReset b) t (reset-by Xres e)))
       → Reaches f (sync y n 0 0 0 k b t e)
   xres-reaches {s} {u} {y} {n} {k} {ms} {κ} {e} {b} {t} st safe quiet next =
-      steps f (sync y n 0 0 0 k b t e) (sync y (suc n) 0 0 0 k (setReset b) t (reset-by Xres e)) safe
+      steps f (sync y n 0 0 0 k b t e) (sync y (suc n) 0 0 0 k (setReset b) t (reset-by Xres e)) refl safe
       (rw (at-move st) (record { transfers = omega (arith, st .room); xresets = omega (arith, st .xres); lineResets = omega (arith, st .lines) })) (clear 0 0 0 t (e .delays))
       arrives
       (next (record { at = at-next st; spent = st .spent; room = st .room; xres = omega (arith, st .xres); lines = st .lines; calm = λ still. let c = st .calm still in record { line = c .line; calls = c .calls; none = c .none } }))
@@ -62,7 +62,7 @@ module _ {i : Image} (f : Frame i) where
       → (Stood f y (suc n) ms κ (reset-by LineReset e) → Reaches f (sync y (suc n) 0 0 a k b t (reset-by LineReset e)))
       → Reaches f (sync y n 0 0 a k b t e)
   line-reaches {s} {u} {y} {n} {a} {k} {ms} {κ} {e} {b} {t} st safe next =
-      steps f (sync y n 0 0 a k b t e) (sync y (suc n) 0 0 a k b t (reset-by LineReset e)) safe
+      steps f (sync y n 0 0 a k b t e) (sync y (suc n) 0 0 a k b t (reset-by LineReset e)) refl safe
       (rw (at-move st) (record { transfers = omega (arith, st .room); xresets = omega (arith, st .xres); lineResets = omega (arith, st .lines) })) (clear 0 0 a t (e .delays))
       arrives
       (next (record { at = at-next st; spent = st .spent; room = st .room; xres = st .xres; lines = omega (arith, st .lines); calm = λ still. let c = st .calm still in record { line = c .line; calls = c .calls; none = c .none } }))
@@ -105,7 +105,7 @@ module _ {i : Image} (f : Frame i) where
   unfolding carry judge noticed
   attempt-once m s {y} {n} {ms} {κ} {e} a k b t st alive safe own onMiss next =
       line-reaches (record { at = st .at; spent = st .spent; room = st .room; xres = st .xres; lines = omega (arith, st .lines); calm = st .calm }) safe λ st₁.
-      steps f (sync y (suc n) 0 0 a k b t e₁) met safe
+      steps f (sync y (suc n) 0 0 a k b t e₁) met refl safe
       (rw (at-move st₁) (record { transfers = omega (arith, st₁ .room); xresets = omega (arith, st₁ .xres); lineResets = omega (arith, st₁ .lines) })) (clear 0 0 a t (e .delays))
       (arrives a k b t st₁) (by st₁ (hears (i .geometry) (e .lists) b attempt (eventOf (e .lists .line)) alive (barred-off (i .geometry) ReadIdcode b refl)))
     where

@@ -18,3 +18,7 @@ pub mod Locking
 pub mod Attempts
 pub mod Acquiring
 pub mod Finishing
+pub mod Entering
+pub mod Frames
+pub mod Passing
+pub mod Demand

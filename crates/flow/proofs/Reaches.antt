@@ -179,16 +179,21 @@ pub record Bounded {i : Image} (f : Frame i) (t : Traffic) : Type 0 where
   pub xresets : t .xresets ≤ f .most .xresets
   pub lineResets : t .lineResets ≤ f .most .lineResets
 
+-- not reported yet
+abbrev pub going : Session → Bool
+going (running y n w p a k h) = true
+going (reported x s h) = false
+
 -- the session comes to Goal, or stops for a reason; on the way the memory is safe, and no more is handed out than is allowed
 pub data Reaches {i : Image} (f : Frame i) : Run → Type 0 where
   here : {r : Run} → f .Goal r → Reaches f r
   stop : {r : Run} → f .Stop r → Reaches f r
-  step : {r : Run} → f .Safe (r .target .memory) → Bounded f (handedOut i r) → NoError (r .monitor) → Reaches f (advance i r) → Reaches f r
+  step : {r : Run} → going (r .session) ≡ true → f .Safe (r .target .memory) → Bounded f (handedOut i r) → NoError (r .monitor) → Reaches f (advance i r) → Reaches f r
 
 pub clear : (w p a : ℕ) (t : Watch) (d : Delays) → NoError (watching w p a t d)
 clear w p a t d n e = let no : _≡_ {A = ℕ} 0 1 = cc in omega arith
 
 -- a step whose outcome is known
-pub steps : {i : Image} (f : Frame i) (r r′ : Run) → f .Safe (r .target .memory) → Bounded f (handedOut i r) → NoError (r .monitor) → advance i r ≡ r′
+pub steps : {i : Image} (f : Frame i) (r r′ : Run) → going (r .session) ≡ true → f .Safe (r .target .memory) → Bounded f (handedOut i r) → NoError (r .monitor) → advance i r ≡ r′
     → Reaches f r′ → Reaches f r
-steps f r r′ safe most clean e l = step {r = r} safe most clean (rw e l)
+steps f r r′ goes safe most clean e l = step {r = r} goes safe most clean (rw e l)

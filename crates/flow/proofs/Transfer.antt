@@ -109,7 +109,7 @@ module _ {i : Image} (f : Frame i) where
       → Reaches f (okayed s q u y n p a k (gives q b) (carry (i .geometry) q o (outcomeOf (e .lists .calls)) b) t (passed (listsAfter (i .geometry) q b (e .lists)) e)))
       → Reaches f (sync y n w p a k b t e)
   once {q} h {s} {u} {y} {n} {ms} v {κ} {e} w p a k b t st alive free safe safe′ onWait next =
-      steps f (sync y n w p a k b t e) met safe (bounded h v κ w p a k b t st) (clear w p a t (e .delays)) (arrives h w p a k b t st)
+      steps f (sync y n w p a k b t e) met refl safe (bounded h v κ w p a k b t st) (clear w p a t (e .delays)) (arrives h w p a k b t st)
       (by (hears (i .geometry) (e .lists) b (plain h) (eventOf (e .lists .line)) alive free))
     where
       blame : ((eventOf (e .lists .line)) .fate ≡ clean → ⊥) → f .Still → ⊥

@@ -1,0 +1,281 @@
+-- Demand 3 on the definitions. Assumes nothing.
+use mathlib.Core.Bool.{Bool, true, false, false≢true, _&&_, cond}
+use mathlib.Core.List.{List, [], _∷_}
+use mathlib.Core.Logic.{_⊎_, inl, inr, _↔_}
+use mathlib.Core.Path.{_≡_, refl, ap, sym, subst, _∙_}
+use Prim.Native.Nat.{ℕ, zero, suc, _+_, _*_, _≤_, _<_}
+use native.Mathlib.Omega.{arith}
+use lib.Dec.{eqb}
+use borrow.Author.Tests.{eq-eqb, eqb-true}
+use Rattle.flow.specs.Claim.{Passes, Startable, RightPart, NoError, Calm, entryOf, delaysIn, Demand3, Demand3Holds}
+use Rattle.flow.specs.Monitor.{Monitor, watching, linkError}
+use Rattle.flow.specs.Plan.{Traffic, counting, plan, mostTraffic}
+use Rattle.flow.specs.Run.{Run, advanceBy, advance, after, started, handedOutBy, handedOut}
+use Rattle.flow.specs.Sequence.{sequence}
+use Rattle.flow.specs.Session.{Session, running, reported, moveAt}
+use Rattle.flow.specs.Target.{Target, Silicon, Lists}
+use Rattle.flow.specs.declared.Entry.{Entry}
+use Rattle.flow.specs.declared.Entry.the-variants.{FromOpen, FromProtected}
+use Rattle.flow.specs.declared.Request.{Request}
+use Rattle.flow.specs.declared.Request.the-variants.{Xres, LineReset, ReadIdcode, ReadDrw, WriteTar, WriteDrw, WriteSetup}
+use Rattle.flow.proofs.Acquiring.{Bytes}
+use Rattle.flow.proofs.Entering.{Goes, byOpen, byProtected, start-reaches}
+use Rattle.flow.proofs.Frames.{Sound, Why, mishap, otherId, otherPart, Stopped, Finished, frame, firstEnv, start-stands}
+use Rattle.flow.proofs.Passing.{table-facts, valid}
+use Rattle.flow.proofs.Phases.{Level, Valid, Sized}
+use Rattle.flow.proofs.Reaches.{rightSilicon, RightIds, Frame, Bounded, going, Reaches, here, stop, step}
+use Rattle.flow.proofs.Table.{both, Facts}
+use Rattle.image.specs.Checks.{metadataAt}
+use Rattle.image.specs.Image.{Image, imageOf}
+use Rattle.image.specs.declared.Header.{Header}
+use Rattle.parts.specs.Parts.{lowFits}
+use Rattle.parts.specs.declared.Geometry.{Geometry}
+
+-- ---- the right part, as tests and as a record
+
+right-part : (i : Image) (x : Silicon) → RightIds i x → RightPart i x
+unfolding rightSilicon
+right-part i x r =
+    let s = both (eqb (x .high) (metadataAt (i .header) 2) && eqb (x .family) (metadataAt (i .header) 5)) (lowFits (i .geometry .part) (x .low)) (r .silicon) in
+    let t = both (eqb (x .high) (metadataAt (i .header) 2)) (eqb (x .family) (metadataAt (i .header) 5)) (s .0) in
+    record { idcode = eqb-true _ _ (r .idcode); high = eqb-true _ _ (t .0); family = eqb-true _ _ (t .1); low = s .1 }
+
+right-ids : (i : Image) (x : Silicon) → RightPart i x → RightIds i x
+unfolding rightSilicon
+right-ids i x r = record {
+  idcode = eq-eqb (x .idcode) 0x0BB11477 (r .idcode);
+  silicon = rw (eq-eqb (x .high) (metadataAt (i .header) 2) (r .high), eq-eqb (x .family) (metadataAt (i .header) 5) (r .family), r .low);
+}
+
+-- ---- one request at a time
+
+abbrev total : Traffic → ℕ
+total t = t .transfers + t .xresets + t .lineResets
+
+one-more : (q : Request) (t : Traffic) → total (counting q t) ≡ suc (total t)
+one-more Xres t = omega arith
+one-more LineReset t = omega arith
+one-more ReadIdcode t = omega arith
+one-more ReadDrw t = omega arith
+one-more (WriteTar w) t = omega arith
+one-more (WriteDrw w) t = omega arith
+one-more (WriteSetup r w) t = omega arith
+
+module _ (i : Image) where
+  -- what stood is then met
+  met-traffic : (r : Run) → going (r .session) ≡ true → (advance i r) .traffic ≡ handedOut i r
+  unfolding advance
+  met-traffic r = by (r .session)
+    where
+      by : (s : Session) → going s ≡ true → (advanceBy i s r) .traffic ≡ handedOutBy i s (r .traffic)
+      by (running y n w p a k h) e = refl
+      by (reported x s h) e = absurd (false≢true e)
+
+  stands-one : (s : Session) (t : Traffic) → going s ≡ true → total (handedOutBy i s t) ≡ suc (total t)
+  stands-one (running y n w p a k h) t e = one-more ((moveAt i y n) .request) t
+  stands-one (reported x s h) t e = absurd (false≢true e)
+
+  stands-none : (s : Session) (t : Traffic) → going s ≡ false → handedOutBy i s t ≡ t
+  stands-none (running y n w p a k h) t e = absurd (false≢true (sym e))
+  stands-none (reported x s h) t e = refl
+
+  -- after the report nothing changes
+  advance-ended : (r : Run) → going (r .session) ≡ false → advance i r ≡ r
+  unfolding advance
+  advance-ended r = by (r .session)
+    where
+      by : (s : Session) → going s ≡ false → advanceBy i s r ≡ r
+      by (running y n w p a k h) e = absurd (false≢true (sym e))
+      by (reported x s h) e = refl
+
+  stays : (n : ℕ) (r : Run) → going (r .session) ≡ false → after i n r ≡ r
+  unfolding after
+  stays zero r e = refl
+  stays (suc n) r e = rw (advance-ended r e) (stays n r e)
+
+-- ---- from Reaches to every number of steps
+
+module _ (i : Image) (lv : Level (i .header .level)) (b : Target) (l : Lists) where
+  abbrev ours : Frame i
+  ours = frame i lv b l
+
+  -- on the way, done, or stopped for a reason
+  data Fair (r : Run) : Type 0 where
+    onWay : going (r .session) ≡ true → Sound (r .target .memory) → NoError (r .monitor) → Fair r
+    done : Finished i b l r → Fair r
+    ended : Stopped i (b .silicon) l r → Fair r
+
+  finished-ends : {r : Run} → Finished i b l r → going (r .session) ≡ false
+  finished-ends g = ap going (g .is)
+
+  stopped-ends : {r : Run} → Stopped i (b .silicon) l r → going (r .session) ≡ false
+  stopped-ends s = ap going (s .is)
+
+  fair : (n : ℕ) (r : Run) → Reaches ours r → Fair (after i n r)
+  unfolding after frame
+  fair zero r (here g) = done g
+  fair zero r (stop s) = ended s
+  fair zero r (step g safe most clean more) = onWay g safe clean
+  fair (suc n) r (here g) = rw (stays i (suc n) r (finished-ends g)) (done g)
+  fair (suc n) r (stop s) = rw (stays i (suc n) r (stopped-ends s)) (ended s)
+  fair (suc n) r (step g safe most clean more) = fair n (advance i r) more
+
+  bounded : (n : ℕ) (r : Run) → Reaches ours r → (going (r .session) ≡ false → Bounded ours (r .traffic)) → Bounded ours (handedOut i (after i n r))
+  unfolding after frame
+  bounded zero r (here g) h = rw (stands-none i (r .session) (r .traffic) (finished-ends g)) (h (finished-ends g))
+  bounded zero r (stop s) h = rw (stands-none i (r .session) (r .traffic) (stopped-ends s)) (h (stopped-ends s))
+  bounded zero r (step g safe most clean more) h = most
+  bounded (suc n) r (here g) h = rw (stays i (suc n) r (finished-ends g), stands-none i (r .session) (r .traffic) (finished-ends g)) (h (finished-ends g))
+  bounded (suc n) r (stop s) h = rw (stays i (suc n) r (stopped-ends s), stands-none i (r .session) (r .traffic) (stopped-ends s)) (h (stopped-ends s))
+  bounded (suc n) r (step g safe most clean more) h = bounded n (advance i r) more (λ _. rw (met-traffic i r g) most)
+
+  comes : (n : ℕ) (r : Run) → Reaches ours r → total (ours .most) ≤ n + total (r .traffic) → going ((after i n r) .session) ≡ false
+  unfolding after frame
+  comes zero r (here g) h = finished-ends g
+  comes zero r (stop s) h = stopped-ends s
+  comes zero r (step g safe most clean more) h =
+      absurd (omega (arith, stands-one i (r .session) (r .traffic) g, most .transfers, most .xresets, most .lineResets))
+  comes (suc n) r (here g) h = rw (stays i (suc n) r (finished-ends g)) (finished-ends g)
+  comes (suc n) r (stop s) h = rw (stays i (suc n) r (stopped-ends s)) (stopped-ends s)
+  comes (suc n) r (step g safe most clean more) h =
+      comes n (advance i r) more (omega (arith, ap total (met-traffic i r g), stands-one i (r .session) (r .traffic) g))
+
+  -- a reported session, taken apart
+  as-report : (s : Session) → going s ≡ false → record { number : ℕ; step : ℕ; sent : ℕ; is : s ≡ reported number step sent }
+  as-report (running y n w p a k h) e = absurd (false≢true (sym e))
+  as-report (reported x s h) e = record { number = x; step = s; sent = h; is = refl }
+
+  not-going : (s : Session) (x t h : ℕ) → s ≡ reported x t h → going s ≡ true → ⊥
+  not-going s x t h e g = false≢true (sym (ap going e) ∙ g)
+
+  -- why it has no reason to stop
+  no-reason : (x : ℕ) (m : Monitor) → Why i (b .silicon) l x m → RightPart i (b .silicon) → NoError m → ⊥
+  no-reason x m (mishap n some bad) right none = none n refl
+  no-reason x m (otherId c e) right none = false≢true (sym e ∙ (right-ids i (b .silicon) right) .idcode)
+  no-reason x m (otherPart c e) right none = false≢true (sym e ∙ (right-ids i (b .silicon) right) .silicon)
+
+  no-calm-reason : (x : ℕ) (m : Monitor) → Why i (b .silicon) l x m → RightPart i (b .silicon) → Calm l → ⊥
+  no-calm-reason x m (mishap n some bad) right calm = bad calm
+  no-calm-reason x m (otherId c e) right calm = false≢true (sym e ∙ (right-ids i (b .silicon) right) .idcode)
+  no-calm-reason x m (otherPart c e) right calm = false≢true (sym e ∙ (right-ids i (b .silicon) right) .silicon)
+
+  not-zero : (x : ℕ) (m : Monitor) → Why i (b .silicon) l x m → x ≡ 0 → ⊥
+  not-zero x m (mishap n some bad) e = omega arith
+  not-zero x m (otherId c h) e = omega arith
+  not-zero x m (otherPart c h) e = omega arith
+
+  quiet-reason : (x : ℕ) (m : Monitor) → Why i (b .silicon) l x m → Calm l → NoError m
+  quiet-reason x m (mishap n some bad) calm = absurd (bad calm)
+  quiet-reason x m (otherId c e) calm = c
+  quiet-reason x m (otherPart c e) calm = c
+
+  the-number : (x : ℕ) (m : Monitor) → Why i (b .silicon) l x m → (m ≡ linkError x) ⊎ ((¬ RightPart i (b .silicon)) × ((x ≡ 16) ⊎ (x ≡ 20)))
+  the-number x m (mishap n some bad) = inl refl
+  the-number x m (otherId c e) = inr ((λ right. false≢true (sym e ∙ (right-ids i (b .silicon) right) .idcode)), inl refl)
+  the-number x m (otherPart c e) = inr ((λ right. false≢true (sym e ∙ (right-ids i (b .silicon) right) .silicon)), inr refl)
+
+  -- ---- the claim of a run that is fair
+
+  same-number : (x t h x′ t′ h′ : ℕ) → reported x t h ≡ reported x′ t′ h′ → x ≡ x′
+  same-number x t h x′ t′ h′ e = cc
+
+  same-step : (x t h x′ t′ h′ : ℕ) → reported x t h ≡ reported x′ t′ h′ → t ≡ t′
+  same-step x t h x′ t′ h′ e = cc
+
+  same-sent : (x t h x′ t′ h′ : ℕ) → reported x t h ≡ reported x′ t′ h′ → h ≡ h′
+  same-sent x t h x′ t′ h′ e = cc
+
+  sound-of : {r : Run} → Fair r → Sound (r .target .memory)
+  sound-of (onWay g safe clean) = safe
+  sound-of (done d) = d .sound
+  sound-of (ended s) = s .sound
+
+  provoked-of : {r : Run} → Fair r → Calm l → NoError (r .monitor)
+  provoked-of (onWay g safe clean) calm = clean
+  provoked-of (done d) calm = d .clean
+  provoked-of {r} (ended s) calm = quiet-reason (s .number) (r .monitor) (s .why) calm
+
+  -- what a report is
+  data Report (r : Run) (x t h : ℕ) : Type 0 where
+    isDone : x ≡ 0 → t ≡ 9 → h ≡ r .traffic .transfers → Finished i b l r → Report r x t h
+    isStopped : h ≡ r .traffic .transfers → Why i (b .silicon) l x (r .monitor) → Report r x t h
+
+  report-of : {r : Run} (x t h : ℕ) → Fair r → r .session ≡ reported x t h → Report r x t h
+  report-of {r} x t h (onWay g safe clean) e = absurd (not-going (r .session) x t h e g)
+  report-of {r} x t h (done d) e =
+      let z : reported x t h ≡ reported 0 9 (r .traffic .transfers) = sym e ∙ d .is in
+      isDone (same-number x t h _ _ _ z) (same-step x t h _ _ _ z) (same-sent x t h _ _ _ z) d
+  report-of {r} x t h (ended s) e =
+      let z : reported x t h ≡ reported (s .number) (s .step) (r .traffic .transfers) = sym e ∙ s .is in
+      isStopped (same-sent x t h _ _ _ z) (rw (same-number x t h _ _ _ z) (s .why))
+
+  exactly-of : {r : Run} {x t h : ℕ} → Report r x t h → (x ≡ 0) ↔ (RightPart i (b .silicon) × NoError (r .monitor))
+  exactly-of (isDone e e′ e″ d) = ((λ _. (right-part i (b .silicon) (d .right), d .clean)), (λ _. e))
+  exactly-of {r} {x} (isStopped e w) = ((λ z. absurd (not-zero x (r .monitor) w z)), (λ g. absurd (no-reason x (r .monitor) w (g .0) (g .1))))
+
+  number-of : {r : Run} {x t h : ℕ} → Report r x t h
+      → (x ≡ 0) ⊎ ((r .monitor ≡ linkError x) ⊎ ((¬ RightPart i (b .silicon)) × ((x ≡ 16) ⊎ (x ≡ 20))))
+  number-of (isDone e e′ e″ d) = inl e
+  number-of {r} {x} (isStopped e w) = inr (the-number x (r .monitor) w)
+
+  calm-of : {r : Run} {x t h : ℕ} → Report r x t h → Calm l → RightPart i (b .silicon) → (x ≡ 0) × (h ≡ plan (i .geometry) (entryOf b))
+  calm-of (isDone e e′ e″ d) calm right = (e, omega (arith, d .count, d .calm calm))
+  calm-of {r} {x} (isStopped e w) calm right = absurd (no-calm-reason x (r .monitor) w right calm)
+
+  sent-of : {r : Run} {x t h : ℕ} → r .session ≡ reported x t h → Report r x t h → h ≡ (handedOut i r) .transfers
+  sent-of {r} s (isDone e e′ e″ d) = e″ ∙ ap (λ (z : Traffic). z .transfers) (sym (stands-none i (r .session) (r .traffic) (ap going s)))
+  sent-of {r} s (isStopped e w) = e ∙ ap (λ (z : Traffic). z .transfers) (sym (stands-none i (r .session) (r .traffic) (ap going s)))
+
+  done-of : {r : Run} {t h : ℕ} → Report r 0 t h → (t ≡ 9) × (h ≡ r .traffic .transfers) × Finished i b l r
+  done-of (isDone e e′ e″ d) = (e′, e″, d)
+  done-of {r} (isStopped e w) = absurd (not-zero 0 (r .monitor) w refl)
+
+  claim : (n : ℕ) (r : Run) → Fair r → Bounded ours (handedOut i r)
+      → (total (mostTraffic (i .geometry) (entryOf b)) ≤ n → going (r .session) ≡ false) → Demand3 i b l n r
+  unfolding frame
+  claim n r f most late = record {
+    neverVirgin = sound-of f;
+    transfers = most .transfers;
+    xresets = most .xresets;
+    lineResets = most .lineResets;
+    comes = λ h. as-report (r .session) (late h);
+    counted = λ x t h e. sent-of e (report-of x t h f e);
+    exactly = λ x t h e. exactly-of (report-of x t h f e);
+    number = λ x t h e. number-of (report-of x t h f e);
+    done = λ t h e.
+        let d = done-of (report-of 0 t h f e) in
+        record {
+          atEnd = d .0;
+          flash = d .2 .bears .flash;
+          locks = d .2 .bears .locks;
+          level = d .2 .bears .level;
+          planned = d .1 ∙ d .2 .count;
+        };
+    provoked = provoked-of f;
+    calm = λ c right x t h e. calm-of (report-of x t h f e) c right;
+  }
+
+-- ---- the start
+
+goes : (b : Target) → (b .memory .stored ≡ 1) ⊎ (b .memory .stored ≡ 2) → Goes (b .memory) (entryOf b)
+goes b (inl e) = rw e (byOpen refl)
+goes b (inr e) = rw e (byProtected refl)
+
+level-sound : (b : Target) → (b .memory .stored ≡ 1) ⊎ (b .memory .stored ≡ 2) → Sound (b .memory)
+level-sound b (inl e) = λ h. omega arith
+level-sound b (inr e) = λ h. omega arith
+
+-- demand 3 of every image that passes, every target that may start, both free lists, every number of steps
+pub demand3-holds : Demand3Holds
+unfolding frame
+demand3-holds g h bytes p b s l n =
+    let i = imageOf g h bytes in
+    let fx = table-facts g h bytes p in
+    let v = valid g h bytes p in
+    let lv = v .level in
+    let way : Reaches (frame i lv b l) (started b l) =
+    start-reaches (frame i lv b l) fx v (record { high = s .high; low = s .low; revision = s .revision; family = s .family }) (b .memory)
+    (record { flash = s .flash; locks = s .locks; latch = s .latch }) (level-sound b (s .level)) (goes b (s .level))
+    (record { silicon = refl; memory = refl; room = s .params; quiet = s .quiet }) (start-stands i fx lv b l) in
+    claim i lv b l n (after i n (started b l)) (fair i lv b l n (started b l) way) (bounded i lv b l n (started b l) way (λ e. absurd (false≢true (sym e))))
+    (λ late. comes i lv b l n (started b l) way (omega arith))

@@ -1,0 +1,187 @@
+-- Step 3 by both entries, and the whole way from the start. Assumes nothing.
+use mathlib.Core.Bool.{Bool, true, false, _&&_, cond}
+use mathlib.Core.List.{List, [], _∷_, _++_, append-nil}
+use mathlib.Core.Logic.{inl, inr}
+use mathlib.Core.Path.{_≡_, refl, ap, sym, subst, _∙_}
+use Prim.Native.Nat.{ℕ, zero, suc, _+_, _*_, _-_, _/_, _%_, _≤_, _<_}
+use native.Mathlib.Omega.{arith}
+use lib.Dec.{eqb}
+use lib.ListN.{length, drop, replicate, length-append, length-drop, length-replicate}
+use lib.Seq.{drop-at}
+use borrow.Author.Tests.{eq-eqb}
+use Rattle.flow.specs.Calls.{finish, effectOf, leftBy, zeroed, macroSent, sysargAfter, sysreqAfter}
+use Rattle.flow.specs.Judge.{entryBy, report, judge}
+use Rattle.flow.specs.Monitor.{watching}
+use Rattle.flow.specs.Sequence.{key, write, writes, read, call, listed, acquire, silicon, program, opening, afterwards, sequence}
+use Rattle.flow.specs.Session.{settled}
+use Rattle.flow.specs.Target.{Target, Memory, Residue}
+use Rattle.flow.specs.declared.Entry.{Entry}
+use Rattle.flow.specs.declared.Entry.the-variants.{FromOpen, FromProtected}
+use Rattle.flow.specs.declared.Move.{Move}
+use Rattle.flow.specs.declared.Purpose.the-variants.{Keep, EntryLevel, Reopened}
+use Rattle.flow.proofs.Access.{Awake}
+use Rattle.flow.proofs.Acquiring.{Fresh, Acquired, acquire-leg, Bytes, ids-read, level-read, identified, silicon-reaches}
+use Rattle.flow.proofs.Calling.{Returned, calling}
+use Rattle.flow.proofs.Finishing.{Blank, nothing, program-reaches}
+use Rattle.flow.proofs.Legs.{Core, core}
+use Rattle.flow.proofs.Listing.{ListReturned, listing}
+use Rattle.flow.proofs.Lists.{total-zero}
+use Rattle.flow.proofs.Phases.{Valid, Opened, Sized, callA, callD, steady-A}
+use Rattle.flow.proofs.Polling.{idleAt}
+use Rattle.flow.proofs.Reaches.{Purse, spend, pay, Env, sync, rightSilicon, RightIds, Frame, Stood, Stands, split, Reaches, stop}
+use Rattle.flow.proofs.Table.{Facts}
+use Rattle.image.specs.Image.{Image}
+use Rattle.parts.specs.Sizes.{rowBytes, sysargOf, sysreqOf}
+use Rattle.parts.specs.declared.Geometry.{Geometry}
+
+effect-A : (g : Geometry) (l a : ℕ) (ps : List ℕ) (m : Memory) → effectOf g 0x0A l a ps m ≡ zeroed (m .stored) m
+unfolding effectOf
+effect-A g l a ps m = refl
+
+-- the word that reopens a PROTECTED target
+abbrev reopenWord : ℕ
+reopenWord = key 0x0D + 0x10000
+
+effect-reopen : (g : Geometry) (l : ℕ) (ps : List ℕ) (m : Memory) → l ≡ 2 → effectOf g 0x0D l reopenWord ps m ≡ zeroed 1 m
+unfolding effectOf
+effect-reopen g l ps m e = rw e
+
+safe-reopen : {i : Image} (f : Frame i) (y : Bool) (r : Residue) (b : Target) → b .effect ≡ 2 → b .sysarg ≡ reopenWord → f .Safe (b .memory)
+    → f .Safe ((finish (i .geometry) y r 0x0D b) .memory)
+unfolding finish leftBy
+safe-reopen {i} f true r b he ha safe = rw (ha, effect-reopen (i .geometry) (b .effect) [] (b .memory) he) (f .safeOpen _ refl)
+safe-reopen f false r b he ha safe = by (r .newLevel && true && eqb (macroSent (b .sysarg)) 0) refl
+  where
+    by : (y : Bool) → r .newLevel && true && eqb (macroSent (b .sysarg)) 0 ≡ y → f .Safe (leftBy 0x0D (b .sysarg) r (b .memory))
+    by true e = f .safeOpen _ (rw (e, ha))
+    by false e = f .safeSame (b .memory) _ (rw e) safe
+
+zeroed-sized : {i : Image} {f : Frame i} (l : ℕ) (m : Memory) → Sized f m → Sized f (zeroed l m)
+zeroed-sized l m s = record {
+  flash = length-replicate (length (m .flash)) 0 ∙ s .flash;
+  locks = length-replicate (length (m .locks)) 0 ∙ s .locks;
+  latch = s .latch;
+}
+
+-- where the level leads to
+pub data Goes (m : Memory) : Entry → Type 0 where
+  byOpen : m .stored ≡ 1 → Goes m FromOpen
+  byProtected : m .stored ≡ 2 → Goes m FromProtected
+
+pub awake-of : {m : Memory} {y : Entry} → Goes m y → Awake (m .stored)
+awake-of (byOpen e) = inl e
+awake-of (byProtected e) = inr e
+
+-- the end of the opening is where either entry goes on
+seam : (a b c : List Move) (n : ℕ) → drop n (a ++ b) ≡ b → 1 ≤ length b → drop n (a ++ c) ≡ c
+seam a b c n e some =
+    let h : length (a ++ b) - n ≡ length b = sym (length-drop n (a ++ b)) ∙ ap length e in
+    let k : length a ≡ n = omega (arith, length-append a b) in
+    drop-at a c n k
+
+some-moves : (i : Image) → 1 ≤ length (afterwards i FromOpen)
+unfolding afterwards listed writes write
+some-moves i = omega arith
+
+module _ {i : Image} (f : Frame i) (fx : Facts (i .geometry)) (v : Valid i) (hb : Bytes (f .silicon)) (m : Memory) (sz : Sized f m) (safe : f .Safe m) where
+  -- the kept word does not matter here
+  again : {k k′ : ℕ} {c : Core} → Acquired f m k c → Acquired f m k′ c
+  again p = record {
+    fresh = record { silicon = p .fresh .silicon; memory = p .fresh .memory; room = p .fresh .room; quiet = p .fresh .quiet };
+    effect = p .effect;
+    idcode = p .idcode;
+  }
+
+  -- OPEN: erase, then steps 4 to 9
+  open-reaches : {n x k : ℕ} {e : Env} {b : Target} → RightIds i (f .silicon) → m .stored ≡ 1 → Acquired f m k (core b) → Stands f FromOpen n (afterwards i FromOpen) [] nothing e
+      → Reaches f (sync FromOpen n 0 0 0 k b (idleAt x) e)
+  unfolding afterwards
+  open-reaches {b = b} right one p st =
+      listing f fx 3 0x0A (key 0x0A ∷ []) (callA .command) (split (listed (i .geometry) 3 0x0A (key 0x0A ∷ [])) (program i) [] nothing st) (omega arith)
+      (p .fresh .room) (p .effect ∙ one) (rw (p .fresh .memory) safe)
+      (λ y r b′ _ hm _. f .safeOpen _ (steady-A (i .geometry) y r b′ ∙ ap (λ (z : Memory). z .stored) (hm ∙ p .fresh .memory) ∙ one)) (callA .ready _ _) (callA .good _ _) λ b₁ r₁ n₁ e₁ st₁.
+      program-reaches f fx v right (blank b₁ r₁) st₁
+    where
+      erased : (b₁ : Target) → ListReturned (i .geometry) 0x0A (key 0x0A ∷ []) b b₁ → b₁ .memory ≡ zeroed 1 m
+      erased b₁ r₁ = r₁ .memory ∙ effect-A _ _ _ _ _ ∙ rw (p .fresh .memory, one)
+
+      blank : (b₁ : Target) → ListReturned (i .geometry) 0x0A (key 0x0A ∷ []) b b₁ → {k : ℕ} → Blank f k (core b₁)
+      blank b₁ r₁ = record {
+        opened = record { silicon = r₁ .silicon ∙ p .fresh .silicon; effect = r₁ .effect ∙ p .effect ∙ one; room = rw (r₁ .room) (p .fresh .room); quiet = r₁ .ended };
+        sized = rw (erased b₁ r₁) (zeroed-sized 1 m sz);
+        level = ap (λ (z : Memory). z .stored) (erased b₁ r₁);
+        erased = rw (erased b₁ r₁) (total-zero (length (m .flash)));
+      }
+
+  -- PROTECTED: reopen, steps 1 and 2 again, then 4 to 9
+  protected-reaches : {n x k : ℕ} {e : Env} {b : Target} → RightIds i (f .silicon) → m .stored ≡ 2 → Acquired f m k (core b)
+      → Stands f FromProtected n (afterwards i FromProtected) [] nothing e → Reaches f (sync FromProtected n 0 0 0 k b (idleAt x) e)
+  unfolding afterwards silicon read pay judge
+  protected-reaches {b = b} right two p st =
+      calling f fx 3 0x0D reopenWord (callD .command) (split (call (i .geometry) 3 0x0D reopenWord) (acquire (i .geometry) ++ (silicon (i .geometry) Reopened ++ program i)) [] nothing st)
+      (inr (p .effect ∙ two)) (rw (p .fresh .memory) safe) (λ y r. safe-reopen f y r _ (p .effect ∙ two) refl (rw (p .fresh .memory) safe)) (callD .ready _ _) (callD .good _ _) λ b₁ ret n₁ e₁ st₁.
+      (acquire-leg f fx FromProtected (zeroed 1 m) (inl refl) (f .safeOpen _ refl)) .along _ _ _ _ _ _ _ (fresh b₁ ret)
+      (split (acquire (i .geometry)) (silicon (i .geometry) Reopened ++ program i) [] nothing st₁) λ k₂ b₂ a₂ n₂ x₂ e₂ st₂.
+      silicon-reaches f fx (zeroed 1 m) (inl refl) (f .safeOpen _ refl) hb (omega arith) Reopened a₂
+      (split (call (i .geometry) 2 0 (key 0)) (read 2 (sysargOf (i .geometry)) Keep ++ read 2 (sysreqOf (i .geometry)) Reopened) (program i ++ []) (pay (program i) nothing)
+      (split (silicon (i .geometry) Reopened) (program i) [] nothing st₂)) λ b₃ same n₃ e₃ st₃.
+      rw (ids-read i (f .silicon) (zeroed 1 m) 1 hb, right .silicon, level-read (f .silicon) 1 hb (omega arith)) (
+      program-reaches f fx v right (subst (Blank f _) (sym same) (blank b₂ k₂ a₂)) st₃)
+    where
+      erased : (b₁ : Target) → Returned (i .geometry) 0x0D reopenWord b b₁ → b₁ .memory ≡ zeroed 1 m
+      erased b₁ ret = ret .memory ∙ effect-reopen _ _ _ _ (p .effect ∙ two) ∙ rw (p .fresh .memory)
+
+      fresh : (b₁ : Target) → Returned (i .geometry) 0x0D reopenWord b b₁ → {k : ℕ} → Fresh f (zeroed 1 m) k (core b₁)
+      fresh b₁ ret = record { silicon = ret .silicon ∙ p .fresh .silicon; memory = erased b₁ ret; room = rw (ret .params) (p .fresh .room); quiet = ret .ended }
+
+      blank : (b₂ : Target) (k₂ : ℕ) → Acquired f (zeroed 1 m) k₂ (core b₂) → {k : ℕ} → Blank f k (core b₂)
+      blank b₂ k₂ a = record {
+        opened = record { silicon = a .fresh .silicon; effect = a .effect; room = a .fresh .room; quiet = a .fresh .quiet };
+        sized = rw (a .fresh .memory) (zeroed-sized 1 m sz);
+        level = ap (λ (z : Memory). z .stored) (a .fresh .memory);
+        erased = rw (a .fresh .memory) (total-zero (length (m .flash)));
+      }
+
+  -- the entry that the level decides, or another part
+  decided : {y : Entry} → Goes m y → (z : Bool) → rightSilicon i (f .silicon) ≡ z → (k : ℕ) {k₁ n : ℕ} {e : Env} {b : Target} → Acquired f m k₁ (core b)
+      → Stood f FromOpen (suc n) (afterwards i FromOpen) (pay (afterwards i y) nothing) e
+      → Reaches f (record {
+        session = settled (cond z (entryBy (m .stored) 0 k) (report 20)) FromOpen n 2 0 (e .traffic .transfers);
+        target = b;
+        lists = e .lists;
+        monitor = watching 0 0 0 (idleAt (sysreqOf (i .geometry))) (e .delays);
+        traffic = e .traffic;
+      })
+  unfolding sequence
+  decided goes false h k {b = b} p st = stop (f .wrongPart 2 0 0 0 b _ _ _ _ (rw (p .fresh .memory) safe) h)
+  decided (byOpen one) true h k p st =
+      rw (eq-eqb (m .stored) 1 one) (
+      open-reaches (record { idcode = p .idcode; silicon = h }) one (again p)
+      (record { at = st .at ∙ sym (append-nil (afterwards i FromOpen)); spent = st .spent; room = st .room; xres = st .xres; lines = st .lines; calm = st .calm }))
+  decided (byProtected two) true h k {n = n} p st =
+      rw two (
+      protected-reaches (record { idcode = p .idcode; silicon = h }) two (again p)
+      (record {
+        at = seam (opening i) (afterwards i FromOpen) (afterwards i FromProtected) (suc n) (st .at) (some-moves i) ∙ sym (append-nil (afterwards i FromProtected));
+        spent = st .spent;
+        room = st .room;
+        xres = st .xres;
+        lines = st .lines;
+        calm = st .calm;
+      }))
+
+  -- the whole way
+  pub start-reaches : {y : Entry} → Goes m y → {e : Env} {b : Target} → Fresh f m 0 (core b)
+      → Stands f FromOpen 0 (opening i) (afterwards i FromOpen) (pay (afterwards i y) nothing) e → Reaches f (sync FromOpen 0 0 0 0 0 b (idleAt 0) e)
+  unfolding opening silicon read pay judge
+  start-reaches {y} goes p st =
+      (acquire-leg f fx FromOpen m (awake-of goes) safe) .along _ _ _ _ _ _ _ p
+      (split (acquire (i .geometry)) (silicon (i .geometry) EntryLevel) (afterwards i FromOpen) (pay (afterwards i y) nothing) st) λ k₁ b₁ a₁ n₁ x₁ e₁ st₁.
+      silicon-reaches f fx m (awake-of goes) safe hb (small goes) EntryLevel a₁
+      (split (call (i .geometry) 2 0 (key 0)) (read 2 (sysargOf (i .geometry)) Keep ++ read 2 (sysreqOf (i .geometry)) EntryLevel) (afterwards i FromOpen) (pay (afterwards i y) nothing) st₁) λ b₂ same n₂ e₂ st₂.
+      rw (ids-read i (f .silicon) m (m .stored) hb, level-read (f .silicon) (m .stored) hb (small goes)) (
+      decided goes (rightSilicon i (f .silicon)) refl (sysargAfter 0 (f .silicon) m) (subst (Acquired f m k₁) (sym same) a₁) st₂)
+    where
+      small : {y : Entry} → Goes m y → m .stored < 16
+      small (byOpen e) = omega arith
+      small (byProtected e) = omega arith

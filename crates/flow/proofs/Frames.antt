@@ -1,0 +1,140 @@
+-- The frame of demand 3, and where a started session stands in it. Assumes nothing.
+use mathlib.Core.Bool.{Bool, true, false, cond}
+use mathlib.Core.List.{List, [], _∷_, _++_}
+use mathlib.Core.Path.{_≡_, refl, ap, sym, _∙_}
+use Prim.Native.Nat.{ℕ, zero, suc, _+_, _*_, _≤_}
+use native.Mathlib.Omega.{arith}
+use lib.Dec.{eqb}
+use Rattle.flow.specs.Claim.{NoError, Calm, entryOf, delaysIn}
+use Rattle.flow.specs.Monitor.{Monitor, watching, linkError, Watch, Delays, noDelays, delayed}
+use Rattle.flow.specs.Plan.{Traffic, noTraffic, counting, trafficIn, isPoll, pollsIn, plan, loops, acquisitions, mostTraffic}
+use Rattle.flow.specs.Run.{Run}
+use Rattle.flow.specs.Sequence.{opening, afterwards, sequence}
+use Rattle.flow.specs.Session.{reported}
+use Rattle.flow.specs.Target.{Target, Memory, Silicon, Lists}
+use Rattle.flow.specs.declared.Entry.{Entry}
+use Rattle.flow.specs.declared.Entry.the-variants.{FromOpen, FromProtected}
+use Rattle.flow.specs.declared.Move.{Move}
+use Rattle.flow.specs.declared.Purpose.{Purpose}
+use Rattle.flow.specs.declared.Purpose.the-variants.{Sent, Idcode, TestBit, Poll, Status, Keep, EntryLevel, Reopened, Same, StoredLevel, LastSum}
+use Rattle.flow.specs.declared.Request.{Request}
+use Rattle.flow.specs.declared.Request.the-variants.{Xres, LineReset, ReadIdcode, ReadDrw, WriteTar, WriteDrw, WriteSetup}
+use Rattle.flow.proofs.Counting.{Totals, sequence-totals}
+use Rattle.flow.proofs.Finishing.{nothing}
+use Rattle.flow.proofs.Phases.{Level, isOpen, isProtected, isKill}
+use Rattle.flow.proofs.Reaches.{Purse, payRead, payFor, pay, pay-append, Env, rightSilicon, RightIds, Bears, Frame, Stood, Stands, clear}
+use Rattle.flow.proofs.Table.{Facts}
+use Rattle.image.specs.Image.{Image}
+
+-- ---- what a list of moves may cost
+
+record Costs (ms : List Move) (κ κ′ : Purse) : Type 0 where
+  pub due : κ′ .due ≡ (trafficIn ms) .transfers + κ .due
+  pub room : κ′ .room ≤ 17 * (trafficIn ms) .transfers + 509949 * pollsIn ms + 13 * (trafficIn ms) .lineResets + κ .room
+  pub xres : κ′ .xres ≡ (trafficIn ms) .xresets + κ .xres
+  pub lines : κ′ .lines ≡ 30 * (trafficIn ms) .lineResets + κ .lines
+
+read-room : (u : Purpose) (κ : Purse) → record { room : (payRead u κ) .room ≤ 17 + 509949 * isPoll u + κ .room; due : (payRead u κ) .due ≡ suc (κ .due); xres : (payRead u κ) .xres ≡ κ .xres; lines : (payRead u κ) .lines ≡ κ .lines }
+read-room Sent κ = record { room = omega arith; due = refl; xres = refl; lines = refl }
+read-room Idcode κ = record { room = omega arith; due = refl; xres = refl; lines = refl }
+read-room TestBit κ = record { room = omega arith; due = refl; xres = refl; lines = refl }
+read-room Poll κ = record { room = omega arith; due = refl; xres = refl; lines = refl }
+read-room Status κ = record { room = omega arith; due = refl; xres = refl; lines = refl }
+read-room Keep κ = record { room = omega arith; due = refl; xres = refl; lines = refl }
+read-room EntryLevel κ = record { room = omega arith; due = refl; xres = refl; lines = refl }
+read-room Reopened κ = record { room = omega arith; due = refl; xres = refl; lines = refl }
+read-room (Same w n) κ = record { room = omega arith; due = refl; xres = refl; lines = refl }
+read-room StoredLevel κ = record { room = omega arith; due = refl; xres = refl; lines = refl }
+read-room LastSum κ = record { room = omega arith; due = refl; xres = refl; lines = refl }
+
+one-cost : (m : Move) (ms : List Move) (κ κ′ : Purse) → Costs ms κ κ′ → Costs (m ∷ ms) κ (payFor (m .request) (m .purpose) κ′)
+unfolding trafficIn pollsIn
+one-cost m ms κ κ′ c = by (m .request)
+  where
+    by : (q : Request) → Costs (record { step = m .step; request = q; purpose = m .purpose } ∷ ms) κ (payFor q (m .purpose) κ′)
+    by Xres = record { due = omega (arith, c .due); room = omega (arith, c .room); xres = omega (arith, c .xres); lines = omega (arith, c .lines) }
+    by LineReset = record { due = omega (arith, c .due); room = omega (arith, c .room); xres = omega (arith, c .xres); lines = omega (arith, c .lines) }
+    by ReadIdcode = record { due = omega (arith, c .due); room = omega (arith, c .room); xres = omega (arith, c .xres); lines = omega (arith, c .lines) }
+    by ReadDrw =
+        let r = read-room (m .purpose) κ′ in
+        record { due = omega (arith, c .due, r .due); room = omega (arith, c .room, r .room); xres = omega (arith, c .xres, r .xres); lines = omega (arith, c .lines, r .lines) }
+    by (WriteTar w) = record { due = omega (arith, c .due); room = omega (arith, c .room); xres = omega (arith, c .xres); lines = omega (arith, c .lines) }
+    by (WriteDrw w) = record { due = omega (arith, c .due); room = omega (arith, c .room); xres = omega (arith, c .xres); lines = omega (arith, c .lines) }
+    by (WriteSetup r w) = record { due = omega (arith, c .due); room = omega (arith, c .room); xres = omega (arith, c .xres); lines = omega (arith, c .lines) }
+
+costs : (ms : List Move) (κ : Purse) → Costs ms κ (pay ms κ)
+unfolding pay trafficIn pollsIn
+costs [] κ = record { due = omega arith; room = omega arith; xres = omega arith; lines = omega arith }
+costs (m ∷ ms) κ = one-cost m ms κ (pay ms κ) (costs ms κ)
+
+-- ---- the frame
+
+-- the stored level is not VIRGIN
+abbrev pub Sound : Memory → Type 0
+Sound m = m .stored ≡ 0 → ⊥
+
+pub level-sound : {l : ℕ} → Level l → l ≡ 0 → ⊥
+level-sound isOpen e = omega arith
+level-sound isProtected e = omega arith
+level-sound isKill e = omega arith
+
+-- why a session ends with a number
+pub data Why (i : Image) (x : Silicon) (l : Lists) : ℕ → Monitor → Type 0 where
+  mishap : (n : ℕ) → 1 ≤ n → (Calm l → ⊥) → Why i x l n (linkError n)
+  otherId : {m : Monitor} → NoError m → eqb (x .idcode) 0x0BB11477 ≡ false → Why i x l 16 m
+  otherPart : {m : Monitor} → NoError m → rightSilicon i x ≡ false → Why i x l 20 m
+
+pub record Stopped (i : Image) (x : Silicon) (l : Lists) (r : Run) : Type 0 where
+  pub number : ℕ
+  pub step : ℕ
+  pub is : r .session ≡ reported number step (r .traffic .transfers)
+  pub why : Why i x l number (r .monitor)
+  pub sound : Sound (r .target .memory)
+
+pub record Finished (i : Image) (b : Target) (l : Lists) (r : Run) : Type 0 where
+  pub is : r .session ≡ reported 0 9 (r .traffic .transfers)
+  pub right : RightIds i (b .silicon)
+  pub clean : NoError (r .monitor)
+  pub bears : Bears i (r .target .memory)
+  pub count : r .traffic .transfers ≡ plan (i .geometry) (entryOf b) + delaysIn (r .monitor)
+  pub calm : Calm l → delaysIn (r .monitor) ≡ 0
+  pub sound : Sound (r .target .memory)
+
+unfoldable pub frame : (i : Image) → Level (i .header .level) → Target → Lists → Frame i
+frame i lv b l = record {
+  Safe = Sound;
+  Still = Calm l;
+  Stop = Stopped i (b .silicon) l;
+  Goal = Finished i b l;
+  planned = plan (i .geometry) (entryOf b);
+  most = mostTraffic (i .geometry) (entryOf b);
+  silicon = b .silicon;
+  safeSame = λ m m′ e s h. s (sym e ∙ h);
+  safeOpen = λ m e h. omega arith;
+  safeImage = λ m e h. level-sound lv (sym e ∙ h);
+  caught = λ n s b l t some bad safe. record { number = n; step = s; is = refl; why = mishap n some bad; sound = safe };
+  finished = λ b l w d t right bears count calm. record { is = refl; right = right; clean = clear 0 0 0 w d; bears = bears; count = count; calm = calm; sound = λ h. level-sound lv (sym (bears .level) ∙ h) };
+  wrongId = λ s w p a b l x d t safe h. record { number = 16; step = s; is = refl; why = otherId (clear w p a x d) h; sound = safe };
+  wrongPart = λ s w p a b l x d t safe h. record { number = 20; step = s; is = refl; why = otherPart (clear w p a x d) h; sound = safe };
+}
+
+-- ---- the start
+
+abbrev pub firstEnv : Lists → Env
+firstEnv l = record { lists = l; delays = noDelays; traffic = noTraffic }
+
+pub start-stands : (i : Image) (fx : Facts (i .geometry)) (lv : Level (i .header .level)) (b : Target) (l : Lists)
+    → Stands (frame i lv b l) FromOpen 0 (opening i) (afterwards i FromOpen) (pay (afterwards i (entryOf b)) nothing) (firstEnv l)
+unfolding frame sequence mostTraffic nothing
+start-stands i fx lv b l =
+    let e : pay (sequence i (entryOf b)) nothing ≡ pay (opening i) (pay (afterwards i (entryOf b)) nothing) = pay-append (opening i) (afterwards i (entryOf b)) nothing in
+    let c = costs (sequence i (entryOf b)) nothing in
+    let t = sequence-totals i fx (entryOf b) in
+    rw (← e) (record {
+      at = refl;
+      spent = omega (arith, c .due, t .transfers);
+      room = omega (arith, c .room, t .transfers, t .polls, t .lineResets);
+      xres = omega (arith, c .xres, t .xresets);
+      lines = omega (arith, c .lines, t .lineResets);
+      calm = λ c. record { line = c .line; calls = c .calls; none = refl };
+    })

@@ -1,0 +1,76 @@
+-- What the checks leave to be known of an image. Assumes nothing.
+use mathlib.Core.Bool.{Bool, true, false, _||_, cond}
+use mathlib.Core.List.{List, [], _∷_}
+use mathlib.Core.Path.{_≡_, refl, ap, sym, _∙_}
+use Prim.Native.Nat.{ℕ, zero, suc, _+_, _*_, _-_, _%_, _≤_, _<_}
+use native.Mathlib.Omega.{arith}
+use lib.Dec.{eqb, leb, ltb, lit≤}
+use lib.ListN.{length, getD, take, drop, length-take, length-drop, List·getD-eq-default}
+use lib.Seq.{getD-take, getD-drop, length-take-le}
+use borrow.Author.Tests.{eqb-true, ltb-true, ltb-false}
+use Rattle.flow.specs.Claim.{Passes}
+use Rattle.flow.proofs.Lists.{Small}
+use Rattle.flow.proofs.Phases.{Level, isOpen, isProtected, isKill, Valid}
+use Rattle.flow.proofs.Table.{Facts, facts}
+use Rattle.image.specs.Checks.{versionFits, imageIdFits, levelFits, sumFits, someCancels, contentChecks, faultIn, imageFault}
+use Rattle.image.specs.Image.{Image, imageOf, flashIn, protectionIn}
+use Rattle.image.specs.Refusals.{Check, _unless_, firstRefusal}
+use Rattle.image.specs.declared.Header.{Header}
+use Rattle.parts.specs.Parts.{lookupOf}
+use Rattle.parts.specs.Sizes.{rowBytes, rowsOf, flashSize, lockTotal, imageSize}
+use Rattle.parts.specs.declared.Geometry.{Geometry}
+use Rattle.parts.specs.declared.Lookup.{Lookup}
+use Rattle.parts.specs.declared.Lookup.the-variants.{Found}
+
+-- no refusal: the first check passes, and the rest do
+passes : (n : ℕ) (p : Bool) (cs : List Check) → 1 ≤ n → firstRefusal ((n unless p) ∷ cs) ≡ 0 → (p ≡ true) × (firstRefusal cs ≡ 0)
+unfolding firstRefusal
+passes n true cs h e = (refl, e)
+passes n false cs h e = absurd (omega arith)
+
+levelled : (l : ℕ) → levelFits l ≡ true → Level l
+levelled l h = by (eqb l 1) (eqb l 2) (eqb l 4) refl refl refl
+  where
+    by : (a b c : Bool) → eqb l 1 ≡ a → eqb l 2 ≡ b → eqb l 4 ≡ c → Level l
+    by true b c p q r = rw (eqb-true l 1 p) isOpen
+    by false true c p q r = rw (eqb-true l 2 q) isProtected
+    by false false true p q r = rw (eqb-true l 4 r) isKill
+    by false false false p q r = let f : false ≡ true = rw (p, q, r) at h in let z : _≡_ {A = ℕ} 0 1 = cc in absurd (omega arith)
+
+small-take : (n : ℕ) (l : List ℕ) → Small l → Small (take n l)
+small-take n l small j = by (ltb j n) refl
+  where
+    by : (y : Bool) → ltb j n ≡ y → getD (take n l) j 0 < 256
+    by true e = rw (getD-take n l j 0 (ltb-true j n e)) (small j)
+    by false e =
+        let le = ltb-false j n e in
+        let out : length (take n l) ≤ j = rw (length-take n l) (omega arith) in
+        rw (List·getD-eq-default (take n l) 0 out) (omega arith)
+
+small-drop : (n : ℕ) (l : List ℕ) → Small l → Small (drop n l)
+small-drop n l small j = rw (getD-drop n l j 0) (small (n + j))
+
+module _ (g : Geometry) (h : Header) (bytes : List ℕ) (p : Passes g h bytes) where
+  pub table-facts : Facts g
+  table-facts = facts (h .part) (h .macros) g (p .found)
+
+  checked : firstRefusal ((12 unless eqb (length bytes) (imageSize g)) ∷ contentChecks g h bytes) ≡ 0
+  checked = ap (λ (x : Lookup). faultIn x h bytes) (sym (p .found)) ∙ p .checked
+
+  pub valid : Valid (imageOf g h bytes)
+  unfolding imageSize
+  valid =
+      let t₀ = passes 12 _ _ (lit≤ tt) checked in
+      let t₁ = passes 6 _ _ (lit≤ tt) (t₀ .1) in
+      let t₂ = passes 7 _ _ (lit≤ tt) (t₁ .1) in
+      let t₃ = passes 8 _ _ (lit≤ tt) (t₂ .1) in
+      let t₄ = passes 9 _ _ (lit≤ tt) (t₃ .1) in
+      let size : length bytes ≡ flashSize g + lockTotal g = eqb-true (length bytes) (flashSize g + lockTotal g) (t₀ .0) in
+      record {
+        flash = length-take-le (flashSize g) bytes (omega arith);
+        locks = length-drop (flashSize g) bytes ∙ omega arith;
+        flashSmall = small-take (flashSize g) bytes (p .small);
+        lockSmall = small-drop (flashSize g) bytes (p .small);
+        sum = eqb-true _ _ (t₄ .0);
+        level = levelled (h .level) (t₃ .0);
+      }
