@@ -5,3 +5,7 @@ pub mod Moves
 pub mod Places
 pub mod Closed
 pub mod Possibility
+pub mod Counted
+pub mod Stepping
+pub mod Following
+pub mod Demand

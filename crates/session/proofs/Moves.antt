@@ -5,11 +5,10 @@ use mathlib.Core.Path.{_≡_, refl, sym, ap, _∙_}
 use Prim.Native.Nat.{ℕ, zero, suc, _+_, _*_, _/_, _≤_, _<_}
 use native.Mathlib.Omega.{arith}
 use lib.Dec.{lit≤}
-use lib.ListN.{length, getD, length-append, List·getD-append}
-use lib.Seq.{getD-append-add, getD-at}
-use Rattle.flow.proofs.Counting.{count-opening, sequence-totals, Totals}
-use Rattle.flow.proofs.Table.{Facts}
-use Rattle.flow.specs.Plan.{Traffic, counting, trafficIn, plan, acquisitions}
+use lib.ListN.{length, getD}
+use Rattle.flow.proofs.Hearing.{Plain, aTar, aDrw, aRead, aCtrl, aSelect, aCsw, Wired, attempt, plain, decodes}
+use Rattle.flow.specs.Exchange.{Decoded, known, decode}
+use Rattle.flow.specs.Packets.{packetOf}
 use Rattle.flow.specs.Sequence.{move, write, read, poll, call, writes, listed, pieces, imoCall, acquire, silicon, privileged, latchList, programRow, compareWord, verifyFlash, lockStart, lockMacro, verifyMacro, program, opening, afterwards, sequence, endMove, key}
 use Rattle.flow.specs.declared.Entry.{Entry}
 use Rattle.flow.specs.declared.Entry.the-variants.{FromOpen, FromProtected}
@@ -21,7 +20,6 @@ use Rattle.flow.specs.declared.Request.the-variants.{Xres, LineReset, ReadIdcod
 use Rattle.image.specs.Image.{Image}
 use Rattle.parts.specs.Sizes.{macrosOf, rowsOf, rowBytes, locksIn, locksAt, levelAt, sysargOf, imoOf, PARAMS}
 use Rattle.parts.specs.declared.Geometry.{Geometry}
-use Rattle.session.specs.Possible.{movesIn}
 
 pub data All (P : Move → Type 0) : List Move → Type 0 where
   none : All P []
@@ -56,10 +54,23 @@ Reports E (Same w n) s = (16 ≤ n) × (n ≤ 30)
 Reports E StoredLevel s = Unit {0}
 Reports E LastSum s = s ≡ 9
 
+-- the target reads the request as it was meant
+abbrev pub Meant : Request → Type 0
+Meant q = decode (packetOf q) ≡ known q
+
+meant-xres : Meant Xres
+unfolding decode
+meant-xres = refl
+
+meant-line : Meant LineReset
+unfolding decode
+meant-line = refl
+
 pub record Proper (E : Type 0) (m : Move) : Type 0 where
   pub low : 1 ≤ m .step
   pub high : m .step ≤ 9
   pub reports : Reports E (m .purpose) (m .step)
+  pub meant : Meant (m .request)
 
 relax : {E F : Type 0} → (E → F) → (u : Purpose) (s : ℕ) → Reports E u s → Reports F u s
 relax h Sent s r = tt
@@ -75,19 +86,25 @@ relax h StoredLevel s r = tt
 relax h LastSum s r = r
 
 pub relaxed : {E F : Type 0} {m : Move} → (E → F) → Proper E m → Proper F m
-relaxed {m = m} h p = record { low = p .low; high = p .high; reports = relax h (m .purpose) (m .step) (p .reports) }
+relaxed {m = m} h p = record { low = p .low; high = p .high; reports = relax h (m .purpose) (m .step) (p .reports); meant = p .meant }
 
 module _ (E : Type 0) (s : ℕ) (low : 1 ≤ s) (high : s ≤ 9) where
-  proper : (q : Request) {u : Purpose} → Reports E u s → Proper E (move s q u)
-  proper q r = record { low = low; high = high; reports = r }
+  proper : (q : Request) {u : Purpose} → Meant q → Reports E u s → Proper E (move s q u)
+  proper q e r = record { low = low; high = high; reports = r; meant = e }
+
+  tar-proper : (a : ℕ) → Proper E (move s (WriteTar a) Sent)
+  tar-proper a = proper (WriteTar a) {u = Sent} (decodes (plain aTar)) tt
+
+  read-proper : (u : Purpose) → Reports E u s → Proper E (move s ReadDrw u)
+  read-proper u r = proper ReadDrw (decodes (plain aRead)) r
 
   all-write : (a w : ℕ) → All (Proper E) (write s a w)
   unfolding write
-  all-write a w = more (proper (WriteTar a) {u = Sent} tt) (more (proper (WriteDrw w) {u = Sent} tt) none)
+  all-write a w = more (tar-proper a) (more (proper (WriteDrw w) {u = Sent} (decodes (plain aDrw)) tt) none)
 
   all-read : (a : ℕ) (u : Purpose) → Reports E u s → All (Proper E) (read s a u)
   unfolding read
-  all-read a u r = more (proper (WriteTar a) {u = Sent} tt) (more (proper ReadDrw {u = Sent} tt) (more (proper ReadDrw r) none))
+  all-read a u r = more (tar-proper a) (more (read-proper Sent tt) (more (read-proper u r) none))
 
   all-call : (g : Geometry) (c w : ℕ) → All (Proper E) (call g s c w)
   unfolding call
@@ -115,14 +132,14 @@ module _ (E : Type 0) where
   all-acquire : (g : Geometry) → All (Proper E) (acquire g)
   unfolding acquire
   all-acquire g =
-      more (one Xres Sent tt) (more (one LineReset Sent tt) (more (one ReadIdcode Idcode tt)
-      (more (one _ Sent tt) (more (one _ Sent tt) (more (one _ Sent tt)
+      more (one Xres Sent meant-xres tt) (more (one LineReset Sent meant-line tt) (more (one ReadIdcode Idcode (decodes attempt) tt)
+      (more (one _ Sent (decodes (plain aCtrl)) tt) (more (one _ Sent (decodes (plain aSelect)) tt) (more (one _ Sent (decodes (plain aCsw)) tt)
       (joined (all-write E 1 (lit≤ tt) (lit≤ tt) _ _)
       (joined (all-read E 1 (lit≤ tt) (lit≤ tt) _ TestBit tt)
       (joined (all-read E 1 (lit≤ tt) (lit≤ tt) _ Poll tt) (all-imo g (imoOf g))))))))))
     where
-      one : (q : Request) (u : Purpose) → Reports E u 1 → Proper E (move 1 q u)
-      one q u r = proper E 1 (lit≤ tt) (lit≤ tt) q r
+      one : (q : Request) (u : Purpose) → Meant q → Reports E u 1 → Proper E (move 1 q u)
+      one q u e r = proper E 1 (lit≤ tt) (lit≤ tt) q e r
 
   all-silicon : (g : Geometry) (u : Purpose) → Reports E u 2 → All (Proper E) (silicon g u)
   unfolding silicon

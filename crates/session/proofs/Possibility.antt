@@ -27,14 +27,14 @@ both-true p q = rw (p, q)
 -- the parts of 13's test
 pub record Parts (g : Geometry) (s : Session) : Type 0 where
   pub header : headerFits g (s .header) ≡ true
-  pub count : s .transfers ≤ mostOf g (s .entry)
+  pub count : s .transfers ≤ mostOf g
   pub stands : cond (s .finished) (reportFits (s .number) (s .step)) (progressFits g (s .entry) (s .progress)) ≡ true
 
 pub parts : (g : Geometry) (s : Session) → possibleIn g s ≡ true → Parts g s
 unfolding possibleIn
 parts g s h =
-    let t = both (headerFits g (s .header) && leb (s .transfers) (mostOf g (s .entry))) _ h in
-    let u = both (headerFits g (s .header)) (leb (s .transfers) (mostOf g (s .entry))) (t .0) in
+    let t = both (headerFits g (s .header) && leb (s .transfers) (mostOf g)) _ h in
+    let u = both (headerFits g (s .header)) (leb (s .transfers) (mostOf g)) (t .0) in
     record { header = u .0; count = leb-true _ _ (u .1); stands = t .1 }
 
 pub whole : (g : Geometry) (s : Session) → Parts g s → possibleIn g s ≡ true

@@ -32,7 +32,7 @@ reportFits n t = (eqb n 0 && eqb t 9) || (leb 16 n && leb n 30 && leb 1 t && leb
 
 unfoldable pub possibleIn : Geometry → Session → Bool
 possibleIn g s =
-    headerFits g (s .header) && leb (s .transfers) (mostOf g (s .entry))
+    headerFits g (s .header) && leb (s .transfers) (mostOf g)
     && cond (s .finished) (reportFits (s .number) (s .step)) (progressFits g (s .entry) (s .progress))
 
 abbrev pub possibleFor : Lookup → Session → Bool

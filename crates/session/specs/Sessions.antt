@@ -5,7 +5,6 @@ use lib.ListN.{replicate}
 use Rattle.flow.specs.Plan.{mostTraffic}
 use Rattle.flow.specs.Session.{running, reported}
 use Rattle.flow.specs.Session as Flow
-use Rattle.flow.specs.declared.Entry.{Entry}
 use Rattle.flow.specs.declared.Entry.the-variants.{FromOpen, FromProtected}
 use Rattle.image.specs.declared.Header.{Header}
 use Rattle.parts.specs.declared.Geometry.{Geometry}
@@ -32,17 +31,17 @@ noSession = record { header = noHeader; entry = FromOpen; progress = atStart; tr
 abbrev pub firstFor : Header → Session
 firstFor h = record { header = h; entry = FromOpen; progress = atStart; transfers = 0; finished = false; number = 0; step = 0 }
 
--- the most transfers that document 01's count allows
-abbrev pub mostOf : Geometry → Entry → ℕ
-mostOf g y = (mostTraffic g y) .transfers
+-- the most transfers that document 01's count allows for the part and M: those from PROTECTED
+abbrev pub mostOf : Geometry → ℕ
+mostOf g = (mostTraffic g FromProtected) .transfers
 
--- a session of the same image that stands so; the count stops at document 01's formula, which no run from a start meets
+-- a session of the same image that stands so; the count stops at document 01's formula, which no run from a start goes past
 unfoldable pub resumed : Geometry → Session → Flow.Session → Session
 resumed g s (running y n w p a k h) = record {
   header = s .header;
   entry = y;
   progress = record { at = n; waits = w; polls = p; attempts = a; kept = k };
-  transfers = min h (mostOf g y);
+  transfers = min h (mostOf g);
   finished = false;
   number = 0;
   step = 0;
@@ -51,7 +50,7 @@ resumed g s (reported x t h) = record {
   header = s .header;
   entry = s .entry;
   progress = atStart;
-  transfers = min h (mostOf g (s .entry));
+  transfers = min h (mostOf g);
   finished = true;
   number = x;
   step = t;

@@ -116,9 +116,10 @@ fn loops_of(g: Geometry, y: Entry) -> u64
 }
 
 // The most reads and writes that a session may hand out.
-fn most_of(g: Geometry, y: Entry) -> u64
-    ensures { λ r. ⌜ r ≡ mostOf g y ⌝ }
+fn most_of(g: Geometry) -> u64
+    ensures { λ r. ⌜ r ≡ mostOf g ⌝ }
 {
+    let y = Entry::FromProtected;
     17 * (plan_of(g, y) + 29997 * loops_of(g, y) + 29 * acquisitions_of(y))
 }
 
@@ -175,7 +176,7 @@ fn possible_in(g: Geometry, s: Session) -> bool
     if !header_fits(g, h) {
         return false;
     }
-    if most_of(g, y) < (s.transfers as u64) {
+    if most_of(g) < (s.transfers as u64) {
         return false;
     }
     if s.finished {

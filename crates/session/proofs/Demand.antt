@@ -1,0 +1,177 @@
+-- Demand 3 over calls, from demand 3 on the definitions. Assumes nothing.
+use mathlib.Core.Bool.{Bool, true, false, false≢true, _&&_, cond}
+use mathlib.Core.List.{List, _∷_}
+use mathlib.Core.Logic.{_⊎_, _↔_}
+use mathlib.Core.Path.{_≡_, refl, sym, ap, subst, _∙_}
+use Prim.Native.Nat.{ℕ, zero, suc, _+_, _*_, _≤_, _<_}
+use native.Mathlib.Omega.{arith}
+use borrow.Author.Tests.{eq-eqb, eqb-true, lt-ltb}
+use lib.Dec.{eqb, leb, lit≤}
+use lib.ListN.{length}
+use Rattle.flow.proofs.Demand.{demand3-holds}
+use Rattle.flow.proofs.Passing.{table-facts}
+use Rattle.flow.specs.Claim as Flows
+use Rattle.flow.specs.Claim.{Passes, Startable, RightPart, NoError, Calm, entryOf, delaysIn}
+use Rattle.flow.specs.Monitor.{linkError}
+use Rattle.flow.specs.Plan.{Traffic, counting, plan, loops, acquisitions, fromProtected, mostTraffic}
+use Rattle.flow.specs.Run.{Run, advance, after, started, handedOutBy, handedOut}
+use Rattle.flow.specs.Sequence.{sequence, opening, acquire}
+use Rattle.flow.specs.Session.{running, reported, moveAt, firstSession}
+use Rattle.flow.specs.Session as Flow
+use Rattle.flow.specs.Target.{Target, Lists}
+use Rattle.flow.specs.declared.Entry.{Entry}
+use Rattle.flow.specs.declared.Entry.the-variants.{FromOpen, FromProtected}
+use Rattle.flow.specs.declared.Request.{Request}
+use Rattle.flow.specs.declared.Request.the-variants.{Xres, LineReset, ReadIdcode, ReadDrw, WriteTar, WriteDrw, WriteSetup}
+use Rattle.image.proofs.Refusals.{passes}
+use Rattle.image.specs.Checks.{versionFits, imageIdFits, levelFits, contentChecks, faultIn, imageFault}
+use Rattle.image.specs.Image.{Image, imageOf}
+use Rattle.image.specs.Refusals.{_unless_, firstRefusal}
+use Rattle.image.specs.declared.Header.{Header}
+use Rattle.parts.specs.Sizes.{imageSize}
+use Rattle.parts.specs.declared.Geometry.{Geometry}
+use Rattle.parts.specs.declared.Lookup.{Lookup}
+use Rattle.session.specs.Calls.{State, Steps, begun}
+use Rattle.session.specs.Claim.{most, Demand3, Demand3Holds}
+use Rattle.session.specs.Given.{startOf, startedOn, startRefused, wantsLeave, outcomeAt}
+use Rattle.session.specs.Possible.{headerFits, movesIn, progressFits, possibleIn}
+use Rattle.session.specs.Sessions.{standOf, mostOf, atStart, firstFor}
+use Rattle.session.specs.declared.Given.{Given}
+use Rattle.session.specs.declared.Outcome.{Outcome}
+use Rattle.session.specs.declared.Outcome.the-variants.{Refused, Ask, Told}
+use Rattle.session.specs.declared.Report.{Report}
+use Rattle.session.proofs.Counted.{countIn, count-step}
+use Rattle.session.proofs.Following.{Follows, follow}
+use Rattle.session.proofs.Places.{opening-in}
+use Rattle.session.proofs.Possibility.{both-true, whole}
+use Rattle.session.proofs.Stepping.{not-refused}
+
+-- ---- what an unrefused start says
+
+module _ (g : Geometry) (h : Header) (bytes : List ℕ) (p : Passes g h bytes) where
+  checked : firstRefusal ((12 unless eqb (length bytes) (imageSize g)) ∷ contentChecks g h bytes) ≡ 0
+  checked = ap (λ (x : Lookup). faultIn x h bytes) (sym (p .found)) ∙ p .checked
+
+  size : length bytes ≡ imageSize g
+  size = eqb-true (length bytes) (imageSize g) ((passes 12 _ _ (lit≤ tt) checked) .0)
+
+  header : headerFits g h ≡ true
+  header =
+      let t₀ = passes 12 (eqb (length bytes) (imageSize g)) _ (lit≤ tt) checked in
+      let t₁ = passes 6 (versionFits h) _ (lit≤ tt) (t₀ .1) in
+      let t₂ = passes 7 (imageIdFits g h) _ (lit≤ tt) (t₁ .1) in
+      let t₃ = passes 8 (levelFits (h .level)) _ (lit≤ tt) (t₂ .1) in
+      both-true (both-true (t₁ .0) (t₂ .0)) (t₃ .0)
+
+  -- the session that starting gives is possible
+  pub first-possible : possibleIn g (firstFor h) ≡ true
+  first-possible =
+      let room : 0 < movesIn g FromOpen = omega (arith, opening-in (imageOf g h bytes) (table-facts g h bytes p) FromOpen) in
+      let stand : progressFits g FromOpen atStart ≡ true = both-true (both-true (both-true (lt-ltb 0 (movesIn g FromOpen) room) refl) refl) refl in
+      whole g (firstFor h) (record { header = header; count = omega arith; stands = stand })
+
+  -- what starting gives
+  pub start-gives : (leave : Bool) → ((n : ℕ) → ¬ ((startOf h bytes leave) .outcome ≡ Refused n)) → startOf h bytes leave ≡ startedOn h
+  unfolding startOf
+  start-gives leave free = by (wantsLeave h leave) refl
+    where
+      is : startOf h bytes leave ≡ cond (wantsLeave h leave) (startRefused 15) (startedOn h)
+      is = simp (p .checked)
+
+      by : (t : Bool) → wantsLeave h leave ≡ t → startOf h bytes leave ≡ startedOn h
+      by true e = let q : startOf h bytes leave ≡ startRefused 15 = is ∙ simp e in absurd (free 15 (ap (λ (r : Given). r .outcome) q))
+      by false e = is ∙ simp e
+
+  first-follows : (b : Target) (l : Lists) → Follows g h bytes (table-facts g h bytes p) (p .found) size (begun (startedOn h) b l) (started b l)
+  unfolding sequence opening acquire
+  first-follows b l = record {
+    header = refl;
+    can = first-possible;
+    session = refl;
+    stands = refl;
+    target = refl;
+    lists = refl;
+    monitor = refl;
+    traffic = refl;
+    count = refl;
+  }
+
+-- ---- the count of a run never meets the stop
+
+grows : (q : Request) (t : Traffic) → t .transfers ≤ (counting q t) .transfers
+grows Xres t = omega arith
+grows LineReset t = omega arith
+grows ReadIdcode t = omega arith
+grows ReadDrw t = omega arith
+grows (WriteTar w) t = omega arith
+grows (WriteDrw w) t = omega arith
+grows (WriteSetup r w) t = omega arith
+
+handed-more : (i : Image) (x : Flow.Session) (t : Traffic) → t .transfers ≤ (handedOutBy i x t) .transfers
+handed-more i (running y n w p a k h) t = grows ((moveAt i y n) .request) t
+handed-more i (reported x s h) t = omega arith
+
+count-run : (i : Image) (k : ℕ) (r : Run) → countIn (r .session) ≡ r .traffic .transfers
+    → countIn ((after i k r) .session) ≡ ((after i k r) .traffic) .transfers
+unfolding after advance
+count-run i zero r e = e
+count-run i (suc k) r e = count-run i k (advance i r) (count-step i (r .session) r e refl)
+
+most-from : (g : Geometry) (y : Entry) → (mostTraffic g y) .transfers ≤ mostOf g
+unfolding mostTraffic plan loops
+most-from g FromOpen = omega arith
+most-from g FromProtected = omega arith
+
+-- ---- a report that stands
+
+told-session : (i : Image) (x : Flow.Session) (r : Report) → outcomeAt i x ≡ Told r → x ≡ reported (r .number) (r .step) (r .transfers)
+told-session i (running y n w p a k h) r e = let z : _≡_ {A = ℕ} 0 1 = cc in absurd (omega arith)
+told-session i (reported x t h) r e =
+    let same : record { number = x; step = t; transfers = h } ≡ r = cc in
+    ap (λ (z : Report). reported (z .number) (z .step) (z .transfers)) same
+
+module _ (g : Geometry) (h : Header) (bytes : List ℕ) (p : Passes g h bytes) (b : Target) (may : Startable g b) (l : Lists) (n : ℕ) where
+  abbrev i : Image
+  i = imageOf g h bytes
+
+  abbrev run : Run
+  run = after i n (started b l)
+
+  low : (k : ℕ) → countIn ((after i k (started b l)) .session) ≤ mostOf g
+  low k =
+      let r = after i k (started b l) in
+      let d = demand3-holds g h bytes p b may l k in
+      omega (arith, count-run i k (started b l) refl, handed-more i (r .session) (r .traffic), d .transfers, most-from g (entryOf b))
+
+  claim : (s : State) → Follows g h bytes (table-facts g h bytes p) (p .found) (size g h bytes p) s run → Demand3 i b l n s
+  claim s f =
+      let d = demand3-holds g h bytes p b may l n in
+      let told : (r : Report) → s .stands ≡ Told r → run .session ≡ reported (r .number) (r .step) (r .transfers)
+      = λ r e. told-session i (run .session) r (sym (f .stands) ∙ e) in
+      record {
+        neverVirgin = λ e. d .neverVirgin (ap (λ (t : Target). t .memory .stored) (sym (f .target)) ∙ e);
+        transfers = rw (f .traffic) (d .transfers);
+        xresets = rw (f .traffic) (d .xresets);
+        lineResets = rw (f .traffic) (d .lineResets);
+        stands = λ k e. not-refused i (run .session) k (sym (f .stands) ∙ e);
+        comes = λ late.
+            let c = d .comes late in
+            record { report = record { number = c .number; step = c .step; transfers = c .sent }; told = f .stands ∙ ap (outcomeAt i) (c .is) };
+        counted = λ r e. rw (f .traffic) (d .counted (r .number) (r .step) (r .transfers) (told r e));
+        exactly = λ r e. rw (f .monitor) (d .exactly (r .number) (r .step) (r .transfers) (told r e));
+        number = λ r e. rw (f .monitor) (d .number (r .number) (r .step) (r .transfers) (told r e));
+        done = λ r e z.
+            let c = d .done (r .step) (r .transfers) (told r e ∙ ap (λ (k : ℕ). reported k (r .step) (r .transfers)) z) in
+            rw (f .target, f .monitor) (record { atEnd = c .atEnd; flash = c .flash; locks = c .locks; level = c .level; planned = c .planned });
+        provoked = λ c. rw (f .monitor) (d .provoked c);
+        calm = λ c right r e. d .calm c right (r .number) (r .step) (r .transfers) (told r e);
+      }
+
+pub demand3 : Demand3Holds
+demand3 g h bytes leave p free b may l n s steps =
+    let i = imageOf g h bytes in
+    claim g h bytes p b may l n s
+    (follow g h bytes (table-facts g h bytes p) (p .found) (size g h bytes p) n (begun (startOf h bytes leave) b l) s (started b l)
+    (subst (λ (r : Given). Follows g h bytes (table-facts g h bytes p) (p .found) (size g h bytes p) (begun r b l) (started b l))
+    (sym (start-gives g h bytes p leave free)) (first-follows g h bytes p b l))
+    (low g h bytes p b may l n) steps)

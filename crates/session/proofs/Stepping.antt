@@ -1,0 +1,143 @@
+-- What a step gives, and what it hands out. Assumes nothing.
+use mathlib.Core.Bool.{Bool, true, false, false≢true, _&&_, not, cond}
+use mathlib.Core.List.{List}
+use mathlib.Core.Path.{_≡_, refl, sym, ap, _∙_}
+use Prim.Native.Nat.{ℕ, zero, suc, _≤_}
+use native.Mathlib.Omega.{arith}
+use borrow.Author.Tests.{eq-eqb}
+use lib.Dec.{eqb}
+use lib.ListN.{length}
+use Rattle.flow.proofs.Table.{Facts}
+use Rattle.flow.specs.Exchange.{Decoded, known, unknown, decode, Met, meet, meetOn, transferred, met, dead, barred, carriedOut}
+use Rattle.flow.specs.Monitor.{Monitor, watch, isReset}
+use Rattle.flow.specs.Packets.{packetOf}
+use Rattle.flow.specs.Plan.{Traffic, counting}
+use Rattle.flow.specs.Run.{Run, served, advanceBy, advance, after, handedOutBy, handedOut}
+use Rattle.flow.specs.Session.{running, reported, moveAt, stepOf}
+use Rattle.flow.specs.Session as Flow
+use Rattle.flow.specs.Target.{Target, LineEvent, Lists, eventOf}
+use Rattle.flow.specs.declared.Answer.{Answer}
+use Rattle.flow.specs.declared.Answer.the-variants.{ResetDone, Transferred}
+use Rattle.flow.specs.declared.Move.{Move}
+use Rattle.flow.specs.declared.Packet.{Packet}
+use Rattle.flow.specs.declared.Reply.{Reply}
+use Rattle.flow.specs.declared.Request.{Request}
+use Rattle.flow.specs.declared.Request.the-variants.{Xres, LineReset, ReadIdcode, ReadDrw, WriteTar, WriteDrw, WriteSetup}
+use Rattle.image.specs.Image.{Image, imageOf}
+use Rattle.image.specs.declared.Header.{Header}
+use Rattle.parts.specs.Parts.{lookupOf}
+use Rattle.parts.specs.Sizes.{imageSize}
+use Rattle.parts.specs.declared.Geometry.{Geometry}
+use Rattle.parts.specs.declared.Lookup.{Lookup}
+use Rattle.parts.specs.declared.Lookup.the-variants.{Found, Refused as NotFound}
+use Rattle.session.specs.Calls.{State, Steps, none, answer, refusal, later, sent, handing, standing, watching, reaction, answered, called}
+use Rattle.session.specs.Given.{answers, refusing, outcomeAt, giving, stepOn, stepFor, stepWith}
+use Rattle.session.specs.Possible.{possibleIn}
+use Rattle.session.specs.Sessions.{standOf, mostOf, resumed}
+use Rattle.session.specs.declared.Given.{Given}
+use Rattle.session.specs.declared.Outcome.{Outcome}
+use Rattle.session.specs.declared.Outcome.the-variants.{Refused, Ask, Told}
+use Rattle.session.specs.declared.Report.{Report}
+use Rattle.session.specs.declared.Session.{Session}
+use Rattle.session.proofs.Closed.{Within, Stands}
+use Rattle.session.proofs.Counted.{countIn, stand-resumed, count-step}
+use Rattle.session.proofs.Moves.{Proper}
+use Rattle.session.proofs.Places.{proper-at}
+use Rattle.session.proofs.Possibility.{Parts, parts, stands-of, step-possible}
+
+-- ---- the target answers a reset with 'reset done', and every other request by an acknowledgement
+
+met-fits : (t : Bool) (g : Geometry) (q : Request) (e : LineEvent) (l : Lists) (a : Reply) (b : Target)
+    → answers q ((met t g q e l a b) .answer) ≡ not (isReset q)
+met-fits true g q e l a b = refl
+met-fits false g q e l a b = refl
+
+transfer-fits : (g : Geometry) (q : Request) (e : LineEvent) (l : Lists) (b : Target) → answers q ((transferred g q e l b) .answer) ≡ not (isReset q)
+unfolding transferred
+transfer-fits g q e l b = met-fits (not (dead b) && not (barred g q b) && carriedOut (e .fate)) g q e l _ b
+
+pub fits : (g : Geometry) (q : Request) (l : Lists) (b : Target) → answers q ((meetOn g (known q) l b) .answer) ≡ true
+fits g Xres l b = refl
+fits g LineReset l b = refl
+fits g ReadIdcode l b = transfer-fits g ReadIdcode (eventOf (l .line)) l b
+fits g ReadDrw l b = transfer-fits g ReadDrw (eventOf (l .line)) l b
+fits g (WriteTar w) l b = transfer-fits g (WriteTar w) (eventOf (l .line)) l b
+fits g (WriteDrw w) l b = transfer-fits g (WriteDrw w) (eventOf (l .line)) l b
+fits g (WriteSetup r w) l b = transfer-fits g (WriteSetup r w) (eventOf (l .line)) l b
+
+-- ---- what stands, handed out
+
+sent-counts : (q : Request) (t : Traffic) → sent (packetOf q) t ≡ counting q t
+sent-counts Xres t = refl
+sent-counts LineReset t = refl
+sent-counts ReadIdcode t = refl
+sent-counts ReadDrw t = refl
+sent-counts (WriteTar w) t = refl
+sent-counts (WriteDrw w) t = refl
+sent-counts (WriteSetup r w) t = refl
+
+pub handing-stands : (i : Image) (x : Flow.Session) (t : Traffic) → handing (outcomeAt i x) t ≡ handedOutBy i x t
+handing-stands i (running y n w p a k h) t = sent-counts ((moveAt i y n) .request) t
+handing-stands i (reported x s h) t = refl
+
+pub standing-new : (i : Image) (o : Outcome) (x : Flow.Session) → standing o (outcomeAt i x) ≡ outcomeAt i x
+standing-new i o (running y n w p a k h) = refl
+standing-new i o (reported x s h) = refl
+
+pub header-kept : (g : Geometry) (s : Session) (x : Flow.Session) → (resumed g s x) .header ≡ s .header
+unfolding resumed
+header-kept g s (running y n w p a k h) = refl
+header-kept g s (reported x t h) = refl
+
+-- ---- what a step gives
+
+module _ (g : Geometry) (s : Session) (bytes : List ℕ) (a : Answer) (found : lookupOf (s .header .part) (s .header .macros) ≡ Found g)
+    (can : possibleIn g s ≡ true) (size : length bytes ≡ imageSize g) where
+  unrefused : stepWith s bytes a ≡ stepOn g s bytes a
+  unfolding stepWith
+  unrefused = ap (λ (l : Lookup). stepFor l s bytes a) found ∙ simp (can, eq-eqb (length bytes) (imageSize g) size)
+
+  pub step-running : s .finished ≡ false → answers ((moveAt (imageOf g (s .header) bytes) (s .entry) (s .progress .at)) .request) a ≡ true
+      → stepWith s bytes a ≡ giving (imageOf g (s .header) bytes) (resumed g s (stepOf (imageOf g (s .header) bytes) (standOf s) a))
+  step-running e f = unrefused ∙ simp (e, f)
+
+  pub step-finished : s .finished ≡ true → stepWith s bytes a ≡ giving (imageOf g (s .header) bytes) s
+  step-finished e = unrefused ∙ simp e
+
+-- ---- a refused step gives the session back
+
+pub not-refused : (i : Image) (x : Flow.Session) (n : ℕ) → outcomeAt i x ≡ Refused n → ⊥
+not-refused i (running y k w p a q h) n e = let z : _≡_ {A = ℕ} 0 1 = cc in omega arith
+not-refused i (reported x t h) n e = let z : _≡_ {A = ℕ} 0 1 = cc in omega arith
+
+module _ (s : Session) (bytes : List ℕ) (a : Answer) where
+  Back : Given → Type 0
+  Back r = (n : ℕ) → r .outcome ≡ Refused n → r .session ≡ s
+
+  back-either : (t : Bool) (r r′ : Given) → Back r → Back r′ → Back (cond t r r′)
+  back-either true r r′ h h′ = h
+  back-either false r r′ h h′ = h′
+
+  back-refusing : (k : ℕ) → Back (refusing s k)
+  unfolding Back
+  back-refusing k n e = refl
+
+  back-giving : (i : Image) (s′ : Session) → Back (giving i s′)
+  unfolding Back
+  back-giving i s′ n e = absurd (not-refused i (standOf s′) n e)
+
+  back-for : (l : Lookup) → Back (stepFor l s bytes a)
+  back-for (NotFound n) = back-refusing 13
+  back-for (Found g) =
+      let i = imageOf g (s .header) bytes in
+      back-either (possibleIn g s) _ _
+      (back-either (eqb (length bytes) (imageSize g)) _ _
+      (back-either (s .finished) _ _ (back-giving i s)
+      (back-either (answers ((moveAt i (s .entry) (s .progress .at)) .request) a) _ _
+      (back-giving i (resumed g s (stepOf i (standOf s) a))) (back-refusing 14)))
+      (back-refusing 12))
+      (back-refusing 13)
+
+  pub given-back : (n : ℕ) → (stepWith s bytes a) .outcome ≡ Refused n → (stepWith s bytes a) .session ≡ s
+  unfolding stepWith Back
+  given-back = back-for (lookupOf (s .header .part) (s .header .macros))
