@@ -16,7 +16,7 @@ use Rattle.flow.specs.declared.Purpose.the-variants.{Sent, Idcode, TestBit, Pol
 use Rattle.image.specs.Image.{Image, imageOf}
 use Rattle.image.specs.declared.Header.{Header}
 use Rattle.parts.specs.declared.Geometry.{Geometry}
-use Rattle.session.specs.Nexts.{nextOf, tryNext, waitNext, nextBy}
+use Rattle.session.specs.Nexts.{nextOf, tryNext, waitNext, nextBy, standAfter}
 use Rattle.session.specs.declared.Next.{Next}
 use Rattle.session.specs.declared.Next.the-variants.{Run, Stop}
 use Rattle.session.specs.declared.Progress.{Progress}
@@ -51,11 +51,6 @@ judge-header g h bytes Reopened p k w = refl
 judge-header g h bytes (Same v n) p k w = refl
 judge-header g h bytes StoredLevel p k w = refl
 judge-header g h bytes LastSum p k w = refl
-
--- the session of the flow that an answer leads to
-abbrev pub standAfter : Next → (step transfers : ℕ) → Flow.Session
-standAfter (Run y p) s h = running y (p .at) (p .waits) (p .polls) (p .attempts) (p .kept) h
-standAfter (Stop x) s h = reported x s h
 
 stand-next : (j : Judged) (y : Entry) (n a s h : ℕ) → standAfter (nextOf j y n a) s h ≡ settled j y n s a h
 stand-next (go p k) y n a s h = simp add-one

@@ -5,6 +5,7 @@ use lib.ListN.{replicate}
 use Rattle.flow.specs.Plan.{mostTraffic}
 use Rattle.flow.specs.Session.{running, reported}
 use Rattle.flow.specs.Session as Flow
+use Rattle.flow.specs.declared.Entry.{Entry}
 use Rattle.flow.specs.declared.Entry.the-variants.{FromOpen, FromProtected}
 use Rattle.image.specs.declared.Header.{Header}
 use Rattle.parts.specs.declared.Geometry.{Geometry}
@@ -35,23 +36,15 @@ firstFor h = record { header = h; entry = FromOpen; progress = atStart; transfer
 abbrev pub mostOf : Geometry → ℕ
 mostOf g = (mostTraffic g FromProtected) .transfers
 
+-- a session of the same image that goes on so, and one that has reported
+abbrev pub runningAt : Session → Entry → Progress → (transfers : ℕ) → Session
+runningAt s y p t = record { header = s .header; entry = y; progress = p; transfers = t; finished = false; number = 0; step = 0 }
+
+abbrev pub reportedAt : Session → (number step transfers : ℕ) → Session
+reportedAt s x r t = record { header = s .header; entry = s .entry; progress = atStart; transfers = t; finished = true; number = x; step = r }
+
 -- a session of the same image that stands so; the count stops at document 01's formula, which no run from a start goes past
 unfoldable pub resumed : Geometry → Session → Flow.Session → Session
-resumed g s (running y n w p a k h) = record {
-  header = s .header;
-  entry = y;
-  progress = record { at = n; waits = w; polls = p; attempts = a; kept = k };
-  transfers = min h (mostOf g);
-  finished = false;
-  number = 0;
-  step = 0;
-}
-resumed g s (reported x t h) = record {
-  header = s .header;
-  entry = s .entry;
-  progress = atStart;
-  transfers = min h (mostOf g);
-  finished = true;
-  number = x;
-  step = t;
-}
+resumed g s (running y n w p a k h) =
+    runningAt s y (record { at = n; waits = w; polls = p; attempts = a; kept = k }) (min h (mostOf g))
+resumed g s (reported x t h) = reportedAt s x t (min h (mostOf g))

@@ -7,13 +7,14 @@ ghost use Prim.Native.Nat.{suc, _+_, _-_, _*_, _%_, _≤_, _<_, _^_, min};
 ghost use lib.Dec.{eqb, ltb};
 ghost use Rattle.flow.specs.Judge.{judge, go, free, testBitSet, succeeded, idsFit, levelIn, storedIn, sumsFit, entryBy, goIf, polled, report};
 ghost use Rattle.flow.specs.Monitor.{isReset, isAttempt};
-ghost use Rattle.flow.specs.Packets.{isRead, heard};
+ghost use Rattle.flow.specs.Packets.{isRead, heard, replyIn};
 ghost use Rattle.flow.specs.Plan.{fromProtected, plan, loops, acquisitions};
 ghost use Rattle.image.specs.Image.{imageOf};
-ghost use Rattle.session.specs.Nexts.{nextOf, tryNext, waitNext, nextBy};
+ghost use Rattle.session.specs.Given.{answers, startRefused, wantsLeave, startOf};
+ghost use Rattle.session.specs.Nexts.{nextOf, tryNext, waitNext, nextBy, resetNext, standAfter, actOn};
 ghost use Rattle.session.specs.Possible.{headerFits, movesIn, progressFits, reportFits, possibleIn};
 ghost use Rattle.session.specs.Ranges.{InRange};
-ghost use Rattle.session.specs.Sessions.{mostOf};
+ghost use Rattle.session.specs.Sessions.{mostOf, firstFor, runningAt, reportedAt, resumed};
 use flow::Answer;
 use flow::Entry;
 use flow::Move;
@@ -514,5 +515,195 @@ fn on_reply(g: Geometry, h: Header, y: Entry, p: Progress, m: Move, r: Reply) ->
         Ack::Wait => on_wait(q, y, p),
         Ack::Fault => on_broken(q, y, p, 28),
         Ack::Silence => on_broken(q, y, p, 29),
+    }
+}
+
+// The count, which stops at document 01's formula.
+fn capped(g: Geometry, count: u64) -> u32
+    requires { ⌜ mostOf g < 2 ^ 32 ⌝ }
+    ensures { λ r. ⌜ r ≡ min count (mostOf g) ⌝ }
+{
+    let most = most_of(g);
+    if count <= most {
+        count as u32
+    } else {
+        most as u32
+    }
+}
+
+// A session of the same image that goes on so.
+fn running_at(s: Session, y: Entry, p: Progress, transfers: u32) -> Session
+    ensures { λ r. ⌜ r ≡ runningAt s y p transfers ⌝ }
+{
+    let h = s.header;
+    Session {
+        header: h,
+        entry: y,
+        progress: p,
+        transfers: transfers,
+        finished: false,
+        number: 0,
+        step: 0,
+    }
+}
+
+// A session of the same image that has reported this.
+fn reported_at(s: Session, number: u8, step: u8, transfers: u32) -> Session
+    ensures { λ r. ⌜ r ≡ reportedAt s number step transfers ⌝ }
+{
+    let h = s.header;
+    let y = s.entry;
+    Session {
+        header: h,
+        entry: y,
+        progress: Progress {
+            at: 0,
+            waits: 0,
+            polls: 0,
+            attempts: 0,
+            kept: 0,
+        },
+        transfers: transfers,
+        finished: true,
+        number: number,
+        step: step,
+    }
+}
+
+// The session that an answer leads to.
+fn resume(g: Geometry, s: Session, next: Next, step: u8, count: u64) -> Session
+    requires { ⌜ mostOf g < 2 ^ 32 ⌝ }
+    ensures { λ r. ⌜ r ≡ resumed g s (standAfter next step count) ⌝ }
+{
+    let transfers = capped(g, count);
+    match next {
+        Next::Run(y, p) => running_at(s, y, p, transfers),
+        Next::Stop(number) => reported_at(s, number, step, transfers),
+    }
+}
+
+// Whether an answer is one to this request: resets are answered by 'reset done', transfers by an acknowledgement (14).
+fn answer_fits(q: Request, a: Answer) -> bool
+    ensures { λ r. ⌜ r ≡ answers q a ⌝ }
+{
+    match a {
+        Answer::ResetDone => is_reset(q),
+        Answer::Transferred(_) => !is_reset(q),
+    }
+}
+
+// What is read of an answer.
+fn reply_in(a: Answer) -> Reply
+    ensures { λ r. ⌜ r ≡ replyIn a ⌝ }
+{
+    match a {
+        Answer::ResetDone => Reply {
+            ack: 0,
+            word: 0,
+            parity: 0,
+        },
+        Answer::Transferred(r) => r,
+    }
+}
+
+// After a reset, the next move.
+fn after_reset(y: Entry, p: Progress) -> Next
+    requires { ⌜ InRange p ⌝ }
+    ensures { λ r. ⌜ r ≡ resetNext y p ⌝ }
+{
+    Next::Run(
+        y,
+        Progress {
+            at: p.at + 1,
+            waits: p.waits,
+            polls: p.polls,
+            attempts: p.attempts,
+            kept: p.kept,
+        },
+    )
+}
+
+// The session after the standing move is answered.
+fn advanced(g: Geometry, s: Session, m: Move, a: Answer) -> Session
+    requires { ⌜ InRange (s .progress) ⌝ ∗ ⌜ mostOf g < 2 ^ 32 ⌝ }
+    ensures { λ r. ⌜ r ≡ resumed g s (actOn (imageOf g (s .header) []) m a (s .entry) (s .progress) (s .transfers)) ⌝ }
+{
+    let h = s.header;
+    let y = s.entry;
+    let p = s.progress;
+    let q = m.request;
+    if is_reset(q) {
+        let n = after_reset(y, p);
+        return resume(g, s, n, m.step, s.transfers as u64);
+    }
+    let r = reply_in(a);
+    let n = on_reply(g, h, y, p, m, r);
+    resume(g, s, n, m.step, (s.transfers as u64) + 1)
+}
+
+// The session of a given header at its start.
+fn first_session(h: Header) -> Session
+    ensures { λ r. ⌜ r ≡ firstFor h ⌝ }
+{
+    Session {
+        header: h,
+        entry: Entry::FromOpen,
+        progress: Progress {
+            at: 0,
+            waits: 0,
+            polls: 0,
+            attempts: 0,
+            kept: 0,
+        },
+        transfers: 0,
+        finished: false,
+        number: 0,
+        step: 0,
+    }
+}
+
+// A refused start: a session of zeros.
+fn start_refused(n: u8) -> Given
+    ensures { λ r. ⌜ r ≡ startRefused n ⌝ }
+{
+    let h = Header {
+        part: 0,
+        macros: 0,
+        sum: 0,
+        metadata: [0u8; 12],
+        level: 0,
+    };
+    let s = first_session(h);
+    Given {
+        session: s,
+        outcome: Outcome::Refused(n),
+    }
+}
+
+// Whether KILL is asked for without leave (15).
+fn wants_leave(h: Header, leave: bool) -> bool
+    ensures { λ r. ⌜ r ≡ wantsLeave h leave ⌝ }
+{
+    if h.level == 4 {
+        return !leave;
+    }
+    false
+}
+
+// Starts a session on an image: checks 11, 12, 6 to 10, then 15; the first request is XRES.
+pub fn start(h: Header, bytes: &[u8], leave: bool) -> Given
+    ensures { λ r. ⌜ r ≡ startOf h (now (bytes .entry)) leave ⌝ }
+{
+    let n = image::check(h, bytes);
+    if n != 0 {
+        return start_refused(n);
+    }
+    if wants_leave(h, leave) {
+        return start_refused(15);
+    }
+    let s = first_session(h);
+    Given {
+        session: s,
+        outcome: Outcome::Ask(Packet::Xres),
     }
 }
