@@ -22,3 +22,4 @@ pub mod Entering
 pub mod Frames
 pub mod Passing
 pub mod Demand
+pub mod Witness

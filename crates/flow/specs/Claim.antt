@@ -109,3 +109,15 @@ abbrev pub Demand3Holds : Type 0
 Demand3Holds =
     (g : Geometry) (h : Header) (bytes : List ℕ) → Passes g h bytes → (b : Target) → Startable g b → (l : Lists) (n : ℕ)
     → Demand3 (imageOf g h bytes) b l n (after (imageOf g h bytes) n (started b l))
+
+-- the hypotheses can be met, and done be reached: an image of the geometry, a right target with this level, lists that are empty
+pub record Achieved (g : Geometry) (level : ℕ) : Type 0 where
+  pub header : Header
+  pub bytes : List ℕ
+  pub passes : Passes g header bytes
+  pub target : Target
+  pub startable : Startable g target
+  pub stored : target .memory .stored ≡ level
+  pub right : RightPart (imageOf g header bytes) (target .silicon)
+  pub steps : ℕ
+  pub done : (after (imageOf g header bytes) steps (started target (record { line = []; calls = [] }))) .session ≡ reported 0 9 (plan g (entryOf target))
