@@ -35,7 +35,7 @@ pub data Wired : Request → Type 0 where
   plain : {q : Request} → Plain q → Wired q
 
 -- the target reads each request as it was meant
-decodes : {q : Request} → Wired q → decode (packetOf q) ≡ known q
+pub decodes : {q : Request} → Wired q → decode (packetOf q) ≡ known q
 unfolding decode ones onesIn
 decodes attempt = refl
 decodes (plain (aTar {a = w})) = rw (eq-eqb (parity w) (parity w) refl)

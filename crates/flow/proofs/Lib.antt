@@ -23,3 +23,4 @@ pub mod Frames
 pub mod Passing
 pub mod Demand
 pub mod Witness
+pub mod Decoding
