@@ -24,3 +24,4 @@ pub mod Passing
 pub mod Demand
 pub mod Witness
 pub mod Decoding
+pub mod Blame

@@ -1,6 +1,6 @@
 -- Demand 3 on the definitions: one claim about a whole run, whatever the free lists hold. Assumes nothing.
 use mathlib.Core.Bool.{Bool, true, false, cond}
-use mathlib.Core.List.{List, [], _∷_}
+use mathlib.Core.List.{List, [], _∷_, _++_}
 use mathlib.Core.Logic.{_⊎_, _↔_}
 use mathlib.Core.Path.{_≡_}
 use Prim.Native.Nat.{ℕ, _+_, _*_, _/_, _≤_, _<_}
@@ -109,6 +109,25 @@ abbrev pub Demand3Holds : Type 0
 Demand3Holds =
     (g : Geometry) (h : Header) (bytes : List ℕ) → Passes g h bytes → (b : Target) → Startable g b → (l : Lists) (n : ℕ)
     → Demand3 (imageOf g h bytes) b l n (after (imageOf g h bytes) n (started b l))
+
+-- the entries that were used: what the lists have lost
+pub record Used (l left : Lists) : Type 0 where
+  pub line : List LineEvent
+  pub calls : List CallOutcome
+  pub lineIs : l .line ≡ line ++ left .line
+  pub callsIs : l .calls ≡ calls ++ left .calls
+
+-- a mishap, or another report than done on the right part, has an entry to blame that was used and was not OK
+pub record Blameless (i : Image) (b : Target) (r : Run) : Type 0 where
+  pub clean : NoError (r .monitor)
+  pub done : RightPart i (b .silicon) → (number step sent : ℕ) → r .session ≡ reported number step sent
+      → (number ≡ 0) × (sent ≡ plan (i .geometry) (entryOf b))
+
+abbrev pub BlameHolds : Type 0
+BlameHolds =
+    (g : Geometry) (h : Header) (bytes : List ℕ) → Passes g h bytes → (b : Target) → Startable g b → (l : Lists) (n : ℕ)
+    → (u : Used l ((after (imageOf g h bytes) n (started b l)) .lists)) → Calm (record { line = u .line; calls = u .calls })
+    → Blameless (imageOf g h bytes) b (after (imageOf g h bytes) n (started b l))
 
 -- the hypotheses can be met, and done be reached: an image of the geometry, a right target with this level, lists that are empty
 pub record Achieved (g : Geometry) (level : ℕ) : Type 0 where
