@@ -1,6 +1,6 @@
 -- A mishap has an entry to blame that was used: what lies behind the used entries makes no difference. Assumes nothing.
 use mathlib.Core.Bool.{Bool, true, false, _&&_, not, cond}
-use mathlib.Core.List.{List, [], _∷_, _++_, append-nil}
+use mathlib.Core.List.{List, [], _∷_, _++_, append-assoc}
 use mathlib.Core.Logic.{_⊎_, inl, inr}
 use mathlib.Core.Path.{_≡_, refl, ap, sym, subst, _∙_}
 use Prim.Native.Nat.{ℕ, zero, suc, _+_, _≤_, _<_}
@@ -220,3 +220,62 @@ blame-holds g h bytes p b s l n u calm =
     ap (after i n) split ∙ prefix i n left (started b used) (sym (ap (λ (r : Run). (after i n r) .lists) split)) in
     let d = demand3-holds g h bytes p b s used n in
     rw e (record { clean = d .provoked calm; done = λ right x t z is. d .calm calm right x t z is })
+
+-- ---- the lists lose entries from their fronts: there are always such used entries
+
+record Front {A : Type 0} (l left : List A) : Type 0 where
+  pub front : List A
+  pub is : l ≡ front ++ left
+
+whole : {A : Type 0} (l : List A) → Front l l
+whole l = record { front = []; is = refl }
+
+first : {A : Type 0} (l : List A) → Front l (rest l)
+first [] = record { front = []; is = refl }
+first (x ∷ l) = record { front = x ∷ []; is = refl }
+
+perhaps : (y : Bool) (l : List CallOutcome) → Front l (cond y (rest l) l)
+perhaps true l = first l
+perhaps false l = whole l
+
+used : {l l′ : Lists} → Front (l .line) (l′ .line) → Front (l .calls) (l′ .calls) → Used l l′
+used a b = record { line = a .front; calls = b .front; lineIs = a .is; callsIs = b .is }
+
+then : {l l′ l″ : Lists} → Used l l′ → Used l′ l″ → Used l l″
+then {l″ = l″} u v = record {
+  line = u .line ++ v .line;
+  calls = u .calls ++ v .calls;
+  lineIs = u .lineIs ∙ ap (λ (x : List LineEvent). u .line ++ x) (v .lineIs) ∙ sym (append-assoc (u .line) (v .line) (l″ .line));
+  callsIs = u .callsIs ∙ ap (λ (x : List CallOutcome). u .calls ++ x) (v .callsIs) ∙ sym (append-assoc (u .calls) (v .calls) (l″ .calls));
+}
+
+met-used : (c : Bool) (g : Geometry) (q : Request) (ev : LineEvent) (l : Lists) (a : Reply) (b : Target) → Used l ((met c g q ev l a b) .lists)
+met-used true g q ev l a b = used (first (l .line)) (perhaps (callsOn g q b) (l .calls))
+met-used false g q ev l a b = used (first (l .line)) (whole (l .calls))
+
+transferred-used : (g : Geometry) (q : Request) (l : Lists) (b : Target) → Used l ((transferred g q (eventOf (l .line)) l b) .lists)
+unfolding transferred
+transferred-used g q l b = met-used (flagOf g q (eventOf (l .line)) b) g q (eventOf (l .line)) l (replyOf g q (eventOf (l .line)) b) b
+
+meet-used : (g : Geometry) (d : Decoded) (l : Lists) (b : Target) → Used l ((meetOn g d l b) .lists)
+meet-used g (known Xres) l b = used (whole (l .line)) (whole (l .calls))
+meet-used g (known LineReset) l b = used (whole (l .line)) (whole (l .calls))
+meet-used g (known ReadIdcode) l b = transferred-used g ReadIdcode l b
+meet-used g (known ReadDrw) l b = transferred-used g ReadDrw l b
+meet-used g (known (WriteTar a)) l b = transferred-used g (WriteTar a) l b
+meet-used g (known (WriteDrw w)) l b = transferred-used g (WriteDrw w) l b
+meet-used g (known (WriteSetup r w)) l b = transferred-used g (WriteSetup r w) l b
+meet-used g unknown l b = used (first (l .line)) (whole (l .calls))
+
+advance-used : (i : Image) (r : Run) → Used (r .lists) ((advance i r) .lists)
+unfolding advance meet
+advance-used i r = by (r .session)
+  where
+    by : (s : Session) → Used (r .lists) ((advanceBy i s r) .lists)
+    by (running y n w p a k h) = meet-used (i .geometry) (decode (packetOf ((moveAt i y n) .request))) (r .lists) (r .target)
+    by (reported n s h) = used (whole (r .lists .line)) (whole (r .lists .calls))
+
+pub after-used : (i : Image) (n : ℕ) (r : Run) → Used (r .lists) ((after i n r) .lists)
+unfolding after
+after-used i zero r = used (whole (r .lists .line)) (whole (r .lists .calls))
+after-used i (suc n) r = then (advance-used i r) (after-used i n (advance i r))
