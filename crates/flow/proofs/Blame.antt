@@ -91,23 +91,6 @@ met-line : (c : Bool) (g : Geometry) (q : Request) (ev : LineEvent) (l : Lists) 
 met-line true g q ev l a b = refl
 met-line false g q ev l a b = refl
 
-rest-less : (A : Type 0) (l : List A) → length (rest l) ≤ length l
-rest-less A [] = omega arith
-rest-less A (x ∷ l) = omega arith
-
-cond-less : (y : Bool) (l : List CallOutcome) → length (cond y (rest l) l) ≤ length l
-cond-less true l = rest-less CallOutcome l
-cond-less false l = le-refl _
-
--- the lists only lose entries
-record Less (l l′ : Lists) : Type 0 where
-  pub line : length (l′ .line) ≤ length (l .line)
-  pub calls : length (l′ .calls) ≤ length (l .calls)
-
-met-less : (c : Bool) (g : Geometry) (q : Request) (ev : LineEvent) (l : Lists) (a : Reply) (b : Target) → Less l ((met c g q ev l a b) .lists)
-met-less true g q ev l a b = record { line = rest-less LineEvent (l .line); calls = cond-less (callsOn g q b) (l .calls) }
-met-less false g q ev l a b = record { line = rest-less LineEvent (l .line); calls = le-refl _ }
-
 -- whether a transfer is carried out, and its answer
 abbrev flagOf : Geometry → Request → LineEvent → Target → Bool
 flagOf g q e b = not (dead b) && not (barred g q b) && carriedOut (e .fate)
@@ -127,10 +110,6 @@ module _ (g : Geometry) where
   transferred-alike q [] (e ∷ es) calls more b =
       into (inl (rw (met-line (flagOf g q e b) g q e (record { line = e ∷ es; calls = calls ++ more }) (replyOf g q e b) b) (le-refl _)))
 
-  transferred-less : (q : Request) (l : Lists) (b : Target) → Less l ((transferred g q (eventOf (l .line)) l b) .lists)
-  unfolding transferred
-  transferred-less q l b = met-less (flagOf g q (eventOf (l .line)) b) g q (eventOf (l .line)) l (replyOf g q (eventOf (l .line)) b) b
-
 module _ (g : Geometry) (x : Lists) where
   meet-alike : (d : Decoded) (l : Lists) (b : Target) → Alike x (meetOn g d l b) (meetOn g d (behind x l) b)
   meet-alike (known Xres) l b = same refl
@@ -147,79 +126,6 @@ module _ (g : Geometry) (x : Lists) where
       by (e ∷ es) later h = same refl
       by [] [] h = same (rw h)
       by [] (e ∷ es) h = into (inl (rw h (le-refl _)))
-
-meet-less : (g : Geometry) (d : Decoded) (l : Lists) (b : Target) → Less l ((meetOn g d l b) .lists)
-meet-less g (known Xres) l b = record { line = le-refl _; calls = le-refl _ }
-meet-less g (known LineReset) l b = record { line = le-refl _; calls = le-refl _ }
-meet-less g (known ReadIdcode) l b = transferred-less g ReadIdcode l b
-meet-less g (known ReadDrw) l b = transferred-less g ReadDrw l b
-meet-less g (known (WriteTar a)) l b = transferred-less g (WriteTar a) l b
-meet-less g (known (WriteDrw w)) l b = transferred-less g (WriteDrw w) l b
-meet-less g (known (WriteSetup r w)) l b = transferred-less g (WriteSetup r w) l b
-meet-less g unknown l b = record { line = rest-less LineEvent (l .line); calls = le-refl _ }
-
-module _ (i : Image) where
-  advance-less : (r : Run) → Less (r .lists) ((advance i r) .lists)
-  unfolding advance meet
-  advance-less r = by (r .session)
-    where
-      by : (s : Session) → Less (r .lists) ((advanceBy i s r) .lists)
-      by (running y n w p a k h) = meet-less (i .geometry) (decode (packetOf ((moveAt i y n) .request))) (r .lists) (r .target)
-      by (reported n s h) = record { line = le-refl _; calls = le-refl _ }
-
-  after-less : (n : ℕ) (r : Run) → Less (r .lists) ((after i n r) .lists)
-  unfolding after
-  after-less zero r = record { line = le-refl _; calls = le-refl _ }
-  after-less (suc n) r =
-      let a = advance-less r in
-      let z = after-less n (advance i r) in
-      record { line = le-trans (z .line) (a .line); calls = le-trans (z .calls) (a .calls) }
-
-  -- a step is the same with more behind, or uses what is behind
-  data AlikeRun (x : Lists) (r r′ : Run) : Type 0 where
-    sameRun : r′ ≡ runBehind x r → AlikeRun x r r′
-    intoRun : Into x (r′ .lists) → AlikeRun x r r′
-
-  advance-alike : (x : Lists) (r : Run) → AlikeRun x (advance i r) (advance i (runBehind x r))
-  unfolding advance meet
-  advance-alike x r = by (r .session)
-    where
-      by : (s : Session) → AlikeRun x (advanceBy i s r) (advanceBy i s (runBehind x r))
-      by (reported n s h) = sameRun refl
-      by (running y n w p a k h) = met-run (meet-alike (i .geometry) x (decode (packetOf ((moveAt i y n) .request))) (r .lists) (r .target))
-        where
-          met-run : Alike x (meetOn (i .geometry) (decode (packetOf ((moveAt i y n) .request))) (r .lists) (r .target))
-              (meetOn (i .geometry) (decode (packetOf ((moveAt i y n) .request))) (behind x (r .lists)) (r .target))
-              → AlikeRun x (advanceBy i (running y n w p a k h) r) (advanceBy i (running y n w p a k h) (runBehind x r))
-          met-run (same e) = sameRun (rw e)
-          met-run (into z) = intoRun z
-
-  -- what is not used does not matter
-  prefix : (n : ℕ) (x : Lists) (r : Run) → (after i n (runBehind x r)) .lists ≡ x → after i n (runBehind x r) ≡ runBehind x (after i n r)
-  unfolding after
-  prefix zero x r h = refl
-  prefix (suc n) x r h = by (λ r′. prefix n x r′) (advance-alike x r)
-    where
-      by : ((r′ : Run) → (after i n (runBehind x r′)) .lists ≡ x → after i n (runBehind x r′) ≡ runBehind x (after i n r′)) → AlikeRun x (advance i r) (advance i (runBehind x r))
-          → after i n (advance i (runBehind x r)) ≡ runBehind x (after i n (advance i r))
-      by rec (sameRun e) = rw e (rec (advance i r) (ap (λ (z : Run). (after i n z) .lists) (sym e) ∙ h))
-      by rec (intoRun (inl z)) = absurd (omega (arith, (after-less n (advance i (runBehind x r))) .line, ap (λ (l : Lists). length (l .line)) h))
-      by rec (intoRun (inr z)) = absurd (omega (arith, (after-less n (advance i (runBehind x r))) .calls, ap (λ (l : Lists). length (l .calls)) h))
-
-parted : (l x : Lists) (line : List LineEvent) (calls : List CallOutcome) → l .line ≡ line ++ x .line → l .calls ≡ calls ++ x .calls
-    → l ≡ behind x (record { line = line; calls = calls })
-parted l x line calls h k = rw (h, k)
-
-pub blame-holds : BlameHolds
-blame-holds g h bytes p b s l n u calm =
-    let i = imageOf g h bytes in
-    let used : Lists = record { line = u .line; calls = u .calls } in
-    let left : Lists = (after i n (started b l)) .lists in
-    let split : started b l ≡ runBehind left (started b used) = ap (started b) (parted l left (u .line) (u .calls) (u .lineIs) (u .callsIs)) in
-    let e : after i n (started b l) ≡ runBehind left (after i n (started b used)) =
-    ap (after i n) split ∙ prefix i n left (started b used) (sym (ap (λ (r : Run). (after i n r) .lists) split)) in
-    let d = demand3-holds g h bytes p b s used n in
-    rw e (record { clean = d .provoked calm; done = λ right x t z is. d .calm calm right x t z is })
 
 -- ---- the lists lose entries from their fronts: there are always such used entries
 
@@ -279,3 +185,56 @@ pub after-used : (i : Image) (n : ℕ) (r : Run) → Used (r .lists) ((after i n
 unfolding after
 after-used i zero r = used (whole (r .lists .line)) (whole (r .lists .calls))
 after-used i (suc n) r = then (advance-used i r) (after-used i n (advance i r))
+
+fewer-events : {l l′ : Lists} → Used l l′ → length (l′ .line) ≤ length (l .line)
+fewer-events {l′ = l′} u = rw (u .lineIs, length-append (u .line) (l′ .line)) (omega arith)
+
+fewer-calls : {l l′ : Lists} → Used l l′ → length (l′ .calls) ≤ length (l .calls)
+fewer-calls {l′ = l′} u = rw (u .callsIs, length-append (u .calls) (l′ .calls)) (omega arith)
+
+module _ (i : Image) where
+  -- a step is the same with more behind, or uses what is behind
+  data AlikeRun (x : Lists) (r r′ : Run) : Type 0 where
+    sameRun : r′ ≡ runBehind x r → AlikeRun x r r′
+    intoRun : Into x (r′ .lists) → AlikeRun x r r′
+
+  advance-alike : (x : Lists) (r : Run) → AlikeRun x (advance i r) (advance i (runBehind x r))
+  unfolding advance meet
+  advance-alike x r = by (r .session)
+    where
+      by : (s : Session) → AlikeRun x (advanceBy i s r) (advanceBy i s (runBehind x r))
+      by (reported n s h) = sameRun refl
+      by (running y n w p a k h) = met-run (meet-alike (i .geometry) x (decode (packetOf ((moveAt i y n) .request))) (r .lists) (r .target))
+        where
+          met-run : Alike x (meetOn (i .geometry) (decode (packetOf ((moveAt i y n) .request))) (r .lists) (r .target))
+              (meetOn (i .geometry) (decode (packetOf ((moveAt i y n) .request))) (behind x (r .lists)) (r .target))
+              → AlikeRun x (advanceBy i (running y n w p a k h) r) (advanceBy i (running y n w p a k h) (runBehind x r))
+          met-run (same e) = sameRun (rw e)
+          met-run (into z) = intoRun z
+
+  -- what is not used does not matter
+  prefix : (n : ℕ) (x : Lists) (r : Run) → (after i n (runBehind x r)) .lists ≡ x → after i n (runBehind x r) ≡ runBehind x (after i n r)
+  unfolding after
+  prefix zero x r h = refl
+  prefix (suc n) x r h = by (λ r′. prefix n x r′) (advance-alike x r)
+    where
+      by : ((r′ : Run) → (after i n (runBehind x r′)) .lists ≡ x → after i n (runBehind x r′) ≡ runBehind x (after i n r′)) → AlikeRun x (advance i r) (advance i (runBehind x r))
+          → after i n (advance i (runBehind x r)) ≡ runBehind x (after i n (advance i r))
+      by rec (sameRun e) = rw e (rec (advance i r) (ap (λ (z : Run). (after i n z) .lists) (sym e) ∙ h))
+      by rec (intoRun (inl z)) = absurd (omega (arith, fewer-events (after-used i n (advance i (runBehind x r))), ap (λ (l : Lists). length (l .line)) h))
+      by rec (intoRun (inr z)) = absurd (omega (arith, fewer-calls (after-used i n (advance i (runBehind x r))), ap (λ (l : Lists). length (l .calls)) h))
+
+parted : (l x : Lists) (line : List LineEvent) (calls : List CallOutcome) → l .line ≡ line ++ x .line → l .calls ≡ calls ++ x .calls
+    → l ≡ behind x (record { line = line; calls = calls })
+parted l x line calls h k = rw (h, k)
+
+pub blame-holds : BlameHolds
+blame-holds g h bytes p b s l n u calm =
+    let i = imageOf g h bytes in
+    let used : Lists = record { line = u .line; calls = u .calls } in
+    let left : Lists = (after i n (started b l)) .lists in
+    let split : started b l ≡ runBehind left (started b used) = ap (started b) (parted l left (u .line) (u .calls) (u .lineIs) (u .callsIs)) in
+    let e : after i n (started b l) ≡ runBehind left (after i n (started b used)) =
+    ap (after i n) split ∙ prefix i n left (started b used) (sym (ap (λ (r : Run). (after i n r) .lists) split)) in
+    let d = demand3-holds g h bytes p b s used n in
+    rw e (record { clean = d .provoked calm; done = λ right x t z is. d .calm calm right x t z is })
