@@ -2,20 +2,18 @@
 use mathlib.Core.Bool.{Bool, true, false, _&&_, not, cond}
 use mathlib.Core.List.{List, [], _∷_, _++_, append-assoc}
 use mathlib.Core.Logic.{_⊎_, inl, inr}
-use mathlib.Core.Path.{_≡_, refl, ap, sym, subst, _∙_}
-use Prim.Native.Nat.{ℕ, zero, suc, _+_, _≤_, _<_}
-use native.Mathlib.Nat.{le-refl, le-trans}
+use mathlib.Core.Path.{_≡_, refl, ap, sym, _∙_}
+use Prim.Native.Nat.{ℕ, zero, suc, _≤_, _<_}
+use native.Mathlib.Nat.{le-refl}
 use native.Mathlib.Omega.{arith}
 use lib.ListN.{length, length-append}
-use Rattle.flow.specs.Claim.{RightPart, NoError, Calm, Used, Blameless, BlameHolds, entryOf}
+use Rattle.flow.specs.Claim.{Used, BlameHolds}
 use Rattle.flow.specs.Exchange.{Decoded, known, unknown, decode, carry, store, begin, isCall, isSysreq, dead, barred, carriedOut, callsOn, silence, replyTo, gives, Met, met, transferred, meetOn, meet}
 use Rattle.flow.specs.Map.{Place, inFlash, inLocks, inParams, atLevel, atSysreq, atSysarg, atTestMode, elsewhere, place}
 use Rattle.flow.specs.Packets.{packetOf, isRead}
-use Rattle.flow.specs.Plan.{plan}
-use Rattle.flow.specs.Run.{Run, served, advanceBy, advance, after, started}
+use Rattle.flow.specs.Run.{Run, advanceBy, advance, after, started}
 use Rattle.flow.specs.Session.{Session, running, reported, moveAt}
 use Rattle.flow.specs.Target.{Target, LineEvent, CallOutcome, Lists, eventOf, outcomeOf, rest}
-use Rattle.flow.specs.declared.Packet.{Packet}
 use Rattle.flow.specs.declared.Reply.{Reply}
 use Rattle.flow.specs.declared.Request.{Request}
 use Rattle.flow.specs.declared.Request.the-variants.{Xres, LineReset, ReadIdcode, ReadDrw, WriteTar, WriteDrw, WriteSetup}

@@ -1,21 +1,21 @@
 -- Every request of the sequence is read by the target as it was meant. Assumes nothing.
 use mathlib.Core.List.{List, [], _∷_, _++_}
 use mathlib.Core.Path.{_≡_, refl}
-use Prim.Native.Nat.{ℕ, zero, suc, _+_, _*_, _/_}
+use Prim.Native.Nat.{ℕ, zero, suc, _+_}
 use lib.ListN.{getD}
 use Rattle.flow.specs.Exchange.{known, decode}
 use Rattle.flow.specs.Packets.{packetOf}
-use Rattle.flow.specs.Sequence.{move, write, read, call, writes, listed, pieces, imoCall, acquire, silicon, privileged, programRow, compareWord, verifyFlash, lockMacro, verifyMacro, program, opening, afterwards, sequence, endMove}
+use Rattle.flow.specs.Sequence.{write, read, call, writes, listed, pieces, imoCall, acquire, silicon, privileged, programRow, lockMacro, verifyMacro, program, opening, afterwards, sequence, endMove}
 use Rattle.flow.specs.Session.{moveAt}
 use Rattle.flow.specs.declared.Entry.{Entry}
 use Rattle.flow.specs.declared.Entry.the-variants.{FromOpen, FromProtected}
 use Rattle.flow.specs.declared.Move.{Move}
 use Rattle.flow.specs.declared.Purpose.{Purpose}
 use Rattle.flow.specs.declared.Request.{Request}
-use Rattle.flow.specs.declared.Request.the-variants.{Xres, LineReset, ReadIdcode, ReadDrw, WriteTar, WriteDrw, WriteSetup}
-use Rattle.flow.proofs.Hearing.{Plain, aTar, aDrw, aRead, aCtrl, aSelect, aCsw, Wired, attempt, plain, decodes}
+use Rattle.flow.specs.declared.Request.the-variants.{Xres, LineReset, ReadDrw, WriteTar, WriteDrw}
+use Rattle.flow.proofs.Hearing.{aTar, aDrw, aRead, aCtrl, aSelect, aCsw, Wired, attempt, plain, decodes}
 use Rattle.image.specs.Image.{Image}
-use Rattle.parts.specs.Sizes.{rowsOf, macrosOf, imoOf}
+use Rattle.parts.specs.Sizes.{imoOf}
 use Rattle.parts.specs.declared.Geometry.{Geometry}
 
 -- a request that the sequence may have

@@ -1,27 +1,27 @@
 -- The hypotheses of demand 3 can be met, and done be reached, for every part, M and level. Assumes nothing.
-use mathlib.Core.Bool.{Bool, true, false, _&&_, _||_, not}
+use mathlib.Core.Bool.{Bool, true, false, _&&_, not}
 use mathlib.Core.List.{List, [], _∷_}
 use mathlib.Core.Logic.{_⊎_, inl, inr}
-use mathlib.Core.Path.{_≡_, refl, ap, sym, _∙_}
-use Prim.Native.Nat.{ℕ, zero, suc, _+_, _*_, _/_, _%_, _≤_, _<_}
+use mathlib.Core.Path.{_≡_, refl, ap, _∙_}
+use Prim.Native.Nat.{ℕ, zero, suc, _+_, _/_, _%_, _≤_, _<_}
 use native.Mathlib.Nat.{le-refl}
 use native.Mathlib.Omega.{arith}
-use lib.Dec.{eqb, ltb, lit≤, lit<}
+use lib.Dec.{eqb, ltb, lit<}
 use lib.ListN.{length, getD, take, drop, replicate, length-replicate, length-take, List·getD-eq-default}
 use lib.Seq.{getD-take, getD-drop}
 use borrow.Author.Tests.{eq-eqb, ltb-true, ltb-false}
-use Rattle.flow.specs.Claim.{Passes, Startable, RightPart, Calm, calmEnd, callsEnd, entryOf, Demand3, Achieved}
-use Rattle.flow.specs.Plan.{plan, mostTraffic}
+use Rattle.flow.specs.Claim.{Passes, Startable, RightPart, calmEnd, callsEnd, entryOf, Achieved}
+use Rattle.flow.specs.Plan.{mostTraffic}
 use Rattle.flow.specs.Run.{after, started}
 use Rattle.flow.specs.Session.{reported}
 use Rattle.flow.specs.Target.{Target, idle}
 use Rattle.flow.proofs.Demand.{demand3-holds}
-use Rattle.image.specs.Checks.{metadataAt, versionFits, imageIdFits, levelFits, sumFits, rowWords, cancels, someCancels, contentChecks, faultIn, imageFault}
-use Rattle.image.specs.Image.{Image, imageOf, flashIn}
+use Rattle.image.specs.Checks.{imageIdFits, rowWords, cancels, someCancels, faultIn}
+use Rattle.image.specs.Image.{imageOf, flashIn}
 use Rattle.image.specs.Refusals.{firstRefusal}
 use Rattle.image.specs.Words.{total, allZero, wordAt, wordsAt}
 use Rattle.image.specs.declared.Header.{Header}
-use Rattle.parts.specs.Parts.{part1, part2, part3, lookIn, lookupOf, lowFits, idFits}
+use Rattle.parts.specs.Parts.{part1, part2, part3, lookIn, lookupOf, lowFits}
 use Rattle.parts.specs.Sizes.{rowBytes, rowsOf, flashSize, lockTotal, imageSize}
 use Rattle.parts.specs.declared.Geometry.{Geometry}
 use Rattle.parts.specs.declared.Lookup.{Lookup}

@@ -1,16 +1,16 @@
 -- Demand 3 on the definitions: one claim about a whole run, whatever the free lists hold. Assumes nothing.
-use mathlib.Core.Bool.{Bool, true, false, cond}
+use mathlib.Core.Bool.{true, cond}
 use mathlib.Core.List.{List, [], _∷_, _++_}
 use mathlib.Core.Logic.{_⊎_, _↔_}
 use mathlib.Core.Path.{_≡_}
-use Prim.Native.Nat.{ℕ, _+_, _*_, _/_, _≤_, _<_}
+use Prim.Native.Nat.{ℕ, _+_, _/_, _≤_, _<_}
 use lib.Dec.{eqb}
 use lib.ListN.{length, getD}
-use Rattle.flow.specs.Plan.{Traffic, plan, mostTraffic}
+use Rattle.flow.specs.Plan.{plan, mostTraffic}
 use Rattle.flow.specs.Run.{Run, after, started, handedOut}
-use Rattle.flow.specs.Session.{Session, running, reported}
-use Rattle.flow.specs.Target.{Target, Silicon, Running, idle, Fate, clean, LineEvent, CallOutcome, Lists}
-use Rattle.flow.specs.Monitor.{Monitor, watching, linkError, Delays, delayed}
+use Rattle.flow.specs.Session.{running, reported}
+use Rattle.flow.specs.Target.{Target, Silicon, idle, clean, LineEvent, CallOutcome, Lists}
+use Rattle.flow.specs.Monitor.{Monitor, watching, linkError, delayed}
 use Rattle.flow.specs.declared.Entry.{Entry}
 use Rattle.flow.specs.declared.Entry.the-variants.{FromOpen, FromProtected}
 use Rattle.image.specs.Checks.{metadataAt, imageFault}
