@@ -1,27 +1,26 @@
 -- Write and Read, whatever the line does. Assumes nothing.
 use mathlib.Core.Bool.{Bool, true, false, _&&_, cond}
-use mathlib.Core.List.{List, [], _∷_, _++_}
-use mathlib.Core.Path.{_≡_, refl, ap, sym, _∙_}
-use Prim.Native.Nat.{ℕ, zero, suc, _+_, _*_, _≤_}
+use mathlib.Core.List.{List, _++_}
+use mathlib.Core.Path.{_≡_, refl, ap, _∙_}
+use Prim.Native.Nat.{ℕ, suc}
 use native.Mathlib.Omega.{arith}
-use lib.Dec.{eqb, ltb, leb}
+use lib.Dec.{eqb}
 use mathlib.Core.Logic.{_⊎_, inl, inr}
-use Rattle.flow.specs.Exchange.{carry, gives, barred, dead, callsOn, guarded, isSysreq, isCall, store, begin, fetch}
+use Rattle.flow.specs.Exchange.{carry, barred, guarded, isSysreq, isCall, store, begin, fetch}
 use Rattle.flow.specs.Judge.{judge}
 use Rattle.flow.specs.Map.{Place, inFlash, inLocks, inParams, atLevel, atSysreq, atSysarg, atTestMode, elsewhere, place}
-use Rattle.flow.specs.Monitor.{Monitor, watching, Watch, Delays, noticed, noticeRead, noticeStore}
+use Rattle.flow.specs.Monitor.{watching, Watch, Delays, noticed, noticeRead, noticeStore}
 use Rattle.flow.specs.Run.{Run}
-use Rattle.flow.specs.Sequence.{move, write, read}
+use Rattle.flow.specs.Sequence.{write, read}
 use Rattle.flow.specs.Session.{running, settled}
 use Rattle.flow.specs.Target.{Target, CallOutcome, outcomeOf, rest, setTar}
 use Rattle.flow.specs.declared.Entry.{Entry}
 use Rattle.flow.specs.declared.Move.{Move}
 use Rattle.flow.specs.declared.Purpose.{Purpose}
-use Rattle.flow.specs.declared.Request.{Request}
-use Rattle.flow.specs.declared.Request.the-variants.{ReadDrw, WriteTar, WriteDrw, WriteSetup}
-use Rattle.flow.proofs.Hearing.{Plain, aTar, aDrw, aRead}
+use Rattle.flow.specs.declared.Request.the-variants.{ReadDrw, WriteTar, WriteDrw}
+use Rattle.flow.proofs.Hearing.{aTar, aDrw, aRead}
 use Rattle.flow.proofs.Reaches.{Purse, spend, pay, Env, sync, Frame, Stood, Stands, Reaches}
-use Rattle.flow.proofs.Transfer.{transfer, okayed}
+use Rattle.flow.proofs.Transfer.{transfer}
 use Rattle.image.specs.Image.{Image}
 use Rattle.parts.specs.declared.Geometry.{Geometry}
 

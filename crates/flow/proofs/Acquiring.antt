@@ -1,8 +1,8 @@
 -- Steps 1 and 2. Assumes nothing.
-use mathlib.Core.Bool.{Bool, true, false, _&&_}
-use mathlib.Core.List.{List, [], _∷_, _++_}
+use mathlib.Core.Bool.{Bool, true, false}
+use mathlib.Core.List.{List, _∷_, _++_}
 use mathlib.Core.Path.{_≡_, refl, ap, sym, subst, _∙_}
-use Prim.Native.Nat.{ℕ, zero, suc, _+_, _*_, _-_, _/_, _%_, _≤_, _<_}
+use Prim.Native.Nat.{ℕ, zero, suc, _+_, _*_, _/_, _%_, _≤_, _<_}
 use native.Mathlib.Omega.{arith}
 use lib.Dec.{eqb}
 use lib.ListN.{length}
@@ -15,15 +15,15 @@ use Rattle.flow.specs.Monitor.{watching, noticed, noticeRead}
 use Rattle.flow.specs.Run.{Run}
 use Rattle.flow.specs.Sequence.{move, key, write, read, poll, call, imoCall, acquire}
 use Rattle.flow.specs.Session.{settled}
-use Rattle.flow.specs.Target.{Target, Silicon, Memory, Residue, Running, idle, setReset}
+use Rattle.flow.specs.Target.{Target, Silicon, Memory, Residue, idle, setReset}
 use Rattle.flow.specs.declared.Entry.{Entry}
 use Rattle.flow.specs.declared.Move.{Move}
 use Rattle.flow.specs.declared.Purpose.{Purpose}
 use Rattle.flow.specs.declared.Purpose.the-variants.{Sent, Idcode, TestBit, Poll, Keep}
 use Rattle.flow.specs.declared.Request.the-variants.{LineReset, ReadIdcode, WriteSetup}
-use Rattle.flow.proofs.Access.{aim, Awake, admits, write-reaches, read-still}
+use Rattle.flow.proofs.Access.{Awake, admits, write-reaches, read-still}
 use Rattle.flow.proofs.Attempts.{barred-off, xres-reaches, trying, attempts}
-use Rattle.flow.proofs.Calling.{Command, Returned, calling, free-zero}
+use Rattle.flow.proofs.Calling.{Command, calling, free-zero}
 use Rattle.flow.proofs.Hearing.{aCtrl, aSelect, aCsw}
 use Rattle.flow.proofs.Legs.{Core, core, Leg}
 use Rattle.flow.proofs.Phases.{call15, same-core}
@@ -32,9 +32,7 @@ use Rattle.flow.proofs.Polling.{idleAt, poll-idle}
 use Rattle.flow.proofs.Reaches.{Purse, spend, payRead, payFor, pay, Env, sync, rightSilicon, Frame, Stood, Stands, poorer, Reaches}
 use Rattle.flow.proofs.Table.{Facts}
 use Rattle.flow.proofs.Transfer.{transfer}
-use Rattle.image.specs.Checks.{metadataAt}
 use Rattle.image.specs.Image.{Image}
-use Rattle.parts.specs.Parts.{lowFits}
 use Rattle.parts.specs.Sizes.{rowBytes, sysreqOf, sysargOf, TEST-MODE, imoOf}
 use Rattle.parts.specs.declared.Geometry.{Geometry}
 use Rattle.wire.specs.declared.Register.the-variants.{CtrlStat, Select, Csw}

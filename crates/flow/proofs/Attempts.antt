@@ -1,30 +1,30 @@
 -- The resets and the IDCODE attempts of step 1. Assumes nothing.
-use mathlib.Core.Bool.{Bool, true, false, _&&_, cond}
-use mathlib.Core.List.{List, [], _∷_}
+use mathlib.Core.Bool.{Bool, true, false, _&&_}
+use mathlib.Core.List.{List, _∷_}
 use mathlib.Core.Path.{_≡_, refl, ap, sym, _∙_}
-use Prim.Native.Nat.{ℕ, zero, suc, _+_, _*_, _-_, _≤_}
+use Prim.Native.Nat.{ℕ, zero, suc, _+_, _-_}
 use native.Mathlib.Omega.{arith}
-use lib.Dec.{eqb, ltb, lit≤}
+use lib.Dec.{eqb, lit≤}
 use borrow.Author.Tests.{lt-ltb, le-ltb}
 use Rattle.flow.specs.Calls.{reset}
 use Rattle.flow.specs.Exchange.{decode, carry, dead, barred, guarded, overDrw, Met, transferred, meet}
 use Rattle.flow.specs.Judge.{goIf, judge}
 use Rattle.flow.specs.Map.{place}
 use Rattle.flow.specs.Monitor.{watching, Watch, oneMissed, watchBy, noticed, watch}
-use Rattle.flow.specs.Packets.{Verdict, okay, again, broken, verdict}
-use Rattle.flow.specs.Plan.{Traffic, counting}
-use Rattle.flow.specs.Run.{Run, advance, handedOut}
+use Rattle.flow.specs.Packets.{Verdict, again, verdict}
+use Rattle.flow.specs.Plan.{counting}
+use Rattle.flow.specs.Run.{Run, advance}
 use Rattle.flow.specs.Sequence.{move}
 use Rattle.flow.specs.Session.{running, settled, heardBy, stepOf}
-use Rattle.flow.specs.Target.{Target, Silicon, Lists, Running, idle, Fate, clean, eventOf, setReset}
+use Rattle.flow.specs.Target.{Target, Silicon, Lists, idle, clean, eventOf, setReset}
 use Rattle.flow.specs.declared.Entry.{Entry}
 use Rattle.flow.specs.declared.Move.{Move}
 use Rattle.flow.specs.declared.Purpose.{Purpose}
 use Rattle.flow.specs.declared.Purpose.the-variants.{Sent, Idcode}
 use Rattle.flow.specs.declared.Request.{Request}
 use Rattle.flow.specs.declared.Request.the-variants.{Xres, LineReset, ReadIdcode}
-use Rattle.flow.proofs.Hearing.{Wired, attempt, meets, listsAfter, Heard, well, held, ill, illDone, hears}
-use Rattle.flow.proofs.Reaches.{Purse, Env, sync, Frame, StillCalm, Stood, at-move, at-next, Bounded, Reaches, stop, steps, clear}
+use Rattle.flow.proofs.Hearing.{attempt, meets, listsAfter, Heard, well, held, ill, illDone, hears}
+use Rattle.flow.proofs.Reaches.{Purse, Env, sync, Frame, Stood, at-move, at-next, Reaches, stop, steps, clear}
 use Rattle.flow.proofs.Transfer.{more, passed, calm-event, calm-rest}
 use Rattle.image.specs.Image.{Image}
 use Rattle.parts.specs.declared.Geometry.{Geometry}

@@ -1,24 +1,24 @@
 -- A call, whatever the line and the target do. Assumes nothing.
-use mathlib.Core.Bool.{Bool, true, false, cond}
-use mathlib.Core.List.{List, [], _∷_, _++_}
-use mathlib.Core.Path.{_≡_, refl, ap, sym, _∙_}
-use Prim.Native.Nat.{ℕ, zero, suc, _+_, _*_, _-_, _/_, _%_, _≤_, _<_}
+use mathlib.Core.Bool.{Bool, true, false}
+use mathlib.Core.List.{List, _++_}
+use mathlib.Core.Path.{_≡_, refl}
+use Prim.Native.Nat.{ℕ, _+_, _*_, _/_, _%_}
 use native.Mathlib.Omega.{arith}
-use lib.Dec.{eqb, ltb, leb, lit≤}
-use Rattle.flow.specs.Calls.{finish, effectOf, sysargAfter, sysreqAfter, failedArg, leftBy, listAt}
+use lib.Dec.{eqb, lit≤}
+use Rattle.flow.specs.Calls.{finish, effectOf, sysargAfter, sysreqAfter, failedArg, listAt}
 use Rattle.flow.specs.Claim.{CalmCalls, callsEnd, calmCall}
 use Rattle.flow.specs.Exchange.{isCall}
 use Rattle.flow.specs.Judge.{free, succeeded, judge}
-use Rattle.flow.specs.Map.{Place, atSysreq, atSysarg, place}
+use Rattle.flow.specs.Map.{atSysreq, atSysarg}
 use Rattle.flow.specs.Monitor.{Watch, noticeRead}
-use Rattle.flow.specs.Sequence.{move, call, poll, read, write}
-use Rattle.flow.specs.Target.{Target, Residue, CallOutcome, Running, idle, busy, outcomeOf}
+use Rattle.flow.specs.Sequence.{call, poll, read, write}
+use Rattle.flow.specs.Target.{Target, Residue, CallOutcome, idle, busy, outcomeOf}
 use Rattle.flow.specs.declared.Entry.{Entry}
 use Rattle.flow.specs.declared.Move.{Move}
-use Rattle.flow.specs.declared.Purpose.the-variants.{Poll, Status}
-use Rattle.flow.proofs.Access.{aim, Admits, Awake, admits, write-reaches, call-reaches, read-still}
+use Rattle.flow.specs.declared.Purpose.the-variants.{Status}
+use Rattle.flow.proofs.Access.{aim, Awake, admits, write-reaches, call-reaches, read-still}
 use Rattle.flow.proofs.Places.{place-sysreq, place-sysarg}
-use Rattle.flow.proofs.Polling.{idleAt, during, looping, loopAt, poll-busy, finish-effect}
+use Rattle.flow.proofs.Polling.{idleAt, during, looping, loopAt, poll-busy}
 use Rattle.flow.proofs.Reaches.{Purse, spend, pay, Env, sync, Frame, Stood, Stands, poorer, Reaches, stop}
 use Rattle.flow.proofs.Table.{Facts}
 use Rattle.image.specs.Image.{Image}

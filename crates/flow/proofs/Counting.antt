@@ -1,22 +1,22 @@
 -- The reads and writes of the sequence are the plan, its polls the loops, for every geometry of the table. Assumes nothing.
 use mathlib.Core.List.{List, [], _∷_, _++_}
 use mathlib.Core.Path.{_≡_, refl, ap, _∙_, sym}
-use Prim.Native.Nat.{ℕ, zero, suc, _+_, _*_, _-_, _/_, _≤_}
+use Prim.Native.Nat.{ℕ, zero, suc, _+_, _*_, _/_, _≤_}
 use native.Mathlib.Omega.{arith}
 use lib.ListN.{length}
-use Rattle.flow.specs.Plan.{Traffic, noTraffic, counting, trafficIn, isPoll, pollsIn, fromProtected, plan, loops, acquisitions}
-use Rattle.flow.specs.Sequence.{move, write, read, poll, call, writes, listed, pieces, imoCall, acquire, silicon, privileged, latchList, programRow, compareWord, verifyFlash, lockStart, lockMacro, verifyMacro, program, opening, afterwards, sequence, key}
+use Rattle.flow.specs.Plan.{Traffic, counting, trafficIn, isPoll, pollsIn, fromProtected, plan, loops, acquisitions}
+use Rattle.flow.specs.Sequence.{write, read, call, writes, listed, pieces, imoCall, acquire, silicon, privileged, programRow, compareWord, lockStart, lockMacro, verifyMacro, program, opening, afterwards, sequence, key}
 use Rattle.flow.specs.declared.Entry.{Entry}
 use Rattle.flow.specs.declared.Entry.the-variants.{FromOpen, FromProtected}
 use Rattle.flow.specs.declared.Move.{Move}
 use Rattle.flow.specs.declared.Purpose.{Purpose}
-use Rattle.flow.specs.declared.Purpose.the-variants.{Sent, Idcode, TestBit, Poll, Status, Keep, EntryLevel, Reopened, Same, StoredLevel, LastSum}
+use Rattle.flow.specs.declared.Purpose.the-variants.{Keep, EntryLevel, Reopened, StoredLevel, LastSum}
 use Rattle.flow.specs.declared.Request.{Request}
 use Rattle.flow.specs.declared.Request.the-variants.{Xres, LineReset, ReadIdcode, ReadDrw, WriteTar, WriteDrw, WriteSetup}
 use Rattle.flow.proofs.Table.{Facts}
 use Rattle.image.specs.Image.{Image}
 use Rattle.image.specs.Words.{wordsAt}
-use Rattle.parts.specs.Sizes.{rowBytes, macrosOf, rowsPerMacro, rowsOf, locksIn, imoOf, PARAMS}
+use Rattle.parts.specs.Sizes.{rowBytes, macrosOf, rowsOf, locksIn, imoOf, PARAMS}
 use Rattle.parts.specs.declared.Geometry.{Geometry}
 
 -- what a list of moves counts to

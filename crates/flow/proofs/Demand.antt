@@ -1,35 +1,28 @@
 -- Demand 3 on the definitions. Assumes nothing.
-use mathlib.Core.Bool.{Bool, true, false, false≢true, _&&_, cond}
-use mathlib.Core.List.{List, [], _∷_}
+use mathlib.Core.Bool.{true, false, false≢true, _&&_}
 use mathlib.Core.Logic.{_⊎_, inl, inr, _↔_}
-use mathlib.Core.Path.{_≡_, refl, ap, sym, subst, _∙_}
-use Prim.Native.Nat.{ℕ, zero, suc, _+_, _*_, _≤_, _<_}
+use mathlib.Core.Path.{_≡_, refl, ap, sym, _∙_}
+use Prim.Native.Nat.{ℕ, zero, suc, _+_, _≤_}
 use native.Mathlib.Omega.{arith}
 use lib.Dec.{eqb}
 use borrow.Author.Tests.{eq-eqb, eqb-true}
-use Rattle.flow.specs.Claim.{Passes, Startable, RightPart, NoError, Calm, entryOf, delaysIn, Demand3, Demand3Holds}
-use Rattle.flow.specs.Monitor.{Monitor, watching, linkError}
+use Rattle.flow.specs.Claim.{RightPart, NoError, Calm, entryOf, Demand3, Demand3Holds}
+use Rattle.flow.specs.Monitor.{Monitor, linkError}
 use Rattle.flow.specs.Plan.{Traffic, counting, plan, mostTraffic}
 use Rattle.flow.specs.Run.{Run, advanceBy, advance, after, started, handedOutBy, handedOut}
-use Rattle.flow.specs.Sequence.{sequence}
 use Rattle.flow.specs.Session.{Session, running, reported, moveAt}
 use Rattle.flow.specs.Target.{Target, Silicon, Lists}
-use Rattle.flow.specs.declared.Entry.{Entry}
-use Rattle.flow.specs.declared.Entry.the-variants.{FromOpen, FromProtected}
 use Rattle.flow.specs.declared.Request.{Request}
 use Rattle.flow.specs.declared.Request.the-variants.{Xres, LineReset, ReadIdcode, ReadDrw, WriteTar, WriteDrw, WriteSetup}
-use Rattle.flow.proofs.Acquiring.{Bytes}
 use Rattle.flow.proofs.Entering.{Goes, byOpen, byProtected, start-reaches}
-use Rattle.flow.proofs.Frames.{Sound, Why, mishap, otherId, otherPart, Stopped, Finished, frame, firstEnv, start-stands}
+use Rattle.flow.proofs.Frames.{Sound, Why, mishap, otherId, otherPart, Stopped, Finished, frame, start-stands}
 use Rattle.flow.proofs.Passing.{table-facts, valid}
-use Rattle.flow.proofs.Phases.{Level, Valid, Sized}
+use Rattle.flow.proofs.Phases.{Level}
 use Rattle.flow.proofs.Reaches.{rightSilicon, RightIds, Frame, Bounded, going, Reaches, here, stop, step}
-use Rattle.flow.proofs.Table.{both, Facts}
+use Rattle.flow.proofs.Table.{both}
 use Rattle.image.specs.Checks.{metadataAt}
 use Rattle.image.specs.Image.{Image, imageOf}
-use Rattle.image.specs.declared.Header.{Header}
 use Rattle.parts.specs.Parts.{lowFits}
-use Rattle.parts.specs.declared.Geometry.{Geometry}
 
 -- ---- the right part, as tests and as a record
 

@@ -3,13 +3,13 @@ use mathlib.Core.Bool.{Bool, true, false, _&&_, cond}
 use mathlib.Core.List.{List, [], _∷_, _++_, append-nil}
 use mathlib.Core.Logic.{inl, inr}
 use mathlib.Core.Path.{_≡_, refl, ap, sym, subst, _∙_}
-use Prim.Native.Nat.{ℕ, zero, suc, _+_, _*_, _-_, _/_, _%_, _≤_, _<_}
+use Prim.Native.Nat.{ℕ, suc, _+_, _-_, _≤_, _<_}
 use native.Mathlib.Omega.{arith}
 use lib.Dec.{eqb}
-use lib.ListN.{length, drop, replicate, length-append, length-drop, length-replicate}
+use lib.ListN.{length, drop, length-append, length-drop, length-replicate}
 use lib.Seq.{drop-at}
 use borrow.Author.Tests.{eq-eqb}
-use Rattle.flow.specs.Calls.{finish, effectOf, leftBy, zeroed, macroSent, sysargAfter, sysreqAfter}
+use Rattle.flow.specs.Calls.{finish, effectOf, leftBy, zeroed, macroSent, sysargAfter}
 use Rattle.flow.specs.Judge.{entryBy, report, judge}
 use Rattle.flow.specs.Monitor.{watching}
 use Rattle.flow.specs.Sequence.{key, write, writes, read, call, listed, acquire, silicon, program, opening, afterwards, sequence}
@@ -20,18 +20,18 @@ use Rattle.flow.specs.declared.Entry.the-variants.{FromOpen, FromProtect
 use Rattle.flow.specs.declared.Move.{Move}
 use Rattle.flow.specs.declared.Purpose.the-variants.{Keep, EntryLevel, Reopened}
 use Rattle.flow.proofs.Access.{Awake}
-use Rattle.flow.proofs.Acquiring.{Fresh, Acquired, acquire-leg, Bytes, ids-read, level-read, identified, silicon-reaches}
+use Rattle.flow.proofs.Acquiring.{Fresh, Acquired, acquire-leg, Bytes, ids-read, level-read, silicon-reaches}
 use Rattle.flow.proofs.Calling.{Returned, calling}
 use Rattle.flow.proofs.Finishing.{Blank, nothing, program-reaches}
 use Rattle.flow.proofs.Legs.{Core, core}
 use Rattle.flow.proofs.Listing.{ListReturned, listing}
 use Rattle.flow.proofs.Lists.{total-zero}
-use Rattle.flow.proofs.Phases.{Valid, Opened, Sized, callA, callD, steady-A}
+use Rattle.flow.proofs.Phases.{Valid, Sized, callA, callD, steady-A}
 use Rattle.flow.proofs.Polling.{idleAt}
-use Rattle.flow.proofs.Reaches.{Purse, spend, pay, Env, sync, rightSilicon, RightIds, Frame, Stood, Stands, split, Reaches, stop}
+use Rattle.flow.proofs.Reaches.{pay, Env, sync, rightSilicon, RightIds, Frame, Stood, Stands, split, Reaches, stop}
 use Rattle.flow.proofs.Table.{Facts}
 use Rattle.image.specs.Image.{Image}
-use Rattle.parts.specs.Sizes.{rowBytes, sysargOf, sysreqOf}
+use Rattle.parts.specs.Sizes.{sysargOf, sysreqOf}
 use Rattle.parts.specs.declared.Geometry.{Geometry}
 
 effect-A : (g : Geometry) (l a : ℕ) (ps : List ℕ) (m : Memory) → effectOf g 0x0A l a ps m ≡ zeroed (m .stored) m

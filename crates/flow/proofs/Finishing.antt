@@ -1,13 +1,11 @@
 -- Steps 4 to 9. Assumes nothing.
 use mathlib.Core.Bool.{Bool, true, false}
-use mathlib.Core.List.{List, [], _∷_, _++_}
+use mathlib.Core.List.{List, [], _++_}
 use mathlib.Core.Logic.{inl}
 use mathlib.Core.Path.{_≡_, refl, ap, sym, subst, _∙_}
-use Prim.Native.Nat.{ℕ, zero, suc, _+_, _*_, _-_, _/_, _%_, _≤_, _<_}
+use Prim.Native.Nat.{ℕ, suc, _+_, _-_, _/_, _%_}
 use native.Mathlib.Nat.{zero-mul}
 use native.Mathlib.Omega.{arith}
-use lib.Dec.{eqb}
-use lib.ListN.{length, take}
 use borrow.Author.Tests.{eq-eqb}
 use Rattle.flow.specs.Calls.{finish, effectOf, sysargAfter, sysreqAfter, leftBy}
 use Rattle.flow.specs.Judge.{free, succeeded, sumsFit, judge}
@@ -25,7 +23,7 @@ use Rattle.flow.proofs.Access.{admits-open, read-still}
 use Rattle.flow.proofs.Calling.{Command, calling}
 use Rattle.flow.proofs.Legs.{Core, core, Leg}
 use Rattle.flow.proofs.Locking.{macros-leg}
-use Rattle.flow.proofs.Phases.{Valid, Opened, Sized, Kept, Wrote, Locked, level-safe, wrote-all, locked-all, last-level, same-core}
+use Rattle.flow.proofs.Phases.{Valid, Opened, Sized, Wrote, Locked, level-safe, wrote-all, locked-all, last-level, same-core}
 use Rattle.flow.proofs.Places.{place-sysarg}
 use Rattle.flow.proofs.Polling.{idleAt}
 use Rattle.flow.proofs.Programming.{rows-leg}

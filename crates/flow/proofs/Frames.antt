@@ -1,28 +1,27 @@
 -- The frame of demand 3, and where a started session stands in it. Assumes nothing.
-use mathlib.Core.Bool.{Bool, true, false, cond}
-use mathlib.Core.List.{List, [], _∷_, _++_}
-use mathlib.Core.Path.{_≡_, refl, ap, sym, _∙_}
-use Prim.Native.Nat.{ℕ, zero, suc, _+_, _*_, _≤_}
+use mathlib.Core.Bool.{false}
+use mathlib.Core.List.{List, [], _∷_}
+use mathlib.Core.Path.{_≡_, refl, sym, _∙_}
+use Prim.Native.Nat.{ℕ, suc, _+_, _*_, _≤_}
 use native.Mathlib.Omega.{arith}
 use lib.Dec.{eqb}
 use Rattle.flow.specs.Claim.{NoError, Calm, entryOf, delaysIn}
-use Rattle.flow.specs.Monitor.{Monitor, watching, linkError, Watch, Delays, noDelays, delayed}
-use Rattle.flow.specs.Plan.{Traffic, noTraffic, counting, trafficIn, isPoll, pollsIn, plan, loops, acquisitions, mostTraffic}
+use Rattle.flow.specs.Monitor.{Monitor, linkError, noDelays}
+use Rattle.flow.specs.Plan.{noTraffic, trafficIn, isPoll, pollsIn, plan, mostTraffic}
 use Rattle.flow.specs.Run.{Run}
 use Rattle.flow.specs.Sequence.{opening, afterwards, sequence}
 use Rattle.flow.specs.Session.{reported}
 use Rattle.flow.specs.Target.{Target, Memory, Silicon, Lists}
-use Rattle.flow.specs.declared.Entry.{Entry}
-use Rattle.flow.specs.declared.Entry.the-variants.{FromOpen, FromProtected}
+use Rattle.flow.specs.declared.Entry.the-variants.{FromOpen}
 use Rattle.flow.specs.declared.Move.{Move}
 use Rattle.flow.specs.declared.Purpose.{Purpose}
 use Rattle.flow.specs.declared.Purpose.the-variants.{Sent, Idcode, TestBit, Poll, Status, Keep, EntryLevel, Reopened, Same, StoredLevel, LastSum}
 use Rattle.flow.specs.declared.Request.{Request}
 use Rattle.flow.specs.declared.Request.the-variants.{Xres, LineReset, ReadIdcode, ReadDrw, WriteTar, WriteDrw, WriteSetup}
-use Rattle.flow.proofs.Counting.{Totals, sequence-totals}
+use Rattle.flow.proofs.Counting.{sequence-totals}
 use Rattle.flow.proofs.Finishing.{nothing}
 use Rattle.flow.proofs.Phases.{Level, isOpen, isProtected, isKill}
-use Rattle.flow.proofs.Reaches.{Purse, payRead, payFor, pay, pay-append, Env, rightSilicon, RightIds, Bears, Frame, Stood, Stands, clear}
+use Rattle.flow.proofs.Reaches.{Purse, payRead, payFor, pay, pay-append, Env, rightSilicon, RightIds, Bears, Frame, Stands, clear}
 use Rattle.flow.proofs.Table.{Facts}
 use Rattle.image.specs.Image.{Image}
 

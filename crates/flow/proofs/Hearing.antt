@@ -1,24 +1,21 @@
 -- What a line event makes of a transfer that the target would carry out. Assumes nothing.
 use mathlib.Core.Bool.{Bool, true, false, cond}
-use mathlib.Core.List.{List, [], _∷_}
 use mathlib.Core.Path.{_≡_, refl, ap, sym, _∙_}
-use Prim.Native.Nat.{ℕ, zero, suc, _+_, _*_, _-_, _/_, _%_, _≤_, _<_}
+use Prim.Native.Nat.{ℕ, _-_, _≤_}
 use native.Mathlib.Omega.{arith}
 use lib.Count.{ones, onesIn}
 use lib.Dec.{eqb, lit≤}
-use borrow.Author.Tests.{eq-eqb, ne-eqb, eqb-true}
-use Rattle.flow.specs.Exchange.{Decoded, known, decode, carry, gives, barred, dead, callsOn, saying, silence, okayReply, garbledReply, replyTo, carriedOut, Met, met, transferred, meet}
-use Rattle.flow.specs.Packets.{packetOf, isRead, Verdict, okay, again, broken, heard, verdict}
+use borrow.Author.Tests.{eq-eqb, ne-eqb}
+use Rattle.flow.specs.Exchange.{known, decode, carry, gives, barred, dead, callsOn, saying, silence, okayReply, garbledReply, replyTo, carriedOut, Met, met, transferred, meet}
+use Rattle.flow.specs.Packets.{packetOf, isRead, okay, again, broken, heard, verdict}
 use Rattle.flow.specs.Target.{Target, Lists, LineEvent, Fate, clean, waits, faults, garbles, silent, eventOf, outcomeOf, rest}
-use Rattle.flow.specs.declared.Answer.the-variants.{ResetDone, Transferred}
+use Rattle.flow.specs.declared.Answer.the-variants.{Transferred}
 use Rattle.flow.specs.declared.Reply.{Reply}
 use Rattle.flow.specs.declared.Request.{Request}
-use Rattle.flow.specs.declared.Request.the-variants.{Xres, LineReset, ReadIdcode, ReadDrw, WriteTar, WriteDrw, WriteSetup}
+use Rattle.flow.specs.declared.Request.the-variants.{ReadIdcode, ReadDrw, WriteTar, WriteDrw, WriteSetup}
 use Rattle.parts.specs.declared.Geometry.{Geometry}
-use Rattle.wire.specs.Wire.{parity, ackOf, requestByte}
-use Rattle.wire.specs.declared.Ack.{Ack}
-use Rattle.wire.specs.declared.Ack.the-variants.{Okay, Wait, Fault, Silence}
-use Rattle.wire.specs.declared.Register.{Register}
+use Rattle.wire.specs.Wire.{parity, ackOf}
+use Rattle.wire.specs.declared.Ack.the-variants.{Silence}
 use Rattle.wire.specs.declared.Register.the-variants.{CtrlStat, Select, Csw}
 
 -- the transfers of the sequence; outside the attempts all but the IDCODE read

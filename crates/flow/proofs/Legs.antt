@@ -1,9 +1,8 @@
 -- Stretches of the sequence, from what holds before them to what holds after. Assumes nothing.
-use mathlib.Core.List.{List, [], _∷_, _++_}
-use mathlib.Core.Path.{_≡_, refl, ap, sym, _∙_}
-use Prim.Native.Nat.{ℕ, zero, suc, _+_, _*_, _≤_, _<_}
+use mathlib.Core.List.{List, _++_}
+use mathlib.Core.Path.{_≡_}
+use Prim.Native.Nat.{ℕ, zero, suc, _+_, _<_}
 use native.Mathlib.Omega.{arith}
-use native.Mathlib.Nat.{add-zero}
 use Rattle.flow.specs.Sequence.{pieces}
 use Rattle.flow.specs.Target.{Target, Silicon, Memory, Running}
 use Rattle.flow.specs.declared.Entry.{Entry}

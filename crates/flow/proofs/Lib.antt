@@ -22,3 +22,6 @@ pub mod Entering
 pub mod Frames
 pub mod Passing
 pub mod Demand
+pub mod Witness
+pub mod Decoding
+pub mod Blame

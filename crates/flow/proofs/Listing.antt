@@ -1,21 +1,20 @@
 -- A listed call, whatever the line and the target do. Assumes nothing.
-use mathlib.Core.Bool.{Bool, true, false}
+use mathlib.Core.Bool.{Bool, true}
 use mathlib.Core.Logic.{inl}
 use mathlib.Core.List.{List, [], _∷_, _++_, append-assoc, append-nil}
-use mathlib.Core.Path.{_≡_, refl, ap, sym, _∙_}
-use Prim.Native.Nat.{ℕ, zero, suc, _+_, _*_, _-_, _/_, _≤_, _<_}
-use native.Mathlib.Nat.{le-refl}
+use mathlib.Core.Path.{_≡_, refl, ap, _∙_}
+use Prim.Native.Nat.{ℕ, suc, _+_, _*_, _/_, _≤_}
 use native.Mathlib.Omega.{arith}
 use lib.ListN.{length, drop, length-append}
 use Rattle.flow.specs.Calls.{finish, effectOf, sysargAfter, sysreqAfter}
 use Rattle.flow.specs.Judge.{free, succeeded}
 use Rattle.flow.specs.Map.{inParams}
 use Rattle.flow.specs.Sequence.{call, write, writes, listed}
-use Rattle.flow.specs.Target.{Target, Residue, idle, lay}
+use Rattle.flow.specs.Target.{Target, Residue, idle}
 use Rattle.flow.specs.declared.Entry.{Entry}
 use Rattle.flow.specs.declared.Move.{Move}
 use Rattle.flow.proofs.Access.{admits-open, write-reaches}
-use Rattle.flow.proofs.Calling.{Command, Returned, asked, calling}
+use Rattle.flow.proofs.Calling.{Command, calling}
 use Rattle.flow.proofs.Lists.{lay-next, length-lay}
 use Rattle.flow.proofs.Places.{place-params}
 use Rattle.flow.proofs.Polling.{idleAt}

@@ -1,11 +1,11 @@
 -- Words and bytes; bytes laid over a list. Assumes nothing.
 use mathlib.Core.List.{List, [], _∷_, _++_, append-assoc, append-nil}
 use mathlib.Core.Path.{_≡_, refl, ap, _∙_, sym}
-use Prim.Native.Nat.{ℕ, zero, suc, _+_, _*_, _-_, _/_, _%_, _≤_, _<_, min}
+use Prim.Native.Nat.{ℕ, zero, suc, _+_, _*_, _-_, _/_, _%_, _≤_, _<_}
 use native.Mathlib.Numerals.{towards-suc}
 use native.Mathlib.Omega.{arith}
 use lib.ListN.{length, getD, take, drop, replicate, length-append, length-take, length-drop, drop-of-length-le}
-use lib.Seq.{drop-cons, take-append-seam, drop-append-add, take-append-add, length-take-le, take-all, take-at, take-append-le}
+use lib.Seq.{drop-cons, take-append-seam, drop-append-add, take-append-add, length-take-le, take-all, take-at}
 use Rattle.flow.specs.Calls.{bytesOf, bytesIn}
 use Rattle.flow.specs.Target.{lay}
 use Rattle.image.specs.Words.{total, wordAt, wordsAt}

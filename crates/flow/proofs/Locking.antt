@@ -1,9 +1,9 @@
 -- Step 7: a macro's locks, and all macros'. Assumes nothing.
 use mathlib.Core.Bool.{Bool, true, false, _&&_, cond}
-use mathlib.Core.List.{List, [], _∷_, _++_}
+use mathlib.Core.List.{List, _++_}
 use mathlib.Core.Logic.{inl}
 use mathlib.Core.Path.{_≡_, refl, ap, sym, _∙_}
-use Prim.Native.Nat.{ℕ, zero, suc, _+_, _*_, _-_, _/_, _%_, _≤_, _<_}
+use Prim.Native.Nat.{ℕ, zero, suc, _+_, _*_, _/_, _≤_, _<_}
 use native.Mathlib.Nat.{mul-le-mul-right, suc-mul}
 use native.Mathlib.Omega.{arith}
 use lib.Dec.{eqb, eqb·suc-zero}
@@ -13,12 +13,12 @@ use Rattle.flow.specs.Calls.{finish, effectOf, leftBy, protect, levelSen
 use Rattle.flow.specs.Sequence.{key, call, listed, latchList, lockStart, lockMacro, pieces}
 use Rattle.flow.specs.Target.{Target, Memory, Residue, lay}
 use Rattle.flow.specs.declared.Entry.{Entry}
-use Rattle.flow.proofs.Calling.{Returned, asked, calling}
+use Rattle.flow.proofs.Calling.{Returned, calling}
 use Rattle.flow.proofs.Counting.{length-words}
-use Rattle.flow.proofs.Legs.{Core, core, Leg, leg-pieces}
+use Rattle.flow.proofs.Legs.{core, Leg, leg-pieces}
 use Rattle.flow.proofs.Listing.{ListReturned, listing}
 use Rattle.flow.proofs.Lists.{length-part, length-lay, take-lay}
-use Rattle.flow.proofs.Phases.{Level, isOpen, isProtected, isKill, Valid, Opened, Sized, Locked, levelAfter, level-safe, call4, callD, steady-4}
+use Rattle.flow.proofs.Phases.{Level, isOpen, isProtected, isKill, Valid, Locked, levelAfter, level-safe, call4, callD, steady-4}
 use Rattle.flow.proofs.Programming.{effect-4}
 use Rattle.flow.proofs.Reaches.{Frame, split}
 use Rattle.flow.proofs.Table.{Facts}

@@ -1,10 +1,10 @@
 -- What the checks leave to be known of an image. Assumes nothing.
-use mathlib.Core.Bool.{Bool, true, false, _||_, cond}
-use mathlib.Core.List.{List, [], _∷_}
+use mathlib.Core.Bool.{Bool, true, false}
+use mathlib.Core.List.{List, _∷_}
 use mathlib.Core.Path.{_≡_, refl, ap, sym, _∙_}
-use Prim.Native.Nat.{ℕ, zero, suc, _+_, _*_, _-_, _%_, _≤_, _<_}
+use Prim.Native.Nat.{ℕ, _+_, _≤_, _<_}
 use native.Mathlib.Omega.{arith}
-use lib.Dec.{eqb, leb, ltb, lit≤}
+use lib.Dec.{eqb, ltb, lit≤}
 use lib.ListN.{length, getD, take, drop, length-take, length-drop, List·getD-eq-default}
 use lib.Seq.{getD-take, getD-drop, length-take-le}
 use borrow.Author.Tests.{eqb-true, ltb-true, ltb-false}
@@ -12,15 +12,13 @@ use Rattle.flow.specs.Claim.{Passes}
 use Rattle.flow.proofs.Lists.{Small}
 use Rattle.flow.proofs.Phases.{Level, isOpen, isProtected, isKill, Valid}
 use Rattle.flow.proofs.Table.{Facts, facts}
-use Rattle.image.specs.Checks.{versionFits, imageIdFits, levelFits, sumFits, someCancels, contentChecks, faultIn, imageFault}
-use Rattle.image.specs.Image.{Image, imageOf, flashIn, protectionIn}
+use Rattle.image.specs.Checks.{levelFits, contentChecks, faultIn}
+use Rattle.image.specs.Image.{imageOf}
 use Rattle.image.specs.Refusals.{Check, _unless_, firstRefusal}
 use Rattle.image.specs.declared.Header.{Header}
-use Rattle.parts.specs.Parts.{lookupOf}
-use Rattle.parts.specs.Sizes.{rowBytes, rowsOf, flashSize, lockTotal, imageSize}
+use Rattle.parts.specs.Sizes.{flashSize, lockTotal, imageSize}
 use Rattle.parts.specs.declared.Geometry.{Geometry}
 use Rattle.parts.specs.declared.Lookup.{Lookup}
-use Rattle.parts.specs.declared.Lookup.the-variants.{Found}
 
 -- no refusal: the first check passes, and the rest do
 passes : (n : ℕ) (p : Bool) (cs : List Check) → 1 ≤ n → firstRefusal ((n unless p) ∷ cs) ≡ 0 → (p ≡ true) × (firstRefusal cs ≡ 0)

@@ -1,15 +1,15 @@
 -- What holds between the steps of the flow, and of the calls that alter nothing but what document 01 says. Assumes nothing.
 use mathlib.Core.Bool.{Bool, true, false, _&&_, cond}
-use mathlib.Core.List.{List, [], _∷_, _++_}
-use mathlib.Core.Path.{_≡_, refl, ap, sym, _∙_}
-use Prim.Native.Nat.{ℕ, zero, suc, _+_, _*_, _-_, _/_, _%_, _≤_, _<_}
+use mathlib.Core.List.{List}
+use mathlib.Core.Path.{_≡_, refl, sym, _∙_}
+use Prim.Native.Nat.{ℕ, zero, suc, _+_, _*_, _/_, _%_, _≤_}
 use native.Mathlib.Omega.{arith}
 use lib.ListN.{length, take}
 use lib.Seq.{take-all}
 use Rattle.flow.specs.Calls.{finish, effectOf, sysargAfter, sysreqAfter, leftBy}
 use Rattle.flow.specs.Judge.{free, succeeded}
 use Rattle.flow.specs.Sequence.{lockStart}
-use Rattle.flow.specs.Target.{Target, Silicon, Memory, Residue, Running, idle}
+use Rattle.flow.specs.Target.{Target, Silicon, Memory, Residue, idle}
 use Rattle.flow.proofs.Calling.{Command, Returned}
 use Rattle.flow.proofs.Legs.{Core, core}
 use Rattle.flow.proofs.Lists.{Small}

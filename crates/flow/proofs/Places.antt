@@ -1,12 +1,12 @@
 -- The address of each move is where the map says: one lemma for every region. Assumes nothing.
-use mathlib.Core.Bool.{Bool, true, false, false≢true, _&&_, _||_, cond}
-use mathlib.Core.List.{List, [], _∷_}
-use mathlib.Core.Path.{_≡_, refl, sym, ap, _∙_}
+use mathlib.Core.Bool.{Bool, true, false, _&&_}
+use mathlib.Core.List.{List, _∷_}
+use mathlib.Core.Path.{_≡_, refl, ap, _∙_}
 use Prim.Native.Nat.{ℕ, zero, suc, _+_, _*_, _-_, _/_, _≤_, _<_}
 use native.Mathlib.Omega.{arith}
-use lib.Dec.{eqb, leb, ltb}
-use borrow.Author.Tests.{leb-true, leb-false, lt-ltb, le-ltb, le-leb, lt-leb}
-use Rattle.flow.specs.Map.{Place, inFlash, inLocks, inParams, atLevel, atSysreq, atSysarg, atTestMode, elsewhere, Region, covers, search, word, paramsSize, lockRegions, regions, place}
+use lib.Dec.{leb, ltb}
+use borrow.Author.Tests.{leb-true, lt-ltb, le-ltb, le-leb, lt-leb}
+use Rattle.flow.specs.Map.{inFlash, inLocks, inParams, atLevel, atSysreq, atSysarg, atTestMode, Region, covers, search, lockRegions, regions, place}
 use Rattle.flow.specs.Sequence.{lockStart}
 use Rattle.flow.proofs.Table.{apart, apartFrom, allApart, both, Facts}
 use Rattle.parts.specs.Sizes.{rowBytes, macrosOf, flashSize, locksIn, sysreqOf, sysargOf, PARAMS, TEST-MODE, locksAt, levelAt}

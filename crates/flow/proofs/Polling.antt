@@ -1,24 +1,23 @@
 -- A poll loop, whatever the line and the call do. Assumes nothing.
-use mathlib.Core.Bool.{Bool, true, false, _&&_, _||_, not, cond}
-use mathlib.Core.List.{List, [], _∷_, _++_}
-use mathlib.Core.Path.{_≡_, refl, ap, sym, _∙_}
-use Prim.Native.Nat.{ℕ, zero, suc, _+_, _*_, _-_, _/_, _%_, _≤_, _<_}
+use mathlib.Core.Bool.{Bool, true, false, _&&_, not}
+use mathlib.Core.List.{List, _++_}
+use mathlib.Core.Path.{_≡_, refl, _∙_}
+use Prim.Native.Nat.{ℕ, zero, suc, _+_, _*_, _-_, _/_, _%_}
 use native.Mathlib.Omega.{arith}
-use lib.Dec.{eqb, ltb, leb, lit≤}
+use lib.Dec.{eqb, lit≤}
 use borrow.Author.Tests.{lt-ltb, le-ltb, eq-eqb, ne-eqb, eqb-true, eqb-false}
-use Rattle.flow.specs.Calls.{finish, effectOf}
-use Rattle.flow.specs.Exchange.{fetch, tick}
+use Rattle.flow.specs.Calls.{finish}
+use Rattle.flow.specs.Exchange.{fetch}
 use Rattle.flow.specs.Judge.{free, judge}
-use Rattle.flow.specs.Map.{Place, atSysreq, place}
-use Rattle.flow.specs.Monitor.{Monitor, Watch, Delays, oneBusy, stillBusy, noticeRead}
-use Rattle.flow.specs.Run.{Run}
-use Rattle.flow.specs.Sequence.{move, poll, read}
+use Rattle.flow.specs.Map.{atSysreq, place}
+use Rattle.flow.specs.Monitor.{Watch, oneBusy, stillBusy, noticeRead}
+use Rattle.flow.specs.Sequence.{poll}
 use Rattle.flow.specs.Target.{Target, Residue, Running, idle, busy, setSysreq}
 use Rattle.flow.specs.declared.Entry.{Entry}
 use Rattle.flow.specs.declared.Move.{Move}
 use Rattle.flow.specs.declared.Purpose.the-variants.{Poll}
 use Rattle.flow.proofs.Access.{aim, Admits, read-any, read-still}
-use Rattle.flow.proofs.Reaches.{Purse, spend, pay, Env, sync, Frame, Stood, poorer, Reaches, stop}
+use Rattle.flow.proofs.Reaches.{Purse, spend, Env, sync, Frame, Stood, poorer, Reaches, stop}
 use Rattle.image.specs.Image.{Image}
 use Rattle.parts.specs.Sizes.{sysreqOf}
 use Rattle.parts.specs.declared.Geometry.{Geometry}

@@ -1,8 +1,8 @@
 -- Step 5: a row, and all rows. Assumes nothing.
 use mathlib.Core.List.{List, [], _∷_, _++_}
-use mathlib.Core.Path.{_≡_, refl, ap, sym, _∙_}
-use Prim.Native.Nat.{ℕ, zero, suc, _+_, _*_, _-_, _/_, _%_, _≤_, _<_}
-use native.Mathlib.Nat.{mul-le-mul-right, suc-mul, zero-mul}
+use mathlib.Core.Path.{_≡_, ap, sym, _∙_}
+use Prim.Native.Nat.{ℕ, suc, _+_, _*_, _/_, _≤_, _<_}
+use native.Mathlib.Nat.{mul-le-mul-right, suc-mul}
 use native.Mathlib.Omega.{arith}
 use lib.ListN.{length, take, drop}
 use lib.Seq.{take-add}
@@ -11,10 +11,10 @@ use Rattle.flow.specs.Sequence.{key, listed, latchList, programRow, piec
 use Rattle.flow.specs.Target.{Target, Memory, lay}
 use Rattle.flow.specs.declared.Entry.{Entry}
 use Rattle.flow.proofs.Counting.{length-words}
-use Rattle.flow.proofs.Legs.{Core, core, Leg, leg-pieces}
+use Rattle.flow.proofs.Legs.{core, Leg, leg-pieces}
 use Rattle.flow.proofs.Listing.{ListReturned, listing}
-use Rattle.flow.proofs.Lists.{Small, sent-bytes, length-part, lay-fits, length-lay, take-lay, lay-whole}
-use Rattle.flow.proofs.Phases.{Valid, Opened, Sized, Wrote, call4, call6, steady-4, steady-6}
+use Rattle.flow.proofs.Lists.{Small, sent-bytes, length-part, length-lay, take-lay, lay-whole}
+use Rattle.flow.proofs.Phases.{Valid, Wrote, call4, call6, steady-4, steady-6}
 use Rattle.flow.proofs.Reaches.{Frame, split}
 use Rattle.flow.proofs.Table.{Facts}
 use Rattle.image.specs.Image.{Image, rowIn}

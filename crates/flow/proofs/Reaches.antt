@@ -1,18 +1,17 @@
 -- What a run is held to on its way: where it stands in the sequence, what it may still hand out, and where it leads. Assumes nothing.
 use mathlib.Core.List.{List, [], _∷_, _++_, append-assoc}
 use mathlib.Core.Path.{_≡_, refl, ap, sym, _∙_}
-use Prim.Native.Nat.{ℕ, zero, suc, _+_, _*_, _≤_}
+use Prim.Native.Nat.{ℕ, suc, _+_, _≤_}
 use native.Mathlib.Omega.{arith}
 use lib.Dec.{eqb}
-use lib.ListN.{length, getD, drop}
+use lib.ListN.{getD, drop}
 use lib.Seq.{getD-drop, drop-drop}
 use mathlib.Core.Bool.{Bool, true, false, _&&_}
 use Rattle.flow.specs.Claim.{CalmLine, CalmCalls, NoError}
-use Rattle.flow.specs.Judge.{idsFit}
 use Rattle.flow.specs.Monitor.{Monitor, watching, linkError, Watch, Delays, delayed}
-use Rattle.flow.specs.Plan.{Traffic, counting}
+use Rattle.flow.specs.Plan.{Traffic}
 use Rattle.flow.specs.Run.{Run, advance, handedOut}
-use Rattle.flow.specs.Sequence.{move, sequence, endMove}
+use Rattle.flow.specs.Sequence.{sequence, endMove}
 use Rattle.flow.specs.Session.{Session, running, reported, moveAt}
 use Rattle.flow.specs.Target.{Target, Memory, Silicon, Lists}
 use Rattle.flow.specs.declared.Entry.{Entry}

@@ -1,28 +1,27 @@
 -- One transfer outside the attempts, whatever the line does. Assumes nothing.
 use mathlib.Core.Bool.{Bool, true, false, cond}
-use mathlib.Core.List.{List, [], _∷_}
-use mathlib.Core.Path.{_≡_, refl, ap, sym, _∙_}
-use Prim.Native.Nat.{ℕ, zero, suc, _+_, _*_, _≤_}
+use mathlib.Core.List.{List, _∷_}
+use mathlib.Core.Path.{_≡_, refl}
+use Prim.Native.Nat.{ℕ, zero, suc, _+_}
 use native.Mathlib.Omega.{arith}
-use lib.Dec.{ltb, lit≤}
+use lib.Dec.{lit≤}
 use borrow.Author.Tests.{lt-ltb, le-ltb}
 use Rattle.flow.specs.Claim.{CalmLine, calmEnd, calmEvent, CalmCalls, callsEnd, calmCall}
-use Rattle.flow.specs.Exchange.{carry, gives, barred, dead, callsOn, Met, transferred, meet}
-use Rattle.flow.specs.Judge.{Judged, judge}
-use Rattle.flow.specs.Monitor.{Monitor, watching, linkError, Watch, Delays, delayed, oneWait, watchBy, noticed, watch}
-use Rattle.flow.specs.Packets.{Verdict, okay, again, broken, verdict}
+use Rattle.flow.specs.Exchange.{carry, gives, barred, dead, callsOn, Met, transferred}
+use Rattle.flow.specs.Judge.{judge}
+use Rattle.flow.specs.Monitor.{Watch, oneWait, watchBy, noticed, watch}
+use Rattle.flow.specs.Packets.{Verdict, again, verdict}
 use Rattle.flow.specs.Plan.{Traffic, counting}
 use Rattle.flow.specs.Run.{Run, advance, handedOut}
 use Rattle.flow.specs.Sequence.{move}
-use Rattle.flow.specs.Session.{running, settled, heardBy, stepOf}
-use Rattle.flow.specs.Target.{Target, Lists, LineEvent, CallOutcome, Fate, clean, eventOf, outcomeOf, rest}
+use Rattle.flow.specs.Session.{settled, heardBy, stepOf}
+use Rattle.flow.specs.Target.{Target, Lists, LineEvent, CallOutcome, clean, eventOf, outcomeOf, rest}
 use Rattle.flow.specs.declared.Entry.{Entry}
 use Rattle.flow.specs.declared.Move.{Move}
 use Rattle.flow.specs.declared.Purpose.{Purpose}
 use Rattle.flow.specs.declared.Request.{Request}
-use Rattle.flow.specs.declared.Request.the-variants.{ReadDrw, WriteTar, WriteDrw, WriteSetup}
-use Rattle.flow.proofs.Hearing.{Plain, aTar, aDrw, aRead, aCtrl, aSelect, aCsw, Wired, plain, meets, listsAfter, Heard, well, held, ill, illDone, hears}
-use Rattle.flow.proofs.Reaches.{Purse, spend, Env, sync, Frame, StillCalm, Stood, at-move, at-next, Bounded, Reaches, stop, steps, clear}
+use Rattle.flow.proofs.Hearing.{Plain, aTar, aDrw, aRead, aCtrl, aSelect, aCsw, plain, meets, listsAfter, Heard, well, held, ill, illDone, hears}
+use Rattle.flow.proofs.Reaches.{Purse, spend, Env, sync, Frame, Stood, at-move, at-next, Bounded, Reaches, stop, steps, clear}
 use Rattle.image.specs.Image.{Image}
 
 -- one transfer more

@@ -1,15 +1,15 @@
 -- Words read and compared: steps 6 and 8. Assumes nothing.
 use mathlib.Core.Bool.{true}
-use mathlib.Core.List.{List, [], _∷_, _++_}
-use mathlib.Core.Path.{_≡_, refl, ap, sym, _∙_}
-use Prim.Native.Nat.{ℕ, zero, suc, _+_, _*_, _-_, _/_, _%_, _≤_, _<_}
+use mathlib.Core.List.{List}
+use mathlib.Core.Path.{_≡_, refl}
+use Prim.Native.Nat.{ℕ, _+_, _*_, _/_, _%_, _≤_, _<_}
 use native.Mathlib.Nat.{mul-le-mul-left, le-of-eq}
 use native.Mathlib.Omega.{arith}
 use lib.Dec.{eqb}
 use borrow.Author.Tests.{eq-eqb}
 use Rattle.flow.specs.Exchange.{levelWord}
 use Rattle.flow.specs.Judge.{judge, storedIn}
-use Rattle.flow.specs.Map.{Place, inFlash, inLocks, atLevel, place}
+use Rattle.flow.specs.Map.{inFlash, inLocks, atLevel, place}
 use Rattle.flow.specs.Monitor.{noticeRead}
 use Rattle.flow.specs.Sequence.{read, pieces, compareWord, verifyFlash, lockStart, verifyMacro}
 use Rattle.flow.specs.Target.{Target}
@@ -17,8 +17,8 @@ use Rattle.flow.specs.declared.Entry.{Entry}
 use Rattle.flow.specs.declared.Move.{Move}
 use Rattle.flow.specs.declared.Purpose.the-variants.{Same, StoredLevel}
 use Rattle.flow.proofs.Access.{aim, admits-open, read-still}
-use Rattle.flow.proofs.Legs.{Core, core, Known, Leg, leg-append, leg-pieces}
-use Rattle.flow.proofs.Phases.{Level, isOpen, isProtected, isKill, Valid, Opened, Wrote, Locked, level-safe, wrote-all, locked-all, last-level}
+use Rattle.flow.proofs.Legs.{Core, core, Known, Leg, leg-pieces}
+use Rattle.flow.proofs.Phases.{Level, isOpen, isProtected, isKill, Valid, Wrote, Locked, level-safe, wrote-all, locked-all, last-level}
 use Rattle.flow.proofs.Places.{place-flash, place-locks, place-level}
 use Rattle.flow.proofs.Polling.{idleAt}
 use Rattle.flow.proofs.Reaches.{Purse, pay, Env, sync, Frame, Stood, Stands, Reaches}

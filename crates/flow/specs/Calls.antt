@@ -1,11 +1,11 @@
 -- What a call does to the target: document 01, 'The plain board'. Assumes nothing.
 use mathlib.Core.Bool.{Bool, true, false, _&&_, _||_, cond}
 use mathlib.Core.List.{List, [], _∷_, _++_}
-use Prim.Native.Nat.{ℕ, zero, suc, _+_, _*_, _/_, _%_}
+use Prim.Native.Nat.{ℕ, _+_, _*_, _/_, _%_}
 use lib.Dec.{eqb}
 use lib.ListN.{length, getD, take, drop, replicate}
 use Rattle.flow.specs.Sequence.{lockStart}
-use Rattle.flow.specs.Target.{Memory, Silicon, Residue, Target, Running, idle, busy, lay, sized, setSysreq, setEnded, setReset}
+use Rattle.flow.specs.Target.{Memory, Silicon, Residue, Target, Running, idle, busy, lay, sized, setEnded, setReset}
 use Rattle.image.specs.Words.{total}
 use Rattle.parts.specs.Sizes.{rowBytes, locksIn, PARAMS}
 use Rattle.parts.specs.declared.Geometry.{Geometry}

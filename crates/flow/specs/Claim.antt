@@ -1,16 +1,16 @@
 -- Demand 3 on the definitions: one claim about a whole run, whatever the free lists hold. Assumes nothing.
-use mathlib.Core.Bool.{Bool, true, false, cond}
-use mathlib.Core.List.{List, [], _∷_}
+use mathlib.Core.Bool.{true, cond}
+use mathlib.Core.List.{List, [], _∷_, _++_}
 use mathlib.Core.Logic.{_⊎_, _↔_}
 use mathlib.Core.Path.{_≡_}
-use Prim.Native.Nat.{ℕ, _+_, _*_, _/_, _≤_, _<_}
+use Prim.Native.Nat.{ℕ, _+_, _/_, _≤_, _<_}
 use lib.Dec.{eqb}
 use lib.ListN.{length, getD}
-use Rattle.flow.specs.Plan.{Traffic, plan, mostTraffic}
+use Rattle.flow.specs.Plan.{plan, mostTraffic}
 use Rattle.flow.specs.Run.{Run, after, started, handedOut}
-use Rattle.flow.specs.Session.{Session, running, reported}
-use Rattle.flow.specs.Target.{Target, Silicon, Running, idle, Fate, clean, LineEvent, CallOutcome, Lists}
-use Rattle.flow.specs.Monitor.{Monitor, watching, linkError, Delays, delayed}
+use Rattle.flow.specs.Session.{running, reported}
+use Rattle.flow.specs.Target.{Target, Silicon, idle, clean, LineEvent, CallOutcome, Lists}
+use Rattle.flow.specs.Monitor.{Monitor, watching, linkError, delayed}
 use Rattle.flow.specs.declared.Entry.{Entry}
 use Rattle.flow.specs.declared.Entry.the-variants.{FromOpen, FromProtected}
 use Rattle.image.specs.Checks.{metadataAt, imageFault}
@@ -109,3 +109,34 @@ abbrev pub Demand3Holds : Type 0
 Demand3Holds =
     (g : Geometry) (h : Header) (bytes : List ℕ) → Passes g h bytes → (b : Target) → Startable g b → (l : Lists) (n : ℕ)
     → Demand3 (imageOf g h bytes) b l n (after (imageOf g h bytes) n (started b l))
+
+-- the entries that were used: what the lists have lost
+pub record Used (l left : Lists) : Type 0 where
+  pub line : List LineEvent
+  pub calls : List CallOutcome
+  pub lineIs : l .line ≡ line ++ left .line
+  pub callsIs : l .calls ≡ calls ++ left .calls
+
+-- a mishap, or another report than done on the right part, has an entry to blame that was used and was not OK
+pub record Blameless (i : Image) (b : Target) (r : Run) : Type 0 where
+  pub clean : NoError (r .monitor)
+  pub done : RightPart i (b .silicon) → (number step sent : ℕ) → r .session ≡ reported number step sent
+      → (number ≡ 0) × (sent ≡ plan (i .geometry) (entryOf b))
+
+abbrev pub BlameHolds : Type 0
+BlameHolds =
+    (g : Geometry) (h : Header) (bytes : List ℕ) → Passes g h bytes → (b : Target) → Startable g b → (l : Lists) (n : ℕ)
+    → (u : Used l ((after (imageOf g h bytes) n (started b l)) .lists)) → Calm (record { line = u .line; calls = u .calls })
+    → Blameless (imageOf g h bytes) b (after (imageOf g h bytes) n (started b l))
+
+-- the hypotheses can be met, and done be reached: an image of the geometry, a right target with this level, lists that are empty
+pub record Achieved (g : Geometry) (level : ℕ) : Type 0 where
+  pub header : Header
+  pub bytes : List ℕ
+  pub passes : Passes g header bytes
+  pub target : Target
+  pub startable : Startable g target
+  pub stored : target .memory .stored ≡ level
+  pub right : RightPart (imageOf g header bytes) (target .silicon)
+  pub steps : ℕ
+  pub done : (after (imageOf g header bytes) steps (started target (record { line = []; calls = [] }))) .session ≡ reported 0 9 (plan g (entryOf target))

@@ -1,6 +1,6 @@
 -- P5, P6, P7, P11 and P12 of document 01.
 use mathlib.Core.List.{List, [], _∷_}
-use Prim.Native.Nat.{ℕ, _+_, _*_, _/_}
+use Prim.Native.Nat.{ℕ}
 use lib.ListN.{getD}
 use Rattle.flow.specs.Plan.{plan}
 use Rattle.flow.specs.Sequence.{privileged, programRow, endMove}

@@ -1,7 +1,7 @@
 -- The target's address map as a list of regions: document 01, 'Parts' and 'The plain board'. Assumes nothing.
 use mathlib.Core.Bool.{Bool, _&&_, cond}
 use mathlib.Core.List.{List, [], _∷_}
-use Prim.Native.Nat.{ℕ, zero, suc, _+_, _*_, _-_, _/_}
+use Prim.Native.Nat.{ℕ, zero, suc, _+_, _-_, _/_}
 use lib.Dec.{leb, ltb}
 use Rattle.flow.specs.Sequence.{lockStart}
 use Rattle.parts.specs.Sizes.{rowBytes, macrosOf, flashSize, locksIn, sysreqOf, sysargOf, PARAMS, TEST-MODE, locksAt, levelAt}

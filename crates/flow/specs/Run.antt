@@ -1,5 +1,5 @@
 -- A session and a target, step by step: 'The board meets every request once, in order, and nothing else.' Assumes nothing.
-use mathlib.Core.Bool.{Bool, true, false}
+use mathlib.Core.Bool.{false}
 use Prim.Native.Nat.{ℕ, zero, suc}
 use Rattle.flow.specs.Exchange.{Met, meet}
 use Rattle.flow.specs.Packets.{packetOf}

@@ -1,6 +1,6 @@
 -- The session as numbers: a place in the sequence, and counters; how one answer moves it on. Assumes nothing.
 use mathlib.Core.Bool.{Bool, true, false, cond}
-use Prim.Native.Nat.{ℕ, zero, suc, _+_, _*_, _-_}
+use Prim.Native.Nat.{ℕ, suc, _-_}
 use lib.Dec.{ltb}
 use lib.ListN.{getD}
 use Rattle.flow.specs.Judge.{Judged, go, pollAgain, enter, report, judge}
@@ -9,7 +9,7 @@ use Rattle.flow.specs.Sequence.{sequence, endMove}
 use Rattle.flow.specs.Monitor.{isAttempt, isReset}
 use Rattle.flow.specs.declared.Answer.{Answer}
 use Rattle.flow.specs.declared.Entry.{Entry}
-use Rattle.flow.specs.declared.Entry.the-variants.{FromOpen, FromProtected}
+use Rattle.flow.specs.declared.Entry.the-variants.{FromOpen}
 use Rattle.flow.specs.declared.Move.{Move}
 use Rattle.image.specs.Image.{Image}
 
