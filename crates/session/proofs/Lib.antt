@@ -5,6 +5,7 @@ pub mod Moves
 pub mod Places
 pub mod Closed
 pub mod Possibility
+pub mod Acting
 pub mod Counted
 pub mod Stepping
 pub mod Following

@@ -91,15 +91,27 @@ header-kept g s (reported x t h) = refl
 
 -- ---- what a step gives
 
+pub looked-up : (s : Session) (bytes : List ℕ) (a : Answer) (l : Lookup) → lookupOf (s .header .part) (s .header .macros) ≡ l
+    → stepWith s bytes a ≡ stepFor l s bytes a
+unfolding stepWith
+looked-up s bytes a l e = ap (λ (k : Lookup). stepFor k s bytes a) e
+
+module _ (g : Geometry) (s : Session) (bytes : List ℕ) (a : Answer) (goes : s .finished ≡ false) where
+  pub on-fit : answers ((moveAt (imageOf g (s .header) bytes) (s .entry) (s .progress .at)) .request) a ≡ true
+      → stepOn g s bytes a ≡ giving (imageOf g (s .header) bytes) (resumed g s (stepOf (imageOf g (s .header) bytes) (standOf s) a))
+  on-fit e = simp (goes, e)
+
+  pub on-misfit : answers ((moveAt (imageOf g (s .header) bytes) (s .entry) (s .progress .at)) .request) a ≡ false → stepOn g s bytes a ≡ refusing s 14
+  on-misfit e = simp (goes, e)
+
 module _ (g : Geometry) (s : Session) (bytes : List ℕ) (a : Answer) (found : lookupOf (s .header .part) (s .header .macros) ≡ Found g)
     (can : possibleIn g s ≡ true) (size : length bytes ≡ imageSize g) where
   unrefused : stepWith s bytes a ≡ stepOn g s bytes a
-  unfolding stepWith
-  unrefused = ap (λ (l : Lookup). stepFor l s bytes a) found ∙ simp (can, eq-eqb (length bytes) (imageSize g) size)
+  unrefused = looked-up s bytes a (Found g) found ∙ simp (can, eq-eqb (length bytes) (imageSize g) size)
 
   pub step-running : s .finished ≡ false → answers ((moveAt (imageOf g (s .header) bytes) (s .entry) (s .progress .at)) .request) a ≡ true
       → stepWith s bytes a ≡ giving (imageOf g (s .header) bytes) (resumed g s (stepOf (imageOf g (s .header) bytes) (standOf s) a))
-  step-running e f = unrefused ∙ simp (e, f)
+  step-running e f = unrefused ∙ on-fit g s bytes a e f
 
   pub step-finished : s .finished ≡ true → stepWith s bytes a ≡ giving (imageOf g (s .header) bytes) s
   step-finished e = unrefused ∙ simp e

@@ -10,11 +10,11 @@ ghost use Rattle.flow.specs.Monitor.{isReset, isAttempt};
 ghost use Rattle.flow.specs.Packets.{isRead, heard, replyIn};
 ghost use Rattle.flow.specs.Plan.{fromProtected, plan, loops, acquisitions};
 ghost use Rattle.image.specs.Image.{imageOf};
-ghost use Rattle.session.specs.Given.{answers, startRefused, wantsLeave, startOf};
+ghost use Rattle.session.specs.Given.{answers, startRefused, wantsLeave, startOf, refusing, outcomeAt, giving, stepOn, stepWith};
 ghost use Rattle.session.specs.Nexts.{nextOf, tryNext, waitNext, nextBy, resetNext, standAfter, actOn};
 ghost use Rattle.session.specs.Possible.{headerFits, movesIn, progressFits, reportFits, possibleIn};
-ghost use Rattle.session.specs.Ranges.{InRange};
-ghost use Rattle.session.specs.Sessions.{mostOf, firstFor, runningAt, reportedAt, resumed};
+ghost use Rattle.session.specs.Ranges.{InRange, Lent};
+ghost use Rattle.session.specs.Sessions.{standOf, mostOf, firstFor, runningAt, reportedAt, resumed};
 use flow::Answer;
 use flow::Entry;
 use flow::Move;
@@ -247,10 +247,11 @@ fn onward(y: Entry, p: Progress, polls: u32, attempts: u32, kept: u32) -> Next
     requires { ⌜ InRange p ⌝ }
     ensures { λ r. ⌜ r ≡ nextOf (go polls kept) y (p .at) attempts ⌝ }
 {
+    let at = p.at + 1;
     Next::Run(
         y,
         Progress {
-            at: p.at + 1,
+            at: at,
             waits: 0,
             polls: polls,
             attempts: attempts,
@@ -705,5 +706,88 @@ pub fn start(h: Header, bytes: &[u8], leave: bool) -> Given
     Given {
         session: s,
         outcome: Outcome::Ask(Packet::Xres),
+    }
+}
+
+// What stands in a session: its report, or the request of its move.
+fn outcome_of(g: Geometry, s: Session, bytes: &[u8]) -> Outcome
+    requires { ⌜ Lent g s (now bytes) ⌝ }
+    ensures { λ r. ⌜ r ≡ outcomeAt (imageOf g (s .header) (now (bytes .entry))) (standOf s) ⌝ }
+{
+    if s.finished {
+        return Outcome::Told(Report {
+            number: s.number,
+            step: s.step,
+            transfers: s.transfers,
+        });
+    }
+    let h = s.header;
+    let y = s.entry;
+    let p = s.progress;
+    let m = moves::move_at(g, h, bytes, y, p.at);
+    let q = m.request;
+    Outcome::Ask(flow::packet_of(q))
+}
+
+// A session with what stands in it.
+fn give(g: Geometry, s: Session, bytes: &[u8]) -> Given
+    requires { ⌜ Lent g s (now bytes) ⌝ }
+    ensures { λ r. ⌜ r ≡ giving (imageOf g (s .header) (now (bytes .entry))) s ⌝ }
+{
+    let o = outcome_of(g, s, bytes);
+    Given {
+        session: s,
+        outcome: o,
+    }
+}
+
+// A refused step gives the session back.
+fn refuse(s: Session, n: u8) -> Given
+    ensures { λ r. ⌜ r ≡ refusing s n ⌝ }
+{
+    let same = s;
+    Given {
+        session: same,
+        outcome: Outcome::Refused(n),
+    }
+}
+
+// A step on a possible session with an image of its size.
+fn step_on(g: Geometry, s: Session, bytes: &[u8], a: Answer) -> Given
+    requires { ⌜ Lent g s (now bytes) ⌝ ∗ ⌜ possibleIn g s ≡ true ⌝ }
+    ensures { λ r. ⌜ r ≡ stepOn g s (now (bytes .entry)) a ⌝ }
+{
+    if s.finished {
+        return give(g, s, bytes);
+    }
+    let h = s.header;
+    let y = s.entry;
+    let p = s.progress;
+    let m = moves::move_at(g, h, bytes, y, p.at);
+    let q = m.request;
+    if answer_fits(q, a) {
+        let t = advanced(g, s, m, a);
+        return give(g, t, bytes);
+    }
+    refuse(s, 14)
+}
+
+// Takes the answer to the standing request: checks 13, 12, 14; gives the next request or the report.
+pub fn step(s: Session, bytes: &[u8], a: Answer) -> Given
+    ensures { λ r. ⌜ r ≡ stepWith s (now (bytes .entry)) a ⌝ }
+{
+    let h = s.header;
+    let found = parts::find(h.part, h.macros);
+    match found {
+        Lookup::Refused(_) => refuse(s, 13),
+        Lookup::Found(g) => {
+            if !possible_in(g, s) {
+                return refuse(s, 13);
+            }
+            if bytes.len() != parts::image_size(g) {
+                return refuse(s, 12);
+            }
+            step_on(g, s, bytes, a)
+        }
     }
 }

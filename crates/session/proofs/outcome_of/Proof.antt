@@ -1,0 +1,28 @@
+-- The report, or the request of the move. Assumes nothing.
+use mathlib.Core.Path.{_≡_, _∙_}
+use Rattle.flow.specs.Session.{moveAt}
+use Rattle.image.specs.Image.{imageOf}
+use Rattle.moves.proofs.Table.{move-found}
+use borrow.Author.Needs.{needs}
+use Rattle.session.proofs.outcome_of.Statement.{statement}
+use Rattle.session.proofs.outcome_of.Tie as tie
+
+returns : tie.Need-returns
+returns c = simp (c .if1 .taken)
+
+move-at-requires : tie.Need-move-at-requires
+move-at-requires c κs = search needs
+
+packet-of-requires : tie.Need-packet-of-requires
+packet-of-requires c κs = search needs
+
+returns-2 : tie.Need-returns-2
+returns-2 c =
+    let a = c .before .before .before .before .before .before .args in
+    let is : c .before .move-at .result ≡ moveAt (imageOf (a .g) (a .s .header) (a .bytes .now)) (a .s .entry) (a .s .progress .at) =
+    c .before .move-at .ensures
+    ∙ move-found (a .g) (a .s .header) (a .bytes .now) (a .s .entry) (a .s .progress .at) (a .s .header .part) (a .s .header .macros) (c .before .before .before .before .before .before .pre .found) (c .before .before .before .before .before .before .pre .size) in
+    simp (c .before .before .before .before .if1 .left, c .packet-of .ensures, is)
+
+pub outcome-of-spec : {M : Type 1} → statement M
+outcome-of-spec = tie.close (tie.spec returns move-at-requires packet-of-requires returns-2)
