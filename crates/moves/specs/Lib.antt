@@ -1,4 +1,0 @@
-pub mod Handled
-pub mod Ended
-pub mod Stands
-pub mod Moves
