@@ -1,0 +1,145 @@
+-- How many moves each list has: decided by the geometry alone. Assumes nothing.
+use mathlib.Core.List.{List, [], _∷_, _++_}
+use mathlib.Core.Path.{_≡_, refl, sym, ap, _∙_}
+use Prim.Native.Nat.{ℕ, zero, suc, _+_, _*_, _/_}
+use native.Mathlib.Nat.{mul-add, mul-assoc}
+use native.Mathlib.Omega.{arith}
+use lib.ListN.{length, length-append}
+use Rattle.flow.proofs.Counting.{length-words}
+use Rattle.flow.specs.Sequence.{key, write, read, call, writes, listed, pieces, imoCall, silicon, privileged, latchList, programRow, compareWord, verifyFlash, lockStart, lockMacro, verifyMacro, program, opening, afterwards, sequence}
+use Rattle.flow.specs.declared.Entry.{Entry}
+use Rattle.flow.specs.declared.Entry.the-variants.{FromOpen, FromProtected}
+use Rattle.flow.specs.declared.Purpose.{Purpose}
+use Rattle.flow.specs.declared.Purpose.the-variants.{Keep, EntryLevel, Reopened, LastSum, StoredLevel}
+use Rattle.image.specs.Image.{Image}
+use Rattle.image.specs.Words.{wordsAt}
+use Rattle.moves.proofs.Joined.{length-pieces}
+use Rattle.moves.proofs.Steps.{length-call, length-read, length-silicon, length-acquire}
+use Rattle.moves.specs.Moves.{moveCount, openingCount, programCount, bare}
+use Rattle.parts.specs.Sizes.{rowBytes, macrosOf, rowsPerMacro, rowsOf, locksIn, imoOf, locksAt, levelAt, PARAMS}
+use Rattle.parts.specs.declared.Geometry.{Geometry}
+
+pub length-writes : (s a : ℕ) (ws : List ℕ) → length (writes s a ws) ≡ 2 * length ws
+unfolding writes write
+length-writes s a [] = refl
+length-writes s a (w ∷ ws) = omega (arith, length-writes s (a + 4) ws)
+
+pub length-listed : (g : Geometry) (s c : ℕ) (ws : List ℕ) → length (listed g s c ws) ≡ 2 * length ws + 10
+unfolding listed
+length-listed g s c ws = length-append (writes s PARAMS ws) (call g s c PARAMS) ∙ omega (arith, length-writes s PARAMS ws, length-call g s c PARAMS)
+
+pub length-latch : (g : Geometry) (s m n : ℕ) (bytes : List ℕ) (o : ℕ) → length (listed g s 4 (latchList m n bytes o)) ≡ 2 * (n / 4) + 14
+length-latch g s m n bytes o = length-listed g s 4 (latchList m n bytes o) ∙ omega (arith, length-words bytes o (n / 4))
+
+pub length-privileged : (g : Geometry) (s : ℕ) (u : Purpose) → length (privileged g s u) ≡ 13
+unfolding privileged call write read
+length-privileged g s u = refl
+
+module _ (i : Image) where
+  abbrev g : Geometry
+  g = i .geometry
+
+  abbrev words : ℕ
+  words = rowBytes g / 4
+
+  abbrev locks : ℕ
+  locks = rowsPerMacro g / 8 / 4
+
+  pub length-row : (r : ℕ) → length (programRow i r) ≡ 26 + 2 * words
+  unfolding programRow
+  length-row r =
+      length-append (listed g 5 4 (latchList (r / rowsPerMacro g) (rowBytes g) (i .flash) (r * rowBytes g))) (listed g 5 6 ((key 6 + r * 0x10000) ∷ []))
+      ∙ omega (arith, length-latch g 5 (r / rowsPerMacro g) (rowBytes g) (i .flash) (r * rowBytes g), length-listed g 5 6 ((key 6 + r * 0x10000) ∷ []))
+
+  pub length-lock : (m : ℕ) → length (lockMacro i m) ≡ 24 + 2 * locks
+  unfolding lockMacro locksIn
+  length-lock m =
+      length-append (listed g 7 4 (latchList m (locksIn g m) (i .protection) (lockStart g m))) (call g 7 0x0D (key 0x0D + i .header .level * 0x10000 + m * 0x1000000))
+      ∙ omega (arith, length-latch g 7 m (locksIn g m) (i .protection) (lockStart g m), length-call g 7 0x0D (key 0x0D + i .header .level * 0x10000 + m * 0x1000000))
+
+  pub length-check : (m : ℕ) → length (verifyMacro i m) ≡ locks * 3
+  unfolding verifyMacro locksIn
+  length-check m = length-pieces (compareWord 8 23 (locksAt g m) (i .protection) (lockStart g m)) 3 (λ k. length-read 8 _ _) 0 locks
+
+  pub length-rows : length (pieces (programRow i) 0 (rowsOf g)) ≡ rowsOf g * (26 + 2 * words)
+  length-rows = length-pieces (programRow i) (26 + 2 * words) length-row 0 (rowsOf g)
+
+  pub length-verify : length (verifyFlash i) ≡ rowsOf g * words * 3
+  length-verify = length-pieces (compareWord 6 22 0 (i .flash) 0) 3 (λ k. length-read 6 _ _) 0 (rowsOf g * words)
+
+  pub length-locks : length (pieces (lockMacro i) 0 (macrosOf g)) ≡ macrosOf g * (24 + 2 * locks)
+  length-locks = length-pieces (lockMacro i) (24 + 2 * locks) length-lock 0 (macrosOf g)
+
+  pub length-checks : length (pieces (verifyMacro i) 0 (macrosOf g)) ≡ macrosOf g * (locks * 3)
+  length-checks = length-pieces (verifyMacro i) (locks * 3) length-check 0 (macrosOf g)
+
+  pub length-program : length (program i) ≡ 29 + rowsOf g * (26 + 5 * words) + macrosOf g * (24 + 5 * locks)
+  unfolding program
+  length-program =
+      simp length-append
+      (omega (
+        arith,
+        length-privileged g 4 Keep,
+        length-rows,
+        length-verify,
+        length-locks,
+        length-checks,
+        length-read 8 (levelAt g) StoredLevel,
+        length-privileged g 9 LastSum,
+      ))
+
+  pub length-opening : length (opening i) ≡ 30 + length (imoCall g (imoOf g))
+  unfolding opening
+  length-opening = simp length-append (omega (arith, length-acquire g, length-silicon g EntryLevel))
+
+  pub length-sequence : (y : Entry) → length (sequence i y) ≡ length (opening i) + (length (afterwards i y))
+  unfolding sequence
+  length-sequence y = length-append (opening i) (afterwards i y)
+
+  pub length-open : length (afterwards i FromOpen) ≡ 12 + length (program i)
+  unfolding afterwards
+  length-open =
+      length-append (listed g 3 0x0A (key 0x0A ∷ [])) (program i) ∙ omega (arith, length-listed g 3 0x0A (key 0x0A ∷ []))
+
+  pub length-reopen : length (afterwards i FromProtected) ≡ 10 + length (opening i) + length (program i)
+  unfolding afterwards opening
+  length-reopen =
+      simp length-append
+      (omega (arith, length-call g 3 0x0D (key 0x0D + 0x10000), length-silicon g EntryLevel, length-silicon g Reopened))
+
+-- an image's sequence has as many moves as its geometry's
+pub program-counted : (i : Image) → length (program i) ≡ programCount (i .geometry)
+program-counted i = length-program i ∙ sym (length-program (bare (i .geometry)))
+
+pub opening-counted : (i : Image) → length (opening i) ≡ openingCount (i .geometry)
+opening-counted i = length-opening i ∙ sym (length-opening (bare (i .geometry)))
+
+pub counted : (i : Image) (y : Entry) → length (sequence i y) ≡ moveCount (i .geometry) y
+counted i FromOpen =
+    let b = bare (i .geometry) in
+    omega (
+      arith,
+      length-sequence i FromOpen,
+      length-sequence b FromOpen,
+      length-open i,
+      length-open b,
+      opening-counted i,
+      program-counted i,
+    )
+counted i FromProtected =
+    let b = bare (i .geometry) in
+    omega (
+      arith,
+      length-sequence i FromProtected,
+      length-sequence b FromProtected,
+      length-reopen i,
+      length-reopen b,
+      opening-counted i,
+      program-counted i,
+    )
+
+pub count-open : (g : Geometry) → moveCount g FromOpen ≡ openingCount g + 12 + programCount g
+count-open g = omega (arith, length-sequence (bare g) FromOpen, length-open (bare g))
+
+pub count-reopen : (g : Geometry) → moveCount g FromProtected ≡ openingCount g + 10 + openingCount g + programCount g
+count-reopen g = omega (arith, length-sequence (bare g) FromProtected, length-reopen (bare g))

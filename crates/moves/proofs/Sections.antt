@@ -1,0 +1,183 @@
+-- What is at an index of steps 5 to 8, for a handled geometry and an image of exact size. Assumes nothing.
+use mathlib.Core.List.{List, [], _∷_, _++_}
+use mathlib.Core.Path.{_≡_, refl, sym, ap, _∙_}
+use Prim.Native.Nat.{ℕ, _+_, _-_, _*_, _/_, _%_, _<_, _≤_}
+use native.Mathlib.Nat.{mul-le-mul, mul-le-mul-left, mul-le-mul-right, mod-lt, zero-add, div-lt-iff-lt-mul}
+use native.Mathlib.Omega.{arith}
+use lib.ListN.{length, getD, take, drop}
+use Rattle.flow.specs.Sequence.{key, read, call, listed, pieces, latchList, programRow, compareWord, verifyFlash, lockStart, lockMacro, verifyMacro, endMove}
+use Rattle.flow.specs.declared.Move.{Move}
+use Rattle.flow.specs.declared.Purpose.the-variants.{Same}
+use Rattle.image.specs.Image.{Image, imageOf}
+use Rattle.image.specs.Words.{wordAt}
+use Rattle.image.specs.declared.Header.{Header}
+use Rattle.moves.proofs.Counts.{length-row, length-lock, length-check}
+use Rattle.moves.proofs.Joined.{at-piece, div-low, part-ends}
+use Rattle.moves.proofs.Steps.{length-read}
+use Rattle.moves.proofs.Words.{front-latch, back-latch, back-word}
+use Rattle.moves.specs.Handled.{Handled}
+use Rattle.parts.specs.Sizes.{rowBytes, macrosOf, rowsPerMacro, rowsOf, flashSize, lockTotal, locksIn, imageSize, locksAt}
+use Rattle.parts.specs.declared.Geometry.{Geometry}
+
+-- ---- sizes
+
+module _ (g : Geometry) (ok : Handled g) where
+  pub rows-few : rowsOf g ≤ 65536
+  unfolding rowsOf
+  rows-few = omega (arith, mul-le-mul (ok .macros) (ok .macroHigh))
+
+  rows-per : rowsOf g ≤ 16 * rowsPerMacro g
+  unfolding rowsOf
+  rows-per = mul-le-mul-right (rowsPerMacro g) (ok .macros)
+
+  pub flash-small : flashSize g ≤ 67108864
+  unfolding flashSize
+  flash-small = omega (arith, mul-le-mul rows-few (ok .rowHigh))
+
+  pub rows-small : rowsOf g * (26 + 2 * (rowBytes g / 4)) ≤ 35258368
+  rows-small =
+      let l : 26 + 2 * (rowBytes g / 4) ≤ 538 = omega (arith, ok .rowHigh) in
+      omega (arith, mul-le-mul rows-few l)
+
+  pub words-few : rowsOf g * (rowBytes g / 4) ≤ 16777216
+  words-few =
+      let l : rowBytes g / 4 ≤ 256 = omega (arith, ok .rowHigh) in
+      omega (arith, mul-le-mul rows-few l)
+
+  pub locks-small : macrosOf g * (24 + 2 * (rowsPerMacro g / 8 / 4)) ≤ 4480
+  locks-small =
+      let l : 24 + 2 * (rowsPerMacro g / 8 / 4) ≤ 280 = omega (arith, ok .macroHigh) in
+      omega (arith, mul-le-mul (ok .macros) l)
+
+  pub checks-small : macrosOf g * (rowsPerMacro g / 8 / 4 * 3) ≤ 6144
+  checks-small =
+      let l : rowsPerMacro g / 8 / 4 * 3 ≤ 384 = omega (arith, ok .macroHigh) in
+      omega (arith, mul-le-mul (ok .macros) l)
+
+  -- every macro's locks are in the image
+  locks-fit : (m : ℕ) → m < macrosOf g → flashSize g + m * (rowsPerMacro g / 8) + rowsPerMacro g / 8 ≤ imageSize g
+  unfolding imageSize lockTotal rowsOf
+  locks-fit m h =
+      let t = part-ends (macrosOf g) (rowsPerMacro g / 8) m h in
+      let e : rowsPerMacro g / 8 * 8 ≤ rowsPerMacro g = omega arith in
+      let l = mul-le-mul-left (macrosOf g) e in
+      let a : macrosOf g * (rowsPerMacro g / 8 * 8) ≡ 8 * (macrosOf g * (rowsPerMacro g / 8)) = omega arith in
+      omega arith
+
+  lock-address : (m : ℕ) → m < macrosOf g → g .part .locks + m * g .part .«locks_step» ≤ 2415919087
+  lock-address m h = omega (arith, ok .locks, mul-le-mul {n₁ = m} {n₂ = 16} (omega (arith, ok .macros)) (ok .locksStep))
+
+-- where a row is, and a macro's locks
+pub record RowPlace (g : Geometry) (bytes : List ℕ) (r : ℕ) : Type 0 where
+  pub low : r < 65536
+  pub macro : r / rowsPerMacro g < 256
+  pub end : r * rowBytes g + rowBytes g ≤ length bytes
+  pub small : r * rowBytes g + rowBytes g ≤ 67108864
+
+pub record LockPlace (g : Geometry) (bytes : List ℕ) (flash m : ℕ) : Type 0 where
+  pub low : m < 16
+  pub end : flash + m * (rowsPerMacro g / 8) + rowsPerMacro g / 8 ≤ length bytes
+  pub small : flash + m * (rowsPerMacro g / 8) + rowsPerMacro g / 8 ≤ 67117056
+
+lock-place : (g : Geometry) (ok : Handled g) (bytes : List ℕ) (exact : length bytes ≡ imageSize g) (flash m : ℕ) → flash ≡ flashSize g → m < macrosOf g → LockPlace g bytes flash m
+unfolding imageSize lockTotal
+lock-place g ok bytes exact flash m f l =
+    let t : flash + m * (rowsPerMacro g / 8) + rowsPerMacro g / 8 ≤ flashSize g + rowsOf g / 8 = rw f (locks-fit g ok m l) in
+    record { low = omega (arith, ok .macros); end = omega arith; small = omega (arith, flash-small g ok, rows-few g ok) }
+
+-- ---- step 5
+
+module _ (g : Geometry) (ok : Handled g) (h : Header) (bytes : List ℕ) (exact : length bytes ≡ imageSize g) where
+  abbrev i : Image
+  i = imageOf g h bytes
+
+  module _ (j b : ℕ) (e : b ≡ 26 + 2 * (rowBytes g / 4)) (low : j < rowsOf g * (26 + 2 * (rowBytes g / 4))) where
+    row-low : j / b < rowsOf g
+    row-low = div-low (rowsOf g) b j (omega arith) (rw e low)
+
+    row-fits : j / b * rowBytes g + rowBytes g ≤ flashSize g
+    unfolding flashSize
+    row-fits = part-ends (rowsOf g) (rowBytes g) (j / b) row-low
+
+    row-inside : j / b * rowBytes g + rowBytes g ≤ length bytes
+    unfolding imageSize
+    row-inside = omega (arith, row-fits)
+
+    pub row-place : RowPlace g bytes (j / b)
+    row-place =
+        let l : j / b < 65536 = omega (arith, row-low, rows-few g ok) in
+        let m : j / b < 256 * rowsPerMacro g = omega (arith, ok .macroLow, row-low, rows-per g ok) in
+        record { low = l; macro = (div-lt-iff-lt-mul {k = rowsPerMacro g} {x = j / b} {y = 256} (omega (arith, ok .macroLow))) .1 m; end = row-inside; small = omega (arith, row-fits, flash-small g ok) }
+
+    pub rows-at : (bs : List ℕ) → bs ≡ take (j / b * rowBytes g + rowBytes g - j / b * rowBytes g) (drop (j / b * rowBytes g) bytes)
+        → getD (listed g 5 4 (latchList (j / b / rowsPerMacro g) (length bs) bs 0) ++ listed g 5 6 ((key 6 + j / b * 0x10000) ∷ [])) (j % b) endMove
+        ≡ getD (pieces (programRow i) 0 (rowsOf g)) j endMove
+    unfolding programRow
+    rows-at bs is =
+        rw (front-latch bytes bs (j / b * rowBytes g) (rowBytes g) is row-inside (flashSize g) (j / b / rowsPerMacro g) row-fits)
+        (sym (at-piece (programRow i) b (λ r. length-row i r ∙ sym e) endMove (rowsOf g) j (omega arith) (rw e low)))
+
+  -- ---- step 6
+
+  pub verify-at : (j : ℕ) → j < rowsOf g * (rowBytes g / 4) * 3
+      → getD (read 6 (4 * (j / 3)) (Same (wordAt (take (flashSize g) bytes) (4 * (j / 3))) 22)) (j % 3) endMove ≡ getD (verifyFlash i) j endMove
+  verify-at j low =
+      sym
+      (at-piece (compareWord 6 22 0 (i .flash) 0) 3 (λ k. length-read 6 _ _) endMove (rowsOf g * (rowBytes g / 4)) j (omega arith) low
+      ∙ ap (λ (x : ℕ). getD (read 6 x (Same (wordAt (take (flashSize g) bytes) x) 22)) (j % 3) endMove) (zero-add (4 * (j / 3))))
+
+  -- ---- step 7
+
+  module _ (j b flash : ℕ) (f : flash ≡ flashSize g) (e : b ≡ 24 + 2 * (rowsPerMacro g / 8 / 4)) (low : j < macrosOf g * (24 + 2 * (rowsPerMacro g / 8 / 4))) where
+    macro-low : j / b < macrosOf g
+    macro-low = div-low (macrosOf g) b j (omega arith) (rw e low)
+
+    pub macro-place : LockPlace g bytes flash (j / b)
+    macro-place = lock-place g ok bytes exact flash (j / b) f macro-low
+
+    pub locks-at : (bs : List ℕ)
+        → bs ≡ take (flash + j / b * (rowsPerMacro g / 8) + rowsPerMacro g / 8 - (flash + j / b * (rowsPerMacro g / 8))) (drop (flash + j / b * (rowsPerMacro g / 8)) bytes)
+        → getD (listed g 7 4 (latchList (j / b) (length bs) bs 0) ++ call g 7 0x0D (key 0x0D + h .level * 0x10000 + j / b * 0x1000000)) (j % b) endMove
+        ≡ getD (pieces (lockMacro i) 0 (macrosOf g)) j endMove
+    unfolding lockMacro locksIn
+    locks-at bs is =
+        rw (back-latch bytes bs (flash + j / b * (rowsPerMacro g / 8)) (rowsPerMacro g / 8) is (macro-place .end) (flashSize g) (j / b) (j / b * (rowsPerMacro g / 8)) (omega arith))
+        (sym (at-piece (lockMacro i) b (λ m. length-lock i m ∙ sym e) endMove (macrosOf g) j (omega arith) (rw e low)))
+
+  -- ---- step 8 but for the level
+
+  module _ (j flash : ℕ) (f : flash ≡ flashSize g) (low : j < macrosOf g * (rowsPerMacro g / 8 / 4 * 3)) where
+    abbrev each : ℕ
+    each = rowsPerMacro g / 8 / 4 * 3
+
+    abbrev m : ℕ
+    m = j / each
+
+    abbrev k : ℕ
+    k = j % each / 3
+
+    check-low : m < macrosOf g
+    check-low = div-low (macrosOf g) each j (omega (arith, ok .macroLow)) low
+
+    pub word-low : k < rowsPerMacro g / 8 / 4
+    word-low = let l : j % each < each = mod-lt j (omega (arith, ok .macroLow)) in omega arith
+
+    pub check-place : LockPlace g bytes flash m
+    check-place = lock-place g ok bytes exact flash m f check-low
+
+    pub check-address : g .part .locks + m * g .part .«locks_step» ≤ 2415919087
+    check-address = lock-address g ok m check-low
+
+    pub checks-at : (bs : List ℕ)
+        → bs ≡ take (flash + m * (rowsPerMacro g / 8) + rowsPerMacro g / 8 - (flash + m * (rowsPerMacro g / 8))) (drop (flash + m * (rowsPerMacro g / 8)) bytes)
+        → getD (read 8 (locksAt g m + 4 * k) (Same (wordAt bs (4 * k)) 23)) (j % each % 3) endMove
+        ≡ getD (pieces (verifyMacro i) 0 (macrosOf g)) j endMove
+    unfolding verifyMacro locksIn
+    checks-at bs is =
+        let w : wordAt bs (4 * k) ≡ wordAt (i .protection) (lockStart g m + 4 * k) =
+        back-word bytes bs (flash + m * (rowsPerMacro g / 8)) (rowsPerMacro g / 8) is (check-place .end) (flashSize g) (4 * k) (lockStart g m + 4 * k) (omega (arith, word-low)) (omega arith) in
+        let l : j % each < rowsPerMacro g / 8 / 4 * 3 = mod-lt j (omega (arith, ok .macroLow)) in
+        rw w
+        (sym
+        (at-piece (verifyMacro i) each (length-check i) endMove (macrosOf g) j (omega (arith, ok .macroLow)) low
+        ∙ at-piece (compareWord 8 23 (locksAt g m) (i .protection) (lockStart g m)) 3 (λ k. length-read 8 _ _) endMove (rowsPerMacro g / 8 / 4) (j % each) (omega arith) l))

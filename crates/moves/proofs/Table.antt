@@ -1,0 +1,111 @@
+-- Every geometry of the part table is handled. Assumes nothing.
+use mathlib.Core.Bool.{Bool, true, false, _&&_, cond}
+use mathlib.Core.List.{List, [], _∷_}
+use mathlib.Core.Path.{_≡_, refl, ap, _∙_}
+use Prim.Native.Nat.{ℕ, zero, suc, _≤_}
+use native.Mathlib.Omega.{arith}
+use lib.Dec.{eqb, leb}
+use lib.ListN.{length}
+use borrow.Author.Tests.{leb-true, le-leb, eq-eqb, ne-eqb}
+use Rattle.flow.proofs.Table.{both}
+use Rattle.flow.specs.Sequence.{endMove}
+use Rattle.flow.specs.Session.{moveAt}
+use Rattle.flow.specs.declared.Entry.{Entry}
+use Rattle.flow.specs.declared.Move.{Move}
+use Rattle.image.specs.Image.{imageOf}
+use Rattle.image.specs.declared.Header.{Header}
+use Rattle.moves.specs.Handled.{sizesHandled, addressesHandled, handles, Handled}
+use Rattle.moves.specs.Moves.{moveOf}
+use Rattle.parts.specs.Parts.{partTable, offers, lookIn, lookupOf}
+use Rattle.parts.specs.Sizes.{rowBytes, macrosOf, rowsPerMacro, sysreqOf, imageSize}
+use Rattle.parts.specs.declared.Geometry.{Geometry}
+use Rattle.parts.specs.declared.Lookup.{Lookup}
+use Rattle.parts.specs.declared.Lookup.the-variants.{Found, Refused}
+use Rattle.parts.specs.declared.Part.{Part}
+
+-- the tests as facts
+pub handled : (g : Geometry) → sizesHandled g ≡ true → addressesHandled g ≡ true → Handled g
+handled g s a =
+    let s₄ = both _ (leb (macrosOf g) 16) s in
+    let s₃ = both _ (leb (rowsPerMacro g) 4096) (s₄ .0) in
+    let s₂ = both _ (leb 32 (rowsPerMacro g)) (s₃ .0) in
+    let s₁ = both (leb 4 (rowBytes g)) (leb (rowBytes g) 1024) (s₂ .0) in
+    let a₂ = both _ (leb (g .part .«locks_step») 0xFFFFFF) a in
+    let a₁ = both (leb (sysreqOf g) 0x7FFFFFFF) (leb (g .part .locks) 0x7FFFFFFF) (a₂ .0) in
+    record {
+      rowLow = leb-true _ _ (s₁ .0);
+      rowHigh = leb-true _ _ (s₁ .1);
+      macroLow = leb-true _ _ (s₂ .1);
+      macroHigh = leb-true _ _ (s₃ .1);
+      macros = leb-true _ _ (s₄ .1);
+      sysreq = leb-true _ _ (a₁ .0);
+      locks = leb-true _ _ (a₁ .1);
+      locksStep = leb-true _ _ (a₂ .1);
+    }
+
+-- a part with its most macros, and so with fewer
+abbrev full : Part → Geometry
+full p = record { part = p; macros = p .«most_macros» }
+
+abbrev tableHandled : List Part → Bool
+tableHandled [] = true
+tableHandled (p ∷ ps) = handles (full p) && tableHandled ps
+
+fewer : (p : Part) (m : ℕ) → handles (full p) ≡ true → m ≤ p .«most_macros» → handles (record { part = p; macros = m }) ≡ true
+fewer p m h l =
+    let t = both (sizesHandled (full p)) (addressesHandled (full p)) h in
+    let s = both (leb 4 (p .«row_bytes») && leb (p .«row_bytes») 1024 && leb 32 (p .«rows_per_macro») && leb (p .«rows_per_macro») 4096) (leb (p .«most_macros») 16) (t .0) in
+    let f : leb m 16 ≡ true = le-leb m 16 (omega (arith, leb-true (p .«most_macros») 16 (s .1))) in
+    rw (s .0, f, t .1)
+
+looked : (ps : List Part) (n m : ℕ) (g : Geometry) → tableHandled ps ≡ true → lookIn ps n m ≡ Found g → handles g ≡ true
+unfolding lookIn
+looked [] n m g h e = absurd (omega (arith, different e))
+  where
+    different : Refused 11 ≡ Found g → _≡_ {A = ℕ} 0 1
+    different e = cc
+looked (p ∷ ps) n m g h e = by (λ h′ e′. looked ps n m g h′ e′) (offers p n m) refl
+  where
+    parts : (handles (full p) ≡ true) × (tableHandled ps ≡ true)
+    parts = both (handles (full p)) (tableHandled ps) h
+
+    by : (tableHandled ps ≡ true → lookIn ps n m ≡ Found g → handles g ≡ true) → (y : Bool) → offers p n m ≡ y → handles g ≡ true
+    by rec true o =
+        let is : Found (record { part = p; macros = m }) ≡ Found g = rw o at e in
+        let geo : record { part = p; macros = m } ≡ g = cc in
+        let t = both (eqb (p .number) n && leb 1 m) (leb m (p .«most_macros»)) o in
+        rw (← geo) (fewer p m (parts .0) (leb-true m (p .«most_macros») (t .1)))
+    by rec false o = rec (parts .1) (rw o at e)
+
+pub table-handled : (n m : ℕ) (g : Geometry) → lookupOf n m ≡ Found g → handles g ≡ true
+table-handled n m g e = looked partTable n m g refl e
+
+-- ---- what the tests decide
+
+module _ (g : Geometry) (h : Header) (bytes : List ℕ) (y : Entry) (n : ℕ) where
+  abbrev decided : (sizes addresses exact : Bool) → Move
+  decided a b c = cond (a && b && c) (moveAt (imageOf g h bytes) y n) endMove
+
+  abbrev exactly : Bool
+  exactly = eqb (length bytes) (imageSize g)
+
+  pub sizes-out : sizesHandled g ≡ false → moveOf g h bytes y n ≡ endMove
+  sizes-out s = ap (λ (b : Bool). decided b (addressesHandled g) exactly) s
+
+  pub addresses-out : sizesHandled g ≡ true → addressesHandled g ≡ false → moveOf g h bytes y n ≡ endMove
+  addresses-out s a = ap (λ (b : Bool). decided b (addressesHandled g) exactly) s ∙ ap (λ (b : Bool). decided true b exactly) a
+
+  after-guard : sizesHandled g ≡ true → addressesHandled g ≡ true → moveOf g h bytes y n ≡ decided true true exactly
+  after-guard s a = ap (λ (b : Bool). decided b (addressesHandled g) exactly) s ∙ ap (λ (b : Bool). decided true b exactly) a
+
+  pub size-out : sizesHandled g ≡ true → addressesHandled g ≡ true → (length bytes ≡ imageSize g → ⊥) → moveOf g h bytes y n ≡ endMove
+  size-out s a e = after-guard s a ∙ ap (λ (b : Bool). decided true true b) (ne-eqb (length bytes) (imageSize g) e)
+
+  pub moved : sizesHandled g ≡ true → addressesHandled g ≡ true → length bytes ≡ imageSize g → moveOf g h bytes y n ≡ moveAt (imageOf g h bytes) y n
+  moved s a e = after-guard s a ∙ ap (λ (b : Bool). decided true true b) (eq-eqb (length bytes) (imageSize g) e)
+
+  -- for a part of the table and an image of exact size, the move is the sequence's
+  pub move-found : (number macros : ℕ) → lookupOf number macros ≡ Found g → length bytes ≡ imageSize g → moveOf g h bytes y n ≡ moveAt (imageOf g h bytes) y n
+  move-found number macros e exact =
+      let t = both (sizesHandled g) (addressesHandled g) (table-handled number macros g e) in
+      moved (t .0) (t .1) exact

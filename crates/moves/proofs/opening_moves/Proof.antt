@@ -1,0 +1,16 @@
+-- The list's length. Assumes nothing.
+use mathlib.Core.Path.{sym, _∙_}
+use native.Mathlib.Omega.{arith}
+use borrow.Author.Needs.{needs}
+use Rattle.moves.proofs.Counts.{length-opening}
+use Rattle.moves.specs.Moves.{bare}
+use Rattle.moves.proofs.opening_moves.Statement.{statement}
+use Rattle.moves.proofs.opening_moves.Tie as tie
+
+pub opening-moves-spec : {M : Type 1} → statement M
+opening-moves-spec =
+    tie.close
+    (tie.spec
+    (λ c κs. search needs)
+    (λ c. search needs)
+    (λ c. let g = c .before .before .args .g in (omega (arith, c .imo-moves .ensures .0 g, length-opening (bare g)), omega arith)))

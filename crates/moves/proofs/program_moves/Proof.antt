@@ -1,0 +1,41 @@
+-- The list's length. Assumes nothing.
+use mathlib.Core.Path.{sym}
+use Prim.Native.Nat.{_+_, _*_, _/_, _≤_}
+use native.Mathlib.Nat.{mul-le-mul}
+use native.Mathlib.Omega.{arith}
+use borrow.Author.Needs.{needs}
+use Rattle.moves.proofs.Counts.{length-program}
+use Rattle.moves.specs.Moves.{bare}
+use Rattle.moves.proofs.program_moves.Statement.{statement}
+use Rattle.moves.proofs.program_moves.Tie as tie
+
+first : (c : tie.After-struct-known3) → c .before .before .before .rows .result * (26 + 5 * (c .before .before .before .before .before .args .g .part .«row_bytes» / 4)) ≤ 351933934000000
+first c =
+    let r : c .before .before .before .rows .result ≤ 4294967295 = omega arith in
+    let b : 26 + 5 * (c .before .before .before .before .before .args .g .part .«row_bytes» / 4) ≤ 81941 = omega arith in
+    omega (arith, mul-le-mul r b)
+
+second : (c : tie.After-struct-known3) → c .before .before .before .before .before .args .g .macros * (24 + 5 * (c .before .before .before .before .before .args .g .part .«rows_per_macro» / 8 / 4)) ≤ 2616045
+second c =
+    let r : c .before .before .before .before .before .args .g .macros ≤ 255 = omega arith in
+    let b : 24 + 5 * (c .before .before .before .before .before .args .g .part .«rows_per_macro» / 8 / 4) ≤ 10259 = omega arith in
+    omega (arith, mul-le-mul r b)
+
+pub program-moves-spec : {M : Type 1} → statement M
+program-moves-spec =
+    tie.close
+    (tie.spec
+    (λ c κs. search needs)
+    (λ c. search needs)
+    (λ c. search needs)
+    (λ c. search needs)
+    (λ c. search needs)
+    (λ c. search needs)
+    (λ c. search needs)
+    (λ c. omega (arith, first c))
+    (λ c. omega (arith, first c))
+    (λ c. search needs)
+    (λ c. search needs)
+    (λ c. omega (arith, second c))
+    (λ c. omega (arith, first c, second c))
+    (λ c. (rw (c .before .before .before .rows .ensures) (sym (length-program (bare (c .before .before .before .before .before .args .g)))), omega (arith, first c, second c))))

@@ -1,0 +1,24 @@
+-- Step 3, steps 1 and 2 again, then the rest. Assumes nothing.
+use mathlib.Core.Path.{refl, sym, ap, _∙_}
+use Prim.Native.Nat.{ℕ, _+_}
+use borrow.Author.Needs.{needs}
+use denote.Ref.{now}
+use Rattle.image.specs.Image.{imageOf}
+use Rattle.moves.proofs.Whole.{reopen-call, reopen-again, reopen-rest}
+use Rattle.moves.proofs.reopen_move.Statement.{statement}
+use Rattle.moves.proofs.reopen_move.Tie as tie
+
+pub reopen-move-spec : {M : Type 1} → statement M
+reopen-move-spec =
+    tie.close
+    (tie.spec
+    (λ c κs. search needs)
+    (λ c. search needs)
+    (λ c κs. search needs)
+    (λ c. let s = c .before .before .before .before .before in (rw (c .before .key-of .ensures .0) at (c .call-move .ensures (s .args .g) refl)) ∙ sym (reopen-call (imageOf (s .args .g) (s .args .h) (now (s .args .bytes))) (s .args .j) (c .before .before .if1 .taken)))
+    (λ c κs. search needs)
+    (λ c. search needs)
+    (λ c κs. search needs)
+    (λ c. let s = c .before .before .before .before .before .before in c .identify-move .ensures ∙ sym (reopen-again (imageOf (s .args .g) (s .args .h) (now (s .args .bytes))) (s .args .j) _ (ap (λ (x : ℕ). 10 + x) (c .before .before .opening-moves .ensures .0)) (c .before .before .before .if1 .left) (c .before .if2 .taken)))
+    (λ c κs. search needs)
+    (λ c. let s = c .before .before .before .before .before .before in c .program-move .ensures ∙ sym (reopen-rest (imageOf (s .args .g) (s .args .h) (now (s .args .bytes))) (s .args .j) _ (ap (λ (x : ℕ). 10 + x) (c .before .before .opening-moves .ensures .0)) (c .before .if2 .left))))

@@ -1,0 +1,4 @@
+pub mod Handled
+pub mod Ended
+pub mod Stands
+pub mod Moves

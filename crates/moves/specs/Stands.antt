@@ -1,0 +1,25 @@
+-- What the functions below the public call promise. Assumes nothing.
+use mathlib.Core.List.{List}
+use mathlib.Core.Path.{_≡_}
+use Prim.Native.Nat.{ℕ}
+use lib.ListN.{length, getD}
+use Rattle.flow.specs.Sequence.{imoCall, acquire, endMove}
+use Rattle.flow.specs.declared.Move.{Move}
+use Rattle.parts.specs.Sizes.{sysreqOf, imoOf}
+use Rattle.parts.specs.declared.Geometry.{Geometry}
+
+-- m is at index j of the list that a geometry has, for each one with this SYSREQ
+abbrev pub Stands : (sysreq : ℕ) → (Geometry → List Move) → (j : ℕ) → Move → Type 0
+Stands q f j m = (g : Geometry) → sysreqOf g ≡ q → m ≡ getD (f g) j endMove
+
+-- the same of step 1, where IMO counts too
+abbrev pub Acquired : (sysreq imo j : ℕ) → Move → Type 0
+Acquired q o j m = (g : Geometry) → sysreqOf g ≡ q → imoOf g ≡ o → m ≡ getD (acquire g) j endMove
+
+-- the same of step 1's first six moves, which are those of every geometry
+abbrev pub Attach : (j : ℕ) → Move → Type 0
+Attach j m = (g : Geometry) → m ≡ getD (acquire g) j endMove
+
+-- how many moves the call for IMO has
+abbrev pub ImoCount : (imo n : ℕ) → Type 0
+ImoCount o n = (g : Geometry) → n ≡ length (imoCall g o)

@@ -1,0 +1,163 @@
+// What is at an index of steps 5 to 8: rows and locks are lent on as middle parts of the image.
+ghost use mathlib.Core.List.{[], _∷_, _++_};
+ghost use mathlib.Core.Path.{_≡_};
+ghost use Prim.Native.Nat.{_+_, _*_, _/_, _<_, _≤_};
+ghost use lib.ListN.{length, getD};
+ghost use Rattle.flow.specs.Sequence.{key, call, listed, pieces, latchList, programRow, verifyFlash, lockMacro, verifyMacro, endMove};
+ghost use Rattle.image.specs.Image.{imageOf};
+ghost use Rattle.moves.specs.Handled.{Handled};
+ghost use Rattle.moves.specs.Stands.{Stands};
+ghost use Rattle.parts.specs.Sizes.{rowBytes, macrosOf, rowsPerMacro, rowsOf, imageSize};
+use crate::calls::PARAMS;
+use crate::calls::call_move;
+use crate::calls::drw;
+use crate::calls::key_of;
+use crate::calls::one_move;
+use crate::calls::read_move;
+use crate::calls::tar;
+use flow::Move;
+use flow::Purpose;
+use image::Header;
+use parts::Geometry;
+
+// A word of the list of a latch call: the key, the number of bytes less one, the bytes' words.
+pub(crate) fn list_word(bytes: &[u8], m: u32, i: u32) -> u32
+    requires { ⌜ m < 256 ⌝ ∗ ⌜ 1 ≤ length (now bytes) ⌝ ∗ ⌜ length (now bytes) ≤ 1024 ⌝ ∗ ⌜ i < length (now bytes) / 4 + 2 ⌝ }
+    ensures { λ w. ⌜ w ≡ getD (latchList m (length (now (bytes .entry))) (now (bytes .entry)) 0) i 0 ⌝ }
+{
+    if i == 0 {
+        return key_of(4) + m * 0x1000000;
+    }
+    if i == 1 {
+        return (bytes.len() - 1) as u32;
+    }
+    image::word_at(bytes, (4 * (i - 2)) as usize)
+}
+
+// The latch call for some bytes.
+pub(crate) fn latch_move(bytes: &[u8], sysreq: u32, step: u8, m: u32, j: u32) -> Move
+    requires { ⌜ sysreq ≤ 0x7FFFFFFF ⌝ ∗ ⌜ m < 256 ⌝ ∗ ⌜ 1 ≤ length (now bytes) ⌝ ∗ ⌜ length (now bytes) ≤ 1024 ⌝ }
+    ensures { λ r. ⌜ Stands sysreq (λ g. listed g step 4 (latchList m (length (now (bytes .entry))) (now (bytes .entry)) 0)) j r ⌝ }
+{
+    let n = 2 * ((bytes.len() / 4) as u32) + 4;
+    if n <= j {
+        return call_move(sysreq, step, 4, PARAMS, j - n);
+    }
+    let i = j / 2;
+    if j % 2 == 0 {
+        return tar(step, PARAMS + 4 * i);
+    }
+    drw(step, list_word(bytes, m, i))
+}
+
+// A row of step 5.
+pub(crate) fn row_move(row: &[u8], sysreq: u32, r: u32, m: u32, j: u32) -> Move
+    requires { ⌜ sysreq ≤ 0x7FFFFFFF ⌝ ∗ ⌜ m < 256 ⌝ ∗ ⌜ 1 ≤ length (now row) ⌝ ∗ ⌜ length (now row) ≤ 1024 ⌝ ∗ ⌜ r < 65536 ⌝ }
+    ensures { λ t. ⌜ Stands sysreq (λ g. listed g 5 4 (latchList m (length (now (row .entry))) (now (row .entry)) 0) ++ listed g 5 6 ((key 6 + r * 0x10000) ∷ [])) j t ⌝ }
+{
+    let n = 2 * ((row.len() / 4) as u32) + 14;
+    if j < n {
+        return latch_move(row, sysreq, 5, m, j);
+    }
+    one_move(sysreq, 5, 6, key_of(6) + r * 0x10000, j - n)
+}
+
+// The moves of a row in step 5.
+pub(crate) fn row_moves(g: Geometry) -> u32
+    ensures { λ n. ⌜ n ≡ 26 + 2 * (rowBytes g / 4) ⌝ ∗ ⌜ n < 32800 ⌝ }
+{
+    let p = g.part;
+    26 + 2 * ((p.row_bytes as u32) / 4)
+}
+
+// Step 5.
+pub(crate) fn rows_move(g: Geometry, h: Header, bytes: &[u8], j: u32) -> Move
+    requires { ⌜ Handled g ⌝ ∗ ⌜ length (now bytes) ≡ imageSize g ⌝ ∗ ⌜ j < rowsOf g * (26 + 2 * (rowBytes g / 4)) ⌝ }
+    ensures { λ t. ⌜ t ≡ getD (pieces (programRow (imageOf g h (now (bytes .entry)))) 0 (rowsOf g)) j endMove ⌝ }
+{
+    let p = g.part;
+    let size = p.row_bytes as u32;
+    let each = row_moves(g);
+    let r = j / each;
+    let start = (r * size) as usize;
+    let end = start + (size as usize);
+    row_move(
+        &bytes[start..end],
+        p.sysreq,
+        r,
+        r / (p.rows_per_macro as u32),
+        j % each,
+    )
+}
+
+// Step 6.
+pub(crate) fn verify_move(g: Geometry, h: Header, bytes: &[u8], j: u32) -> Move
+    requires { ⌜ Handled g ⌝ ∗ ⌜ length (now bytes) ≡ imageSize g ⌝ ∗ ⌜ j < rowsOf g * (rowBytes g / 4) * 3 ⌝ }
+    ensures { λ t. ⌜ t ≡ getD (verifyFlash (imageOf g h (now (bytes .entry)))) j endMove ⌝ }
+{
+    let flash = parts::flash_size(g);
+    let a = 4 * (j / 3);
+    let w = image::word_at(&bytes[..flash], a as usize);
+    read_move(6, a, Purpose::Same(w, 22), j % 3)
+}
+
+// A macro of step 7.
+pub(crate) fn lock_move(locks: &[u8], sysreq: u32, m: u32, level: u8, j: u32) -> Move
+    requires { ⌜ sysreq ≤ 0x7FFFFFFF ⌝ ∗ ⌜ m < 256 ⌝ ∗ ⌜ 1 ≤ length (now locks) ⌝ ∗ ⌜ length (now locks) ≤ 1024 ⌝ }
+    ensures { λ t. ⌜ Stands sysreq (λ g. listed g 7 4 (latchList m (length (now (locks .entry))) (now (locks .entry)) 0) ++ call g 7 0x0D (key 0x0D + level * 0x10000 + m * 0x1000000)) j t ⌝ }
+{
+    let n = 2 * ((locks.len() / 4) as u32) + 14;
+    if j < n {
+        return latch_move(locks, sysreq, 7, m, j);
+    }
+    call_move(
+        sysreq,
+        7,
+        0x0D,
+        key_of(0x0D) + (level as u32) * 0x10000 + m * 0x1000000,
+        j - n,
+    )
+}
+
+// The moves of a macro in step 7.
+pub(crate) fn lock_moves(g: Geometry) -> u32
+    ensures { λ n. ⌜ n ≡ 24 + 2 * (rowsPerMacro g / 8 / 4) ⌝ ∗ ⌜ n < 32800 ⌝ }
+{
+    let p = g.part;
+    24 + 2 * ((p.rows_per_macro as u32) / 8 / 4)
+}
+
+// Step 7.
+pub(crate) fn locks_move(g: Geometry, h: Header, bytes: &[u8], j: u32) -> Move
+    requires { ⌜ Handled g ⌝ ∗ ⌜ length (now bytes) ≡ imageSize g ⌝ ∗ ⌜ j < macrosOf g * (24 + 2 * (rowsPerMacro g / 8 / 4)) ⌝ }
+    ensures { λ t. ⌜ t ≡ getD (pieces (lockMacro (imageOf g h (now (bytes .entry)))) 0 (macrosOf g)) j endMove ⌝ }
+{
+    let p = g.part;
+    let size = (p.rows_per_macro as u32) / 8;
+    let each = lock_moves(g);
+    let m = j / each;
+    let start = parts::flash_size(g) + ((m * size) as usize);
+    let end = start + (size as usize);
+    lock_move(&bytes[start..end], p.sysreq, m, h.level, j % each)
+}
+
+// Step 8 but for the level.
+pub(crate) fn checks_move(g: Geometry, h: Header, bytes: &[u8], j: u32) -> Move
+    requires { ⌜ Handled g ⌝ ∗ ⌜ length (now bytes) ≡ imageSize g ⌝ ∗ ⌜ j < macrosOf g * (rowsPerMacro g / 8 / 4 * 3) ⌝ }
+    ensures { λ t. ⌜ t ≡ getD (pieces (verifyMacro (imageOf g h (now (bytes .entry)))) 0 (macrosOf g)) j endMove ⌝ }
+{
+    let p = g.part;
+    let size = (p.rows_per_macro as u32) / 8;
+    let each = size / 4 * 3;
+    let m = j / each;
+    let a = 4 * (j % each / 3);
+    let start = parts::flash_size(g) + ((m * size) as usize);
+    let end = start + (size as usize);
+    let w = image::word_at(&bytes[start..end], a as usize);
+    read_move(
+        8,
+        p.locks + m * p.locks_step + a,
+        Purpose::Same(w, 23),
+        j % each % 3,
+    )
+}
