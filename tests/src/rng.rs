@@ -1,6 +1,6 @@
 //! A small generator (SplitMix64), so that every run with a seed is the same run.
 
-#[derive(Clone)]
+#[derive(Clone, Debug)]
 pub struct Rng(pub u64);
 
 impl Rng {
