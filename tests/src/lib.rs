@@ -3,6 +3,7 @@
 
 pub mod board;
 pub mod cases_hex;
+pub mod cases_session;
 pub mod counts;
 pub mod flow;
 pub mod fnv;

@@ -1,6 +1,6 @@
 //! The committed vectors are those that the generator makes, and the tools agree with the writer.
 
-use reference::{cases_hex, hex, parts::SIZES};
+use reference::{cases_hex, cases_session, hex, parts::SIZES};
 use std::fs;
 use std::path::{Path, PathBuf};
 
@@ -18,6 +18,15 @@ fn hex_cases_are_as_made() {
     assert!(cases_hex::stdin(&cases) == read("hex/stdin"));
     let lines: String = cases.iter().map(|case| cases_hex::outcome(case) + "\n").collect();
     assert!(lines.as_bytes() == read("hex/stdout"));
+}
+
+#[test]
+fn session_cases_are_as_made() {
+    let cases = cases_session::cases();
+    assert!(cases_session::stdin(&cases).as_bytes() == read("session/stdin"));
+    let lines: String = cases.iter().map(|case| cases_session::outcome(case) + "\n").collect();
+    assert!(lines.as_bytes() == read("session/stdout"));
+    assert!(cases.iter().all(|case| case.overrides.len() <= 2 && case.length <= 131_200));
 }
 
 #[test]

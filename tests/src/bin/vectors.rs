@@ -1,9 +1,9 @@
 //! Writes the committed vectors, the same at every run. `vectors images DIR`: the images that the
-//! tools are given. `vectors hex TOOLS OUT`: cases of hex text.
+//! tools are given. `vectors hex TOOLS OUT`: cases of hex text. `vectors session OUT`: sessions.
 
 use reference::parts::SIZES;
 use reference::rng::Rng;
-use reference::{cases_hex, hex, texts};
+use reference::{cases_hex, cases_session, hex, texts};
 use std::path::Path;
 use std::{env, fs, io};
 
@@ -32,11 +32,22 @@ fn tool_image(part: u32, macros: u32) -> (reference::image::Header, Vec<u8>) {
 fn hex_cases(tools: &Path, out: &Path) -> io::Result<()> {
     let tool = |file: &str| fs::read(tools.join(file)).expect("a text of vectors/tools");
     let cases = cases_hex::cases(&tool);
+    let lines = cases.iter().map(cases_hex::outcome).collect();
+    let names = cases.iter().map(|case| case.name.clone()).collect();
+    put(out, &cases_hex::stdin(&cases), lines, names)
+}
+
+fn session_cases(out: &Path) -> io::Result<()> {
+    let cases = cases_session::cases();
+    let lines = cases.iter().map(cases_session::outcome).collect();
+    let names = cases.iter().map(|case| case.name.clone()).collect();
+    put(out, cases_session::stdin(&cases).as_bytes(), lines, names)
+}
+
+fn put(out: &Path, stdin: &[u8], lines: Vec<String>, names: Vec<String>) -> io::Result<()> {
     fs::create_dir_all(out)?;
-    fs::write(out.join("stdin"), cases_hex::stdin(&cases))?;
-    let lines: Vec<String> = cases.iter().map(cases_hex::outcome).collect();
+    fs::write(out.join("stdin"), stdin)?;
     fs::write(out.join("stdout"), lines.join("\n") + "\n")?;
-    let names: Vec<&str> = cases.iter().map(|case| case.name.as_str()).collect();
     fs::write(out.join("names"), names.join("\n") + "\n")
 }
 
@@ -45,6 +56,7 @@ fn main() -> io::Result<()> {
     match arguments.iter().map(String::as_str).collect::<Vec<_>>()[..] {
         ["images", dir] => images(Path::new(dir)),
         ["hex", tools, out] => hex_cases(Path::new(tools), Path::new(out)),
-        _ => Err(io::Error::other("vectors images DIR | hex TOOLS OUT")),
+        ["session", out] => session_cases(Path::new(out)),
+        _ => Err(io::Error::other("vectors images DIR | hex TOOLS OUT | session OUT")),
     }
 }
