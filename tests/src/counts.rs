@@ -11,8 +11,8 @@ pub enum Entry {
 
 /// "plan = 69 + 10 × IMO + N × (26 + 5L / 4) + M × (24 + 5PB / 4), and from PROTECTED
 /// 26 + 10 × IMO more".
-pub fn plan(sizes: &Sizes, entry: Entry) -> u64 {
-    let imo = u64::from(sizes.part.imo);
+pub const fn plan(sizes: &Sizes, entry: Entry) -> u64 {
+    let imo = sizes.part.imo as u64;
     let row = 26 + 5 * sizes.row_bytes() as u64 / 4;
     let locks = 24 + 5 * sizes.lock_bytes() as u64 / 4;
     let open = 69 + 10 * imo + sizes.rows() as u64 * row + sizes.macros as u64 * locks;
@@ -23,8 +23,8 @@ pub fn plan(sizes: &Sizes, entry: Entry) -> u64 {
 }
 
 /// "loops = 5 + IMO + 2N + 2M, and from PROTECTED 2 + IMO more".
-pub fn loops(sizes: &Sizes, entry: Entry) -> u64 {
-    let imo = u64::from(sizes.part.imo);
+pub const fn loops(sizes: &Sizes, entry: Entry) -> u64 {
+    let imo = sizes.part.imo as u64;
     let open = 5 + imo + 2 * sizes.rows() as u64 + 2 * sizes.macros as u64;
     match entry {
         Entry::Open => open,
@@ -33,7 +33,7 @@ pub fn loops(sizes: &Sizes, entry: Entry) -> u64 {
 }
 
 /// "with A acquisitions (1, or 2 from PROTECTED)".
-pub fn acquisitions(entry: Entry) -> u64 {
+pub const fn acquisitions(entry: Entry) -> u64 {
     match entry {
         Entry::Open => 1,
         Entry::Protected => 2,
@@ -41,7 +41,7 @@ pub fn acquisitions(entry: Entry) -> u64 {
 }
 
 /// "A report comes within 17 × (plan + 29997 × loops + 29 × A) transfers".
-pub fn bound(sizes: &Sizes, entry: Entry) -> u64 {
+pub const fn bound(sizes: &Sizes, entry: Entry) -> u64 {
     17 * (plan(sizes, entry) + 29_997 * loops(sizes, entry) + 29 * acquisitions(entry))
 }
 

@@ -30,7 +30,7 @@ pub struct Part {
     pub low_gap: Option<(u8, u8)>,
 }
 
-pub const TABLE: [Part; 3] = [
+pub static TABLE: [Part; 3] = [
     Part {
         number: 1,
         row_bytes: 64,
@@ -100,32 +100,32 @@ impl Sizes {
     }
 
     /// N = M × rows per macro.
-    pub fn rows(&self) -> usize {
+    pub const fn rows(&self) -> usize {
         self.macros * self.part.rows_per_macro
     }
 
     /// L.
-    pub fn row_bytes(&self) -> usize {
+    pub const fn row_bytes(&self) -> usize {
         self.part.row_bytes
     }
 
     /// PB = rows per macro / 8.
-    pub fn lock_bytes(&self) -> usize {
+    pub const fn lock_bytes(&self) -> usize {
         self.part.rows_per_macro / 8
     }
 
     /// N × L.
-    pub fn flash(&self) -> usize {
+    pub const fn flash(&self) -> usize {
         self.rows() * self.row_bytes()
     }
 
     /// N / 8.
-    pub fn protection(&self) -> usize {
+    pub const fn protection(&self) -> usize {
         self.rows() / 8
     }
 
     /// "The protection bytes (N / 8) follow the flash bytes (N × L) in it."
-    pub fn image(&self) -> usize {
+    pub const fn image(&self) -> usize {
         self.flash() + self.protection()
     }
 }

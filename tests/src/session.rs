@@ -7,7 +7,7 @@ use crate::flow::{
     PROGRAM_ROW, REPEATS, SET_IMO, SILICON_ID, WRITE_PROTECTION,
 };
 use crate::image::{header_refusal, lent_refusal, word, Header};
-use crate::parts::{Sizes, IDCODE, KILL, LOCKS, LOCKS_STEP, OPEN, PARAMS, PROTECTED, TEST_MODE};
+use crate::parts::{Sizes, IDCODE, KILL, LOCKS, LOCKS_STEP, OPEN, PARAMS, PROTECTED, TABLE, TEST_MODE};
 use crate::wire::{acknowledgement, parity, Ack, Answer, Register, Request};
 
 /// "each call ends with a request, a report" or a refusal.
@@ -76,15 +76,30 @@ enum Operation {
     Read(u32),
 }
 
-impl Operation {
-    fn transfers(self) -> u8 {
+/// How a place is answered: a reset, an attempt, or so many transfers of which those from `reads` on
+/// are reads.
+#[derive(Clone, Copy, PartialEq, Eq, Debug)]
+enum Shape {
+    Reset,
+    Attempt,
+    Transfers { count: u8, reads: u8 },
+}
+
+impl Place {
+    fn shape(self) -> Shape {
         match self {
-            Operation::Reset(_) | Operation::IdCode | Operation::Port(..) => 1,
-            Operation::Write(..) => 2,
-            Operation::Read(_) => 3,
+            Place::Xres | Place::LineReset | Place::Reported(_) => Shape::Reset,
+            Place::IdCode => Shape::Attempt,
+            Place::CtrlStat | Place::Select | Place::Csw => Shape::Transfers { count: 1, reads: 1 },
+            Place::EnterTestMode | Place::Call(_, Phase::List(_) | Phase::Argument | Phase::Command) => {
+                Shape::Transfers { count: 2, reads: 2 }
+            }
+            _ => Shape::Transfers { count: 3, reads: 1 },
         }
     }
+}
 
+impl Operation {
     fn request(self, transfer: u8) -> Request {
         match (self, transfer) {
             (Operation::Reset(reset), _) => reset,
@@ -151,13 +166,13 @@ impl Session {
         if let Place::Reported(report) = self.place {
             return Outcome::Report(report);
         }
-        let operation = self.operation(&sizes, image);
         // "14 reset answered by an acknowledgement or the reverse"
-        match (operation, answer) {
-            (Operation::Reset(_), Answer::ResetDone) => self.after_reset(),
-            (Operation::IdCode, Answer::Wire { ack, word, parity }) => self.attempt(ack, word, parity),
-            (Operation::Port(..) | Operation::Write(..) | Operation::Read(_), Answer::Wire { ack, word, parity }) => {
-                self.take(&sizes, image, operation, ack, word, parity)
+        match (self.place.shape(), answer) {
+            (Shape::Reset, Answer::ResetDone) => self.after_reset(),
+            (Shape::Attempt, Answer::Wire { ack, word, parity }) => self.attempt(ack, word, parity),
+            (Shape::Transfers { count, reads }, Answer::Wire { ack, word, parity: bit }) => {
+                let wrong = self.transfer >= reads && bit != parity(word);
+                self.take(&sizes, image, count, ack, word, wrong)
             }
             _ => return Outcome::Refused(14),
         }
@@ -289,20 +304,17 @@ impl Session {
     }
 
     /// The answer to a transfer outside the attempts.
-    fn take(&mut self, sizes: &Sizes, image: &[u8], operation: Operation, ack: u32, word: u32, bit: bool) {
+    fn take(&mut self, sizes: &Sizes, image: &[u8], count: u8, ack: u32, word: u32, wrong_parity: bool) {
         match acknowledgement(ack) {
             Ack::Wait if self.waits == REPEATS => self.finish(27),
             Ack::Wait => self.waits += 1,
             Ack::Fault => self.finish(28),
             Ack::Silence => self.finish(29),
+            Ack::Ok if wrong_parity => self.finish(30),
             Ack::Ok => {
-                let reads = self.transfer > 0 && matches!(operation, Operation::Read(_));
-                if reads && bit != parity(word) {
-                    return self.finish(30);
-                }
                 self.waits = 0;
                 self.transfer += 1;
-                if self.transfer == operation.transfers() {
+                if self.transfer == count {
                     self.transfer = 0;
                     match self.next(sizes, image, word) {
                         Ok(place) => self.place = place,
@@ -417,11 +429,9 @@ impl Session {
 
     /// Whether the place is one that the part's flow has.
     fn stands(&self, sizes: &Sizes) -> bool {
-        let transfers = match self.place {
-            Place::Xres | Place::LineReset | Place::IdCode | Place::CtrlStat | Place::Select | Place::Csw => 1,
-            Place::EnterTestMode | Place::Call(_, Phase::List(_) | Phase::Argument | Phase::Command) => 2,
-            Place::Reported(_) => 1,
-            _ => 3,
+        let transfers = match self.place.shape() {
+            Shape::Reset | Shape::Attempt => 1,
+            Shape::Transfers { count, .. } => count,
         };
         let place = match self.place {
             Place::Call(call, phase) => {
@@ -454,9 +464,20 @@ impl Session {
     }
 }
 
-/// Where the count stops, for sessions that nobody's start gave.
+/// Where the count stops, for sessions that nobody's start gave: by part and macros, less 1.
+static MOST_TRANSFERS: [[u32; 2]; 3] = {
+    let mut most = [[0; 2]; 3];
+    let mut index = 0;
+    while index < 6 {
+        let sizes = Sizes { part: &TABLE[index / 2], macros: index % 2 + 1 };
+        most[index / 2][index % 2] = bound(&sizes, Entry::Protected) as u32;
+        index += 1;
+    }
+    most
+};
+
 fn most_transfers(sizes: &Sizes) -> u32 {
-    bound(sizes, Entry::Protected) as u32
+    MOST_TRANSFERS[sizes.part.number as usize - 1][sizes.macros - 1]
 }
 
 fn command(call: Call) -> u32 {

@@ -403,3 +403,106 @@ fn killing() {
     let played = play(&header, &image, &board, &Hitches::calm(0));
     assert_eq!((played.report.number, played.board.stored), (0, KILL));
 }
+
+/// The first and last requests of a session, in numbers alone: nothing here is computed by the
+/// programmes under test.
+#[test]
+fn requests_in_numbers() {
+    let image = vec![0x11; 16_416];
+    let header = Header { part: 1, macros: 1, sum: 0x4000, metadata: [0, 2, 0x0A, 1, 2, 0x9A, 0, 0, 0, 0, 0, 0], level: 2 };
+    let (mut board, mut lists, mut requests) = (Board::blank(&header, OPEN), Lists::default(), vec![]);
+    let (report, _) = step_through(&header, &image, None, |request| {
+        requests.push(request);
+        board.answer(request, &mut lists)
+    });
+    assert_eq!(report, Report { number: 0, step: 9, transfers: 27_279 });
+    let tar = |address: u32| (0x8B, address);
+    let write = |address, word| vec![tar(address), (0xBB, word)];
+    let read = |address| vec![tar(address), (0x9F, 0), (0x9F, 0)];
+    let call = |argument, command| {
+        let (arg, req) = (0x4010_0008, 0x4010_0004);
+        [write(arg, argument), write(req, command), read(req), read(arg)].concat()
+    };
+    let latch = |count: u32, words: u32| {
+        let mut all = [write(0x2000_0100, 0x0000_D7B6), write(0x2000_0104, count)].concat();
+        (0..words).for_each(|i| all.extend(write(0x2000_0108 + 4 * i, 0x1111_1111)));
+        [all, call(0x2000_0100, 0x8000_0004)].concat()
+    };
+    let first = [
+        vec![(0xA5, 0), (0xA9, 0x5400_0000), (0xB1, 0), (0xA3, 2)],
+        write(0x4003_0014, 0x8000_0000),
+        read(0x4003_0014),
+        read(0x4010_0004),
+        call(0x0000_E8B6, 0x8000_0015),
+        call(0x0000_D3B6, 0x8000_0000),
+        read(0x4010_0008),
+        read(0x4010_0004),
+        write(0x2000_0100, 0x0000_DDB6),
+        call(0x2000_0100, 0x8000_000A),
+        call(0x8000_DEB6, 0x8000_000B),
+        read(0x4010_0008),
+        latch(63, 16),
+        write(0x2000_0100, 0x0000_D9B6),
+        call(0x2000_0100, 0x8000_0006),
+        latch(63, 16),
+        write(0x2000_0100, 0x0001_D9B6),
+    ]
+    .concat();
+    let last = [
+        read(0x0000_3FFC),
+        latch(31, 8),
+        call(0x0002_E0B6, 0x8000_000D),
+        (0..8).flat_map(|i| read(0x0FFF_F000 + 4 * i)).collect(),
+        read(0x0FFF_F07C),
+        call(0x8000_DEB6, 0x8000_000B),
+        read(0x4010_0008),
+    ]
+    .concat();
+    let seen: Vec<(u8, u32)> = requests
+        .iter()
+        .filter_map(|request| match *request {
+            Request::Read { byte } => Some((byte, 0)),
+            Request::Write { byte, word, parity } => {
+                assert_eq!(parity, word.count_ones() % 2 == 1);
+                Some((byte, word))
+            }
+            _ => None,
+        })
+        .collect();
+    assert_eq!(requests[..2], [Request::Xres, Request::LineReset]);
+    assert_eq!(seen[..first.len()], first);
+    assert_eq!(seen[seen.len() - last.len()..], last);
+}
+
+/// The second macro of part 3, its rows and locks, and reopening, in numbers alone.
+#[test]
+fn second_macro_in_numbers() {
+    let mut image = vec![0; 131_200];
+    image[65_536] = 0x21;
+    image[131_072 + 64] = 0x43;
+    let header = Header { part: 3, macros: 2, sum: 0x21, metadata: [0, 2, 0x11, 1, 2, 0xA1, 0, 0, 0, 0, 0, 0], level: 1 };
+    let (mut board, mut lists, mut words) = (Board::blank(&header, PROTECTED), Lists::default(), vec![]);
+    step_through(&header, &image, None, |request| {
+        if let Request::Write { word, .. } = request {
+            words.push(word);
+        }
+        board.answer(request, &mut lists)
+    });
+    let holds = |part: &[u32]| words.windows(part.len()).filter(|window| *window == part).count();
+    // Reopening: SYSARG is k + 0x10000, then the set-up again.
+    assert_eq!(holds(&[0x4010_0008, 0x0001_E0B6, 0x4010_0004, 0x8000_000D, 0x4010_0004, 0x4010_0008, 0x5400_0000]), 1);
+    // Row 512's latch goes to macro 1, its number counts over the whole flash.
+    assert_eq!(holds(&[0x2000_0100, 0x0100_D7B6, 0x2000_0104, 127, 0x2000_0108, 0x21]), 1);
+    assert_eq!(holds(&[0x2000_0100, 0x01FF_D9B6]), 1);
+    assert_eq!(holds(&[0x2000_0100, 0x0200_D9B6]), 1);
+    assert_eq!(holds(&[0x2000_0100, 0x03FF_D9B6]), 1);
+    assert_eq!(holds(&[0x2000_0100, 0x0400_D9B6]), 0);
+    // Macro 1's locks: latch, 0x0D with level and macro, then its own address.
+    assert_eq!(holds(&[0x2000_0100, 0x0100_D7B6, 0x2000_0104, 63, 0x2000_0108, 0x43]), 1);
+    assert_eq!(holds(&[0x4010_0008, 0x0001_E0B6]), 2);
+    assert_eq!(holds(&[0x4010_0008, 0x0101_E0B6]), 1);
+    assert_eq!(holds(&[0x0FFF_F03C, 0x0FFF_F400, 0x0FFF_F404]), 1);
+    assert_eq!(holds(&[0x0FFF_F43C, 0x0FFF_F07C, 0x4010_0008, 0x8000_DEB6]), 1);
+    // No erasing after reopening.
+    assert_eq!(holds(&[0x8000_000A]), 0);
+}
