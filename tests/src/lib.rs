@@ -5,6 +5,7 @@ pub mod board;
 pub mod cases_hex;
 pub mod cases_session;
 pub mod counts;
+pub mod cross;
 pub mod flow;
 pub mod fnv;
 pub mod hex;

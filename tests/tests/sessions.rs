@@ -2,6 +2,7 @@
 
 use reference::board::{Board, CallOutcome, Ids, Line, LineEvent, Lists};
 use reference::counts::{plan, Entry};
+use reference::cross::random_run;
 use reference::flow::{self, Report};
 use reference::image::{header_for, Header};
 use reference::parts::{Sizes, IDCODE, KILL, LOCKS, OPEN, PROTECTED, SIZES, TEST_MODE};
@@ -43,69 +44,14 @@ fn dry_run() {
     assert_eq!(played.report, Report { number: 0, step: 9, transfers: 27_279 });
 }
 
-/// A board and lists with hitches of every kind.
-fn random_run(rng: &mut Rng, part: u32, macros: u32) -> Played {
-    let (header, image) = sample_image(rng, part, macros);
-    let stored = *rng.pick(&[OPEN, PROTECTED]);
-    let mut board = Board::any(rng, &header, stored);
-    board.ids.revision = rng.byte();
-    if part != 2 {
-        board.ids.low = rng.byte();
-    }
-    let total = plan(&sizes(&header), entry(stored));
-    let calls = reference::counts::loops(&sizes(&header), entry(stored));
-    let mut lists = Hitches::calm(rng.next());
-    for _ in 0..1 + rng.below(2) {
-        // An early place half of the time, so that every step has its failures.
-        let near = rng.bit();
-        let place = |rng: &mut Rng, most: u64| rng.below(if near { most.min(100) } else { most } as usize) as u64;
-        match rng.below(9) {
-            0 => lists.wait_one_in = 20 + rng.below(200),
-            1 => (lists.busy_one_in, lists.most_busy) = (1 + rng.below(5), 1 + rng.below(40)),
-            2 | 3 => {
-                let line = *rng.pick(&[Line::Fault, Line::SilentCarriedOut, Line::SilentLost, Line::WrongParity]);
-                let at = place(rng, total);
-                lists.line.insert(at, Hitches::event(rng, line));
-            }
-            4 => {
-                let (at, run) = (place(rng, total), 10 + rng.below(14) as u64);
-                for place in at..at + run {
-                    lists.line.insert(place, Hitches::event(rng, Line::Wait));
-                }
-            }
-            5 => {
-                let at = place(rng, calls);
-                lists.calls.insert(at, Hitches::failure(rng));
-            }
-            6 => {
-                let (at, busy) = (place(rng, calls), 19_990 + rng.below(20) as u32);
-                lists.calls.insert(at, CallOutcome { busy, ..CallOutcome::OK });
-            }
-            7 => {
-                let lines = [Line::Wait, Line::Fault, Line::SilentCarriedOut, Line::SilentLost, Line::WrongParity];
-                for place in 0..25 + rng.below(8) as u64 {
-                    let line = *rng.pick(&lines);
-                    lists.line.insert(place, Hitches::event(rng, line));
-                }
-            }
-            _ => match rng.below(4) {
-                0 => board.ids.idcode ^= 1 << rng.below(32),
-                1 => board.ids.high = board.ids.high.wrapping_add(1 + rng.byte() % 255),
-                2 => board.ids.family ^= 1 << rng.below(8),
-                _ => board.ids.low = rng.byte(),
-            },
-        }
-    }
-    play(&header, &image, &board, &lists)
-}
-
 #[test]
 fn demand_3_on_random_runs() {
     let mut rng = Rng(12);
     let mut numbers = BTreeMap::new();
     for round in 0..260 {
         let (part, macros) = SIZES[[0, 0, 1, 0, 2, 0, 1, 3][round % 8]];
-        let played = random_run(&mut rng, part, macros);
+        let run = random_run(&mut rng, part, macros);
+        let played = play(&run.header, &run.image, &run.board, &run.lists);
         *numbers.entry(played.report.number).or_insert(0) += 1;
     }
     println!("{numbers:?}");
