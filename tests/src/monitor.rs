@@ -9,7 +9,10 @@ use crate::wire::{acknowledgement, parity, Ack, Answer, Register, Request};
 enum Loop {
     None,
     /// Reads of SYSREQ after a call's write of SYSREQ, or after the Read of TEST_MODE.
-    Polling { call: bool, busy: u32 },
+    Polling {
+        call: bool,
+        busy: u32,
+    },
     /// The first Read of SYSARG after a call.
     StatusDue,
 }

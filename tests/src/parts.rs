@@ -149,8 +149,7 @@ mod tests {
 
     #[test]
     fn sizes() {
-        let images: Vec<usize> =
-            SIZES.iter().map(|&(p, m)| Sizes::of(p, m).unwrap().image()).collect();
+        let images: Vec<usize> = SIZES.iter().map(|&(p, m)| Sizes::of(p, m).unwrap().image()).collect();
         assert_eq!(images, [16384 + 32, 32768 + 32, 65536 + 64, 131072 + 128]);
     }
 

@@ -212,7 +212,14 @@ pub fn play(header: &Header, image: &[u8], board: &Board, fate: &Hitches) -> Pla
 }
 
 /// The waiting programme hands out the same requests and ends with the same report.
-fn assert_same_as_flow(header: &Header, image: &[u8], board: &Board, fate: &Hitches, report: Report, requests: u64) {
+fn assert_same_as_flow(
+    header: &Header,
+    image: &[u8],
+    board: &Board,
+    fate: &Hitches,
+    report: Report,
+    requests: u64,
+) {
     let (mut board, mut lists) = (board.clone(), fate.clone());
     let mut sum = Fnv::default();
     let plain = flow::run(header, image, |request| {
