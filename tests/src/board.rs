@@ -97,7 +97,7 @@ impl Board {
     }
 
     fn place(&self, address: u32) -> Place {
-        if address % 4 != 0 {
+        if address & 3 != 0 {
             return Place::Elsewhere;
         }
         let part = self.sizes.part;

@@ -123,10 +123,10 @@ impl Monitor {
         const DRW: u8 = Register::Drw.write_byte();
         match request {
             Request::Write { byte: TAR, word, .. } => (self.address, self.reads) = (Some(word), 0),
-            Request::Write { byte: DRW, word, .. } => {
-                if self.address == Some(self.sysreq) && word & BIT_31 != 0 {
-                    self.state = Loop::Polling { call: true, busy: 0 };
-                }
+            Request::Write { byte: DRW, word, .. }
+                if self.address == Some(self.sysreq) && word & BIT_31 != 0 =>
+            {
+                self.state = Loop::Polling { call: true, busy: 0 };
             }
             Request::Read { .. } => {
                 self.reads += 1;

@@ -67,7 +67,7 @@ impl Hitches {
                 break status;
             }
         };
-        let scramble = rng.bit().then(|| rng.next());
+        let scramble = rng.bit().then(|| rng.draw());
         CallOutcome { busy: rng.below(5) as u32, success: false, status, scramble, stores: rng.bit() }
     }
 }

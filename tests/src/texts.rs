@@ -178,7 +178,7 @@ mod tests {
         for round in 0..40 {
             let (part, macros) = SIZES[round % 4];
             let (header, image) = sample_image(&mut rng, part, macros);
-            let (mut a, mut b) = (rng.clone(), Rng(rng.next()));
+            let (mut a, mut b) = (rng.clone(), Rng(rng.draw()));
             let most = [1, 16, 64, 255][rng.below(4)];
             let made = lines(&sections(&header, &image), || 1 + a.below(most), || b.below(3) / 2);
             let made = text(&mut rng, &made, Choice::Either, Choice::Either);

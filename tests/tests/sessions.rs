@@ -32,7 +32,7 @@ fn calm_sessions_take_the_plan() {
         for stored in [OPEN, PROTECTED] {
             let (header, image) = sample_image(&mut rng, part, macros);
             let board = Board::any(&mut rng, &header, stored);
-            let played = play(&header, &image, &board, &Hitches::calm(rng.next()));
+            let played = play(&header, &image, &board, &Hitches::calm(rng.draw()));
             let transfers = plan(&sizes(&header), entry(stored)) as u32;
             assert_eq!(played.report, Report { number: 0, step: 9, transfers });
         }

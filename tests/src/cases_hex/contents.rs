@@ -96,7 +96,7 @@ impl Maker<'_> {
     pub(super) fn damage(&mut self) {
         for round in 0..220 {
             let sections = self.sections();
-            let (mut a, mut b) = (Rng(self.rng.next()), Rng(self.rng.next()));
+            let (mut a, mut b) = (Rng(self.rng.draw()), Rng(self.rng.draw()));
             let made = lines(&sections, || 1 + a.below(24), || b.below(5) / 4);
             let mut text = texts::text(&mut self.rng, &made[..12], Choice::Either, Choice::Either);
             for _ in 0..1 + self.rng.below(2) {

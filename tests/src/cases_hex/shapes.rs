@@ -18,7 +18,7 @@ impl Maker<'_> {
         ];
         for (name, count, small, lf, needless) in forms {
             let sections = self.sections();
-            let mut rng = Rng(self.rng.next());
+            let mut rng = Rng(self.rng.draw());
             let mut first = name == "as written";
             let made = lines(
                 &sections,
@@ -70,7 +70,7 @@ impl Maker<'_> {
     fn many_lengths(&mut self) {
         // Random lengths from 1 to 255, with any number of type 4 records between.
         let sections = self.sections();
-        let (mut a, mut b) = (Rng(self.rng.next()), Rng(self.rng.next()));
+        let (mut a, mut b) = (Rng(self.rng.draw()), Rng(self.rng.draw()));
         let made = lines(&sections, || 1 + a.below(255), || b.below(9) / 7);
         let text = texts::text(&mut self.rng, &made, Choice::Either, Choice::Either);
         self.one("random lengths", 0, text);

@@ -107,6 +107,10 @@ impl Maker {
             change(&mut case);
             self.add(name, (number, 0), &case, &[]);
         }
+        self.other_starts();
+    }
+
+    fn other_starts(&mut self) {
         for (low, number) in [(0x80, 7), (0x9F, 7)] {
             let mut case = self.base(2, 1, OPEN);
             case.header.metadata[3] = low;

@@ -37,7 +37,7 @@ pub fn random_run(rng: &mut Rng, part: u32, macros: u32) -> Run {
     if part != 2 {
         board.ids.low = rng.byte();
     }
-    let lists = Hitches::calm(rng.next());
+    let lists = Hitches::calm(rng.draw());
     let mut run = Run { header, image, board, lists, tampered: None };
     for _ in 0..1 + rng.below(2) {
         run.hitch(rng);
@@ -170,7 +170,7 @@ pub fn sessions(core: &impl Core, seed: u64, rounds: usize) -> Counts {
         let (part, macros) = SIZES[[0, 0, 0, 1, 0, 2, 0, 3][round % 8]];
         let mut run = random_run(&mut rng, part, macros);
         if rng.chance(3) {
-            run.lists = Hitches::calm(rng.next());
+            run.lists = Hitches::calm(rng.draw());
             run.board.ids = Ids::of(&run.header);
             run.tamper(&mut rng);
         }

@@ -33,8 +33,10 @@ pub fn texts(core: &impl Core, seed: u64, rounds: usize) -> Counts {
             room = rng.below(room);
         }
         let fill = rng.byte();
-        (ours.clear(), theirs.clear());
-        (ours.resize(room, fill), theirs.resize(room, fill));
+        for buffer in [&mut ours, &mut theirs] {
+            buffer.clear();
+            buffer.resize(room, fill);
+        }
         let expected = hex::read(part, macros, &text, &mut ours);
         let got = core.read(part, macros, &text, &mut theirs);
         assert_eq!(got, expected, "round {round}");
@@ -90,7 +92,7 @@ fn base_text(rng: &mut Rng) -> (u32, u32, Vec<u8>) {
         }
         _ => {}
     }
-    let (mut a, mut b) = (Rng(rng.next()), Rng(rng.next()));
+    let (mut a, mut b) = (Rng(rng.draw()), Rng(rng.draw()));
     let (most, fixed) = (*rng.pick(&[16, 32, 64, 255]), rng.bit());
     let needless = if rng.bit() { 0 } else { 3 };
     let lines = texts::lines(
