@@ -282,3 +282,6 @@ impl Board {
         }
     }
 }
+
+#[cfg(test)]
+mod tests;

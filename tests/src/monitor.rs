@@ -168,3 +168,87 @@ impl Monitor {
         }
     }
 }
+
+#[cfg(test)]
+mod tests {
+    use super::*;
+
+    fn ok(word: u32) -> Answer {
+        Answer::Wire { ack: 1, word, parity: parity(word) }
+    }
+
+    /// A Read of an address that gives this word.
+    fn read(monitor: &mut Monitor, address: u32, word: u32) {
+        monitor.observe(Request::write(Register::Tar, address), ok(0));
+        monitor.observe(Request::read(Register::Drw), ok(!word));
+        monitor.observe(Request::read(Register::Drw), ok(word));
+    }
+
+    fn monitor() -> Monitor {
+        Monitor::new(&Sizes::of(2, 1).unwrap())
+    }
+
+    const SYSREQ: u32 = 0x4000_0004;
+    const SYSARG: u32 = 0x4000_0008;
+
+    /// 19 is about the first Read of SYSARG after a call, and only after one.
+    #[test]
+    fn status() {
+        let mut m = monitor();
+        read(&mut m, TEST_MODE, BIT_31);
+        read(&mut m, SYSREQ, 0);
+        read(&mut m, SYSARG, 0);
+        assert_eq!(m.mishap, None);
+        monitor_call(&mut m);
+        read(&mut m, SYSREQ, BIT_31);
+        read(&mut m, SYSREQ, 0);
+        read(&mut m, SYSARG, 0xA000_0000);
+        read(&mut m, SYSARG, 0);
+        read(&mut m, SYSREQ, BIT_31);
+        assert_eq!((m.mishap, m.busy_polls), (None, 1));
+        monitor_call(&mut m);
+        read(&mut m, SYSREQ, 0);
+        read(&mut m, SYSARG, 0xB000_0000);
+        assert_eq!(m.mishap, Some(19));
+    }
+
+    fn monitor_call(monitor: &mut Monitor) {
+        monitor.observe(Request::write(Register::Tar, SYSREQ), ok(0));
+        monitor.observe(Request::write(Register::Drw, BIT_31), ok(0));
+    }
+
+    /// A loop's count starts afresh; bit 28 alone is busy too.
+    #[test]
+    fn poll_loops() {
+        let mut m = monitor();
+        for _ in 0..2 {
+            monitor_call(&mut m);
+            (0..9_999).for_each(|_| read(&mut m, SYSREQ, 0x1000_0000));
+            read(&mut m, SYSREQ, 0);
+            assert_eq!(m.mishap, None);
+        }
+        monitor_call(&mut m);
+        (0..10_000).for_each(|_| read(&mut m, SYSREQ, 0x1000_0000));
+        assert_eq!(m.mishap, Some(18));
+    }
+
+    #[test]
+    fn test_bit() {
+        let mut m = monitor();
+        read(&mut m, TEST_MODE, !BIT_31);
+        assert_eq!(m.mishap, Some(17));
+    }
+
+    /// "Inside the IDCODE attempts only 26 counts."
+    #[test]
+    fn attempts() {
+        let mut m = monitor();
+        let wrong = [(2, true), (4, true), (0, true), (1, true)];
+        for &(ack, parity) in wrong.iter().cycle().take(29) {
+            m.observe(Request::read(Register::IdCode), Answer::Wire { ack, word: 0, parity });
+        }
+        assert_eq!((m.mishap, m.failed_attempts, m.waits), (None, 29, 0));
+        m.observe(Request::read(Register::IdCode), Answer::Wire { ack: 7, word: 0, parity: false });
+        assert_eq!(m.mishap, Some(26));
+    }
+}
