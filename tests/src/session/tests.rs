@@ -68,7 +68,7 @@ fn forged_sessions() {
         let most = most_transfers(&header.sizes().unwrap());
         let place = forged_place(&mut rng);
         let transfers = match place {
-            Place::Reported(report) => report.transfers,
+            Place::Reported(report) if !rng.chance(4) => report.transfers,
             _ => *rng.pick(&[0, 1, 1_000, most - 1, most, most + 1]),
         };
         let mut session = Session {
@@ -83,6 +83,9 @@ fn forged_sessions() {
             transfers,
         };
         let first = session.possible().is_some();
+        if let Place::Reported(report) = place {
+            assert!(!first || report.transfers == session.transfers);
+        }
         (possible, impossible) = (possible + u32::from(first), impossible + u32::from(!first));
         for _ in 0..6 {
             let word = *rng.pick(&[0, IDCODE, 0x8000_0000, 0xA000_0000, image.len() as u32]);
