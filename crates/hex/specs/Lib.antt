@@ -1,0 +1,4 @@
+pub mod Records
+pub mod Texts
+pub mod Written
+pub mod Examples

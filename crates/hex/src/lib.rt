@@ -1,0 +1,1 @@
+// Intel hex text (document 01, 'Hex text').
