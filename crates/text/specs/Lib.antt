@@ -2,3 +2,4 @@ pub mod Digits
 pub mod Lines
 pub mod Placing
 pub mod Reading
+pub mod Spelling

@@ -1,8 +1,372 @@
 // What the text formats share: digit pairs, line ends, the sections that are due, and the answer of reading (document 01, 'Hex text').
+ghost use mathlib.Core.Path.{_≡_};
+ghost use Prim.Native.Nat.{_+_, _*_, _≤_};
+ghost use lib.ListN.{length};
+ghost use lib.Dec.{eqb};
+ghost use lib.Seq.{sets};
+ghost use Rattle.image.specs.Words.{total};
+ghost use Rattle.text.specs.Digits.{digitOf};
+ghost use Rattle.text.specs.Spelling.{digitsFrom, front, pairsAt, runOf, rowAfter, lineEnd};
 use image::Header;
+
+// The value of each byte as a hex digit of either case, and 16 where it is none.
+const DIGITS: [u8; 256] = [
+    16,
+    16,
+    16,
+    16,
+    16,
+    16,
+    16,
+    16,
+    16,
+    16,
+    16,
+    16,
+    16,
+    16,
+    16,
+    16,
+    16,
+    16,
+    16,
+    16,
+    16,
+    16,
+    16,
+    16,
+    16,
+    16,
+    16,
+    16,
+    16,
+    16,
+    16,
+    16,
+    16,
+    16,
+    16,
+    16,
+    16,
+    16,
+    16,
+    16,
+    16,
+    16,
+    16,
+    16,
+    16,
+    16,
+    16,
+    16,
+    0,
+    1,
+    2,
+    3,
+    4,
+    5,
+    6,
+    7,
+    8,
+    9,
+    16,
+    16,
+    16,
+    16,
+    16,
+    16,
+    16,
+    10,
+    11,
+    12,
+    13,
+    14,
+    15,
+    16,
+    16,
+    16,
+    16,
+    16,
+    16,
+    16,
+    16,
+    16,
+    16,
+    16,
+    16,
+    16,
+    16,
+    16,
+    16,
+    16,
+    16,
+    16,
+    16,
+    16,
+    16,
+    16,
+    16,
+    16,
+    16,
+    10,
+    11,
+    12,
+    13,
+    14,
+    15,
+    16,
+    16,
+    16,
+    16,
+    16,
+    16,
+    16,
+    16,
+    16,
+    16,
+    16,
+    16,
+    16,
+    16,
+    16,
+    16,
+    16,
+    16,
+    16,
+    16,
+    16,
+    16,
+    16,
+    16,
+    16,
+    16,
+    16,
+    16,
+    16,
+    16,
+    16,
+    16,
+    16,
+    16,
+    16,
+    16,
+    16,
+    16,
+    16,
+    16,
+    16,
+    16,
+    16,
+    16,
+    16,
+    16,
+    16,
+    16,
+    16,
+    16,
+    16,
+    16,
+    16,
+    16,
+    16,
+    16,
+    16,
+    16,
+    16,
+    16,
+    16,
+    16,
+    16,
+    16,
+    16,
+    16,
+    16,
+    16,
+    16,
+    16,
+    16,
+    16,
+    16,
+    16,
+    16,
+    16,
+    16,
+    16,
+    16,
+    16,
+    16,
+    16,
+    16,
+    16,
+    16,
+    16,
+    16,
+    16,
+    16,
+    16,
+    16,
+    16,
+    16,
+    16,
+    16,
+    16,
+    16,
+    16,
+    16,
+    16,
+    16,
+    16,
+    16,
+    16,
+    16,
+    16,
+    16,
+    16,
+    16,
+    16,
+    16,
+    16,
+    16,
+    16,
+    16,
+    16,
+    16,
+    16,
+    16,
+    16,
+    16,
+    16,
+    16,
+    16,
+    16,
+    16,
+    16,
+    16,
+    16,
+    16,
+    16,
+    16,
+    16,
+    16,
+    16,
+    16,
+    16,
+    16,
+    16,
+    16,
+    16,
+    16,
+    16,
+    16,
+    16,
+    16,
+    16,
+    16,
+    16,
+    16,
+    16,
+    16,
+    16,
+];
+
+// What a run of pairs comes to.
+pub struct Run {
+    pub good: bool,
+    pub sum: u32,
+}
 
 // What reading gives: 0 and the image's header, or a refusal's number and a header of zeros.
 pub struct ReadAnswer {
     pub number: u8,
     pub header: Header,
+}
+
+// The value of a hex digit, by the table.
+fn digit(table: &[u8; 256], c: u8) -> u8
+    requires { ⌜ now table ≡ digitsFrom 0 256 ⌝ }
+    ensures { λ r. ⌜ r ≡ digitOf c ⌝ }
+{
+    table[c as usize]
+}
+
+// Spells k pairs from p on into the row, up to the first that is none.
+fn spell_pairs(row: &mut [u8], text: &[u8], p: usize, k: usize) -> Run
+    requires { ⌜ (p + 2 * k ≤ length (now text)) × (k ≤ length (now row)) × (k ≤ 260) ⌝ }
+    ensures { λ r. ⌜ r ≡ record { good = eqb (length (front (pairsAt (now (text .entry)) p k))) k; sum = total (front (pairsAt (now (text .entry)) p k)) } ⌝ }
+    ensures { λ _. ⌜ now (row .exit) ≡ sets (now (row .entry)) 0 (front (pairsAt (now (text .entry)) p k)) ⌝ }
+{
+    let table = DIGITS;
+    let mut q = p;
+    let mut i: usize = 0;
+    let mut left = k;
+    let mut sum: u32 = 0;
+    while 0 < left {
+        let h = digit(&table, text[q]);
+        let l = digit(&table, text[q + 1]);
+        if 15 < h {
+            return Run { good: false, sum };
+        }
+        if 15 < l {
+            return Run { good: false, sum };
+        }
+        let b = 16 * h + l;
+        row[i] = b;
+        sum += b as u32;
+        q += 2;
+        i += 1;
+        left -= 1;
+    }
+    Run { good: true, sum }
+}
+
+// Spells k pairs from p on into the row, up to the first that is none; nothing where they lie past the text or the row.
+pub fn spell(row: &mut [u8], text: &[u8], p: usize, k: usize) -> Run
+    ensures { λ r. ⌜ r ≡ runOf (now (text .entry)) p k (length (now (row .entry))) ⌝ }
+    ensures { λ _. ⌜ now (row .exit) ≡ rowAfter (now (row .entry)) (now (text .entry)) p k ⌝ }
+{
+    if 260 < k {
+        return Run {
+            good: false,
+            sum: 0,
+        };
+    }
+    if row.len() < k {
+        return Run {
+            good: false,
+            sum: 0,
+        };
+    }
+    if text.len() < p {
+        return Run {
+            good: false,
+            sum: 0,
+        };
+    }
+    if text.len() - p < 2 * k {
+        return Run {
+            good: false,
+            sum: 0,
+        };
+    }
+    spell_pairs(row, text, p, k)
+}
+
+// How many characters the line end at a position has: LF 1, CR LF 2, none 0.
+pub fn line_end(text: &[u8], at: usize) -> usize
+    ensures { λ r. ⌜ r ≡ lineEnd (now (text .entry)) at ⌝ }
+{
+    if text.len() <= at {
+        return 0;
+    }
+    if text[at] == 10 {
+        return 1;
+    }
+    if text[at] == 13 {
+        if at + 1 < text.len() {
+            if text[at + 1] == 10 {
+                return 2;
+            }
+        }
+    }
+    0
 }
