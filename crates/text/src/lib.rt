@@ -1,13 +1,19 @@
 // What the text formats share: digit pairs, line ends, the sections that are due, and the answer of reading (document 01, 'Hex text').
 ghost use mathlib.Core.Path.{_≡_};
+ghost use mathlib.Core.List.{_++_};
 ghost use Prim.Native.Nat.{_+_, _*_, _≤_};
-ghost use lib.ListN.{length};
+ghost use lib.ListN.{length, take, drop, replicate};
 ghost use lib.Dec.{eqb};
 ghost use lib.Seq.{sets};
 ghost use Rattle.image.specs.Words.{total};
 ghost use Rattle.text.specs.Digits.{digitOf};
 ghost use Rattle.text.specs.Spelling.{digitsFrom, front, pairsAt, runOf, rowAfter, lineEnd};
+ghost use Rattle.image.specs.declared.Home.the-variants.{InImage, InHeader};
+ghost use Rattle.text.specs.Reading.{noHeader};
+ghost use Rattle.text.specs.Storing.{storedAt, storedIn, cleared};
 use image::Header;
+use image::Home;
+use image::Section;
 
 mod table;
 
@@ -111,4 +117,104 @@ pub fn line_end(text: &[u8], at: usize) -> usize
         }
     }
     0
+}
+
+// Copies n bytes of the row, from `from` on, into dst.
+fn copy(dst: &mut [u8], to: usize, row: &[u8], from: usize, n: usize)
+    requires { ⌜ (from + n ≤ length (now row)) × (to + n ≤ length (now dst)) ⌝ }
+    ensures { λ _. ⌜ now (dst .exit) ≡ sets (now (dst .entry)) to (take n (drop from (now (row .entry)))) ⌝ }
+{
+    let mut i = from;
+    let mut j = to;
+    let mut left = n;
+    while 0 < left {
+        dst[j] = row[i];
+        i += 1;
+        j += 1;
+        left -= 1;
+    }
+}
+
+// The same, and nothing where the row or dst is too short.
+fn store(dst: &mut [u8], to: usize, row: &[u8], from: usize, n: usize)
+    ensures { λ _. ⌜ now (dst .exit) ≡ storedAt (now (dst .entry)) to (now (row .entry)) from n ⌝ }
+{
+    if row.len() < n {
+        return;
+    }
+    if row.len() - n < from {
+        return;
+    }
+    if dst.len() < n {
+        return;
+    }
+    if dst.len() - n < to {
+        return;
+    }
+    copy(dst, to, row, from, n);
+}
+
+// The same for an image: past the flash the part after it is lent.
+fn store_image(image: &mut [u8], flash: usize, to: usize, row: &[u8], from: usize, n: usize)
+    ensures { λ _. ⌜ now (image .exit) ≡ storedAt (now (image .entry)) to (now (row .entry)) from n ⌝ }
+{
+    if to < flash {
+        store(image, to, row, from, n);
+        return;
+    }
+    if image.len() < flash {
+        return;
+    }
+    store(&mut image[flash..], to - flash, row, from, n);
+}
+
+// Puts n data bytes of a row where the section that is due lies: in the image, or in the header's bytes.
+pub fn fill(
+    image: &mut [u8],
+    header: &mut [u8],
+    flash: usize,
+    due: Section,
+    row: &[u8],
+    from: usize,
+    n: usize,
+)
+    ensures { λ _. ⌜ now (image .exit) ≡ storedIn InImage (now (image .entry)) due (now (row .entry)) from n ⌝ }
+    ensures { λ _. ⌜ now (header .exit) ≡ storedIn InHeader (now (header .entry)) due (now (row .entry)) from n ⌝ }
+{
+    let home = due.home;
+    let to = due.offset;
+    match home {
+        Home::InImage => store_image(image, flash, to, row, from, n),
+        Home::InHeader => store(header, to, row, from, n),
+    }
+}
+
+// Zeroes the first n bytes, where there are so many.
+pub fn clear(bytes: &mut [u8], n: usize)
+    ensures { λ _. ⌜ now (bytes .exit) ≡ cleared n (now (bytes .entry)) ⌝ }
+{
+    if bytes.len() < n {
+        return;
+    }
+    let mut i: usize = 0;
+    while i < n {
+        bytes[i] = 0;
+        i += 1;
+    }
+}
+
+// A refusal: its number, and a header of zeros.
+pub fn refusal(number: u8) -> ReadAnswer
+    ensures { λ r. ⌜ r ≡ record { number = number; header = noHeader } ⌝ }
+{
+    ReadAnswer {
+        number,
+        header: Header {
+            part: 0,
+            macros: 0,
+            sum: 0,
+            metadata: [0u8; 12],
+            level: 0,
+        },
+    }
 }
