@@ -1,3 +1,4 @@
 pub mod Spelling
 pub mod Ends
 pub mod Storing
+pub mod Lines
