@@ -2,3 +2,4 @@ pub mod Records
 pub mod Texts
 pub mod Written
 pub mod Examples
+pub mod Steps

@@ -2,3 +2,4 @@ pub mod Spelling
 pub mod Ends
 pub mod Storing
 pub mod Lines
+pub mod Positions
