@@ -3,3 +3,4 @@ pub mod Ends
 pub mod Storing
 pub mod Lines
 pub mod Positions
+pub mod Settling

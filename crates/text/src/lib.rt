@@ -9,8 +9,8 @@ ghost use Rattle.image.specs.Words.{total};
 ghost use Rattle.text.specs.Digits.{digitOf};
 ghost use Rattle.text.specs.Spelling.{digitsFrom, front, pairsAt, runOf, rowAfter, lineEnd};
 ghost use Rattle.image.specs.declared.Home.the-variants.{InImage, InHeader};
-ghost use Rattle.text.specs.Reading.{noHeader};
-ghost use Rattle.text.specs.Storing.{storedAt, storedIn, cleared};
+ghost use Rattle.text.specs.Reading.{noHeader, answerOf, bufferAfter};
+ghost use Rattle.text.specs.Storing.{storedAt, storedIn, cleared, settled};
 use image::Header;
 use image::Home;
 use image::Section;
@@ -217,4 +217,22 @@ pub fn refusal(number: u8) -> ReadAnswer
             level: 0,
         },
     }
+}
+
+// Checks an image that was read: its header, or the number of what is wrong with it and zeros in its place.
+pub fn settle(part: u8, macros: u8, header: [u8; 15], image: &mut [u8]) -> ReadAnswer
+    ensures { λ r. ⌜ r ≡ answerOf (settled part macros header (now (image .entry))) ⌝ }
+    ensures { λ _. ⌜ now (image .exit) ≡ bufferAfter (settled part macros header (now (image .entry))) (now (image .entry)) ⌝ }
+{
+    let h = image::header_of(part, macros, header);
+    let number = image::check(h, image);
+    if number == 0 {
+        return ReadAnswer {
+            number: 0,
+            header: h,
+        };
+    }
+    let all = image.len();
+    clear(image, all);
+    refusal(number)
 }
