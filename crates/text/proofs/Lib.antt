@@ -4,3 +4,4 @@ pub mod Storing
 pub mod Lines
 pub mod Positions
 pub mod Settling
+pub mod Placing
