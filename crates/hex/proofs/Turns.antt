@@ -110,7 +110,8 @@ module _ (s : List ℕ) (at next u : ℕ) (due : Section) (row : List ℕ) (l : 
   early ss = ends (due ∷ ss)
 
   by-end : (a b : Bool) → eqb (due .size) 0 ≡ a → eqb next (length s) ≡ b → TurnAt s at u due (cond (a && b) Done (Stop 5)) row
-  by-end true true p q = λ ss. ap (λ (t : Bool). outcomeAt s at u (cond t [] (due ∷ ss))) p ∙ last (eqb-true next (length s) q)
+  by-end true true p q =
+      ((λ ss. ap (λ (t : Bool). outcomeAt s at u (cond t [] (due ∷ ss))) p ∙ last (eqb-true next (length s) q)), eqb-true (due .size) 0 p)
   by-end true false p q = λ ss. ap (λ (t : Bool). outcomeAt s at u (cond t [] (due ∷ ss))) p ∙ followed (eqb-false next (length s) q)
   by-end false b p q = λ ss. ap (λ (t : Bool). outcomeAt s at u (cond t [] (due ∷ ss))) p ∙ early ss
 

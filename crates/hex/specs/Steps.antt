@@ -6,20 +6,25 @@ use Prim.Native.Nat.{ℕ, _+_, _*_, _≤_, _<_}
 use lib.Dec.{eqb, leb}
 use lib.ListN.{length, getD, take, drop}
 use Rattle.hex.specs.Records.{Record, BadRecord, DataRecord, ExtendedAddress, EndRecord, lineRecord, recordOf}
-use Rattle.hex.specs.Texts.{events}
+use Rattle.hex.specs.Texts.{events, outcomeOf}
 use Rattle.hex.specs.declared.Due.{Due}
 use Rattle.hex.specs.declared.Found.{Found}
 use Rattle.hex.specs.declared.Found.the-variants.{Refused, Payload, Extended, Ended}
 use Rattle.hex.specs.declared.Frame.{Frame}
 use Rattle.hex.specs.declared.Frame.the-variants.{Broken, Framed}
+use Rattle.hex.specs.declared.Scanned.{Scanned}
+use Rattle.hex.specs.declared.Scanned.the-variants.{Bad, Whole}
 use Rattle.hex.specs.declared.Turn.{Turn}
 use Rattle.hex.specs.declared.Turn.the-variants.{Stop, Done, Moved, Store}
-use Rattle.image.specs.Sections.{sectionsOf}
+use Rattle.image.specs.Sections.{sectionsOf, noSection}
 use Rattle.image.specs.Words.{total}
+use Rattle.image.specs.declared.Home.the-variants.{InImage, InHeader}
 use Rattle.image.specs.declared.Section.{Section}
+use Rattle.parts.specs.Sizes.{flashSize, lockTotal}
 use Rattle.parts.specs.declared.Geometry.{Geometry}
 use Rattle.text.specs.Lines.{Line, linesOf}
-use Rattle.text.specs.Placing.{Outcome, Refusal, Stream, place, after, advance}
+use Rattle.text.specs.Placing.{Outcome, Refusal, Stream, place, after, advance, restOf}
+use Rattle.text.specs.Storing.{laid}
 
 -- the first line at a position is such a record
 pub record LineAt (text : List ℕ) (at : ℕ) (r : Record) : Type 0 where
@@ -85,7 +90,7 @@ endTurn due next len = cond (eqb (due .size) 0 && eqb next len) Done (Stop 5)
 -- what a turn does to the outcome, whatever sections follow the one that is due
 abbrev pub TurnAt : (text : List ℕ) (at upper : ℕ) → Section → Turn → (row : List ℕ) → Type 0
 TurnAt text at upper due (Stop n) row = (ss : List Section) → outcomeAt text at upper (dues due ss) ≡ Refusal n
-TurnAt text at upper due Done row = (ss : List Section) → outcomeAt text at upper (dues due ss) ≡ Stream []
+TurnAt text at upper due Done row = ((ss : List Section) → outcomeAt text at upper (dues due ss) ≡ Stream []) × (due .size ≡ 0)
 TurnAt text at upper due (Moved next new) row =
     ((ss : List Section) → outcomeAt text at upper ss ≡ outcomeAt text next new ss) × (at < next) × (next ≤ length text) × (new < 65536)
 TurnAt text at upper due (Store count next) row =
@@ -95,3 +100,27 @@ TurnAt text at upper due (Store count next) row =
     × (1 ≤ count)
     × (count ≤ 255)
     × (count ≤ due .size)
+
+-- the sizes of a part in the table
+pub record Sized (g : Geometry) : Type 0 where
+  pub flash-some : 0 < flashSize g
+  pub flash-most : flashSize g ≤ 131072
+  pub locks-some : 0 < lockTotal g
+  pub locks-most : lockTotal g ≤ 128
+
+-- what is due after count bytes
+abbrev pub advancedOf : Geometry → Due → (count : ℕ) → Due
+advancedOf g d count =
+    cond (eqb count (d .section .size)) (record { section = getD (sectionsOf g) (d .next) noSection; next = d .next + 1 })
+    (record { section = restOf count (d .section); next = d .next })
+
+-- a text whose records all are in place, and where its bytes are
+pub record Filled (text : List ℕ) (g : Geometry) (image₀ header₀ image header : List ℕ) : Type 0 where
+  pub stream : List ℕ
+  pub is : outcomeOf text (sectionsOf g) ≡ Stream stream
+  pub image-is : image ≡ laid InImage (sectionsOf g) stream image₀
+  pub header-is : header ≡ laid InHeader (sectionsOf g) stream header₀
+
+abbrev pub ScannedAs : (text : List ℕ) (g : Geometry) (image₀ header₀ : List ℕ) → Scanned → (image header : List ℕ) → Type 0
+ScannedAs text g image₀ header₀ (Bad n) image header = outcomeOf text (sectionsOf g) ≡ Refusal n
+ScannedAs text g image₀ header₀ Whole image header = Filled text g image₀ header₀ image header

@@ -2,8 +2,16 @@
 ghost use mathlib.Core.Path.{_≡_};
 ghost use Prim.Native.Nat.{_+_, _*_, _≤_, _<_};
 ghost use lib.ListN.{length, getD};
-ghost use Rattle.hex.specs.Steps.{FrameAt, foundIn, FoundAt, dataTurn, endTurn, TurnAt};
+ghost use Rattle.hex.specs.Steps.{FrameAt, foundIn, FoundAt, dataTurn, endTurn, TurnAt, Sized, advancedOf, ScannedAs};
+ghost use Rattle.hex.specs.Texts.{outcomeOf, hexReading};
+ghost use Rattle.image.specs.Sections.{sectionsOf};
+ghost use Rattle.parts.specs.Parts.{lookupOf};
+ghost use Rattle.parts.specs.Sizes.{imageSize};
+ghost use Rattle.text.specs.Reading.{judged, answerOf, bufferAfter};
 use image::Section;
+use parts::Geometry;
+use parts::Lookup;
+use text::ReadAnswer;
 use text::Run;
 
 // The frame of a line: it is broken, or has so many payload bytes, a sum, and a place where the next line begins.
@@ -44,6 +52,14 @@ enum Turn {
     Moved { next: usize, upper: u32 },
     // Payload for the section that is due.
     Store { count: usize, next: usize },
+}
+
+// What a text's records come to.
+enum Scanned {
+    // Refused, with 1 to 5.
+    Bad(u8),
+    // Each byte of each section is in its place.
+    Whole,
 }
 
 // The frame of the line at a position; its bytes are left in the row.
@@ -191,5 +207,98 @@ fn turn_at(text: &[u8], at: usize, upper: u32, due: Section, row: &mut [u8]) -> 
         Found::Payload { low, count } => data_turn(due, upper, low, count, next),
         Found::Extended { upper: new } => Turn::Moved { next, upper: new },
         Found::Ended => end_turn(due, next, len),
+    }
+}
+
+// What is due after count bytes.
+fn advanced(g: Geometry, due: Due, count: usize) -> Due
+    requires { ⌜ (due .section .offset + due .section .size ≤ 131200) × (due .section .address + due .section .size ≤ 4294967296) × (due .next ≤ 5) × (count ≤ 255) × (count ≤ due .section .size) ⌝ }
+    ensures { λ r. ⌜ r ≡ advancedOf g due count ⌝ }
+{
+    let s = due.section;
+    let next = due.next;
+    if count == s.size {
+        return Due {
+            section: image::section_at(g, next),
+            next: next + 1,
+        };
+    }
+    let home = s.home;
+    Due {
+        section: Section {
+            address: s.address + count as u32,
+            size: s.size - count,
+            home,
+            offset: s.offset + count,
+        },
+        next,
+    }
+}
+
+// Puts the payload of a text's records into the image and the header's bytes.
+fn scan(g: Geometry, text: &[u8], image: &mut [u8], header: &mut [u8]) -> Scanned
+    requires { ⌜ Sized g × (length (now image) ≡ imageSize g) × (length (now header) ≡ 15) ⌝ }
+    ensures { λ r. ⌜ ScannedAs (now (text .entry)) g (now (image .entry)) (now (header .entry)) r (now (image .exit)) (now (header .exit)) ⌝ }
+{
+    let flash = parts::flash_size(g);
+    let mut row = [0u8; 260];
+    let mut at: usize = 0;
+    let mut upper: u32 = 0;
+    let mut due = Due {
+        section: image::section_at(g, 0),
+        next: 1,
+    };
+    loop {
+        let section = due.section;
+        let turn = turn_at(text, at, upper, section, &mut row);
+        match turn {
+            Turn::Stop(n) => return Scanned::Bad(n),
+            Turn::Done => return Scanned::Whole,
+            Turn::Moved { next, upper: new } => {
+                at = next;
+                upper = new;
+            }
+            Turn::Store { count, next } => {
+                text::fill(image, header, flash, section, &row, 4, count);
+                due = advanced(g, due, count);
+                at = next;
+            }
+        }
+    }
+}
+
+// Reads a text into an image of its size.
+fn read_image(g: Geometry, part: u8, macros: u8, text: &[u8], image: &mut [u8]) -> ReadAnswer
+    requires { ⌜ (lookupOf part macros ≡ Lookup.Found g) × (length (now image) ≡ imageSize g) ⌝ }
+    ensures { λ r. ⌜ r ≡ answerOf (judged g part macros (outcomeOf (now (text .entry)) (sectionsOf g))) ⌝ }
+    ensures { λ _. ⌜ now (image .exit) ≡ bufferAfter (judged g part macros (outcomeOf (now (text .entry)) (sectionsOf g))) (now (image .entry)) ⌝ }
+{
+    let mut header = [0u8; 15];
+    let scanned = scan(g, text, image, &mut header);
+    match scanned {
+        Scanned::Bad(n) => {
+            let all = image.len();
+            text::clear(image, all);
+            text::refusal(n)
+        }
+        Scanned::Whole => text::settle(part, macros, header, image),
+    }
+}
+
+// Reads a text for a part and its macros into a buffer: 0 and the image's header, or a refusal's number.
+pub fn read(part: u8, macros: u8, text: &[u8], buffer: &mut [u8]) -> ReadAnswer
+    ensures { λ r. ⌜ r ≡ answerOf (hexReading part macros (now (text .entry)) (length (now (buffer .entry)))) ⌝ }
+    ensures { λ _. ⌜ now (buffer .exit) ≡ bufferAfter (hexReading part macros (now (text .entry)) (length (now (buffer .entry)))) (now (buffer .entry)) ⌝ }
+{
+    let found = parts::find(part, macros);
+    match found {
+        Lookup::Refused(n) => text::refusal(n),
+        Lookup::Found(g) => {
+            let size = parts::image_size(g);
+            if buffer.len() < size {
+                return text::refusal(12);
+            }
+            read_image(g, part, macros, text, &mut buffer[..size])
+        }
     }
 }
