@@ -12,7 +12,6 @@ use image::Section;
 use parts::Geometry;
 use parts::Lookup;
 use text::ReadAnswer;
-use text::Run;
 
 // The frame of a line: it is broken, or has so many payload bytes, a sum, and a place where the next line begins.
 enum Frame {
@@ -20,9 +19,8 @@ enum Frame {
     Framed { count: usize, sum: u32, next: usize },
 }
 
-// The record of a line; its payload is in the row, from index 4 on.
+// The record of a line, or 1, 2 or 3; its payload is in the row, from index 4 on.
 enum Found {
-    // With 1, 2 or 3.
     Refused(u8),
     Payload { low: u32, count: usize },
     // The extended linear address: the upper half of the addresses that follow.
@@ -42,23 +40,17 @@ struct Due {
     next: usize,
 }
 
-// What a record leads to.
+// What a record leads to: 1 to 5, the end, a new upper half, or payload for the section that is due.
 enum Turn {
-    // Refused, with 1 to 5.
     Stop(u8),
-    // The end record, in its place.
     Done,
-    // A new upper half.
     Moved { next: usize, upper: u32 },
-    // Payload for the section that is due.
     Store { count: usize, next: usize },
 }
 
-// What a text's records come to.
+// What a text's records come to: 1 to 5, or each byte of each section in its place.
 enum Scanned {
-    // Refused, with 1 to 5.
     Bad(u8),
-    // Each byte of each section is in its place.
     Whole,
 }
 

@@ -167,3 +167,22 @@ run-all (a ∷ b ∷ m) (suc k) h e = go (isDigit a && isDigit b) refl e (λ f. 
         let r = ih (omega arith) in
         record { digits = (both-0 (isDigit a) (isDigit b) q, (both-1 (isDigit a) (isDigit b) q, r .digits)); spells = rw (q, r .spells) }
     go false q f ih = absurd (omega arith)
+
+-- every line has its end
+abbrev pub AllEnded : List Line → Type 0
+AllEnded [] = Unit {0}
+AllEnded (Ended l ∷ ls) = AllEnded ls
+AllEnded (Open l ∷ ls) = ⊥
+
+-- then more text is more lines
+pub lines-append : (s t : List ℕ) → AllEnded (linesOf s) → linesOf (s ++ t) ≡ linesOf s ++ linesOf t
+unfolding linesOf onto
+lines-append [] t h = refl
+lines-append (c ∷ s) t h = go (eqb c 10) (linesOf s) refl h (λ k. lines-append s t k)
+  where
+    go : (b : Bool) (xs : List Line) → linesOf s ≡ xs → AllEnded (cond b (Ended [] ∷ xs) (onto c xs)) → (AllEnded (linesOf s) → linesOf (s ++ t) ≡ linesOf s ++ linesOf t)
+        → cond b (Ended [] ∷ linesOf (s ++ t)) (onto c (linesOf (s ++ t))) ≡ cond b (Ended [] ∷ xs) (onto c xs) ++ linesOf t
+    go true xs e k ih = ap (λ (x : List Line). Ended [] ∷ x) (ih (rw e k) ∙ ap (λ (x : List Line). x ++ linesOf t) e)
+    go false [] e k ih = absurd k
+    go false (Open l ∷ ls) e k ih = absurd k
+    go false (Ended l ∷ ls) e k ih = ap (onto c) (ih (rw e k) ∙ ap (λ (x : List Line). x ++ linesOf t) e)

@@ -21,10 +21,10 @@ use Rattle.text.proofs.Storing.{sets-past, sets-append, stored}
 
 -- Taken: each byte of each section once.
 
-no-outcome : {A : Type 0} (n : ℕ) (g : List ℕ) → Refusal n ≡ Stream g → A
+pub no-outcome : {A : Type 0} (n : ℕ) (g : List ℕ) → Refusal n ≡ Stream g → A
 no-outcome n g e = let t : false ≡ true = cc e in absurd (false≢true t)
 
-after-stream : (bs g : List ℕ) (o : Outcome) → after bs o ≡ Stream g → (r : List ℕ) × (o ≡ Stream r) × (g ≡ bs ++ r)
+pub after-stream : (bs g : List ℕ) (o : Outcome) → after bs o ≡ Stream g → (r : List ℕ) × (o ≡ Stream r) × (g ≡ bs ++ r)
 unfolding after
 after-stream bs g (Refusal n) e = no-outcome n g e
 after-stream bs g (Stream r) e = (r, refl, cc e)
@@ -189,3 +189,22 @@ module _ (g : Geometry) (stream : List ℕ) (all : length stream ≡ overall siz
       let a : length (take (flashSize g) stream) ≡ flashSize g = length-take-le (flashSize g) stream (z .4) in
       let b : length (take (lockTotal g) r₂) ≡ lockTotal g = length-take-le (lockTotal g) r₂ (omega (arith, z .1)) in
       simp (length-append, append-nil) (omega arith)
+
+-- Whatever follows records that are in place is 5.
+pub place-followed : (es : List Event) (ds : List Section) (g : List ℕ) (f : Event) (fs : List Event) → place ds es ≡ Stream g → place ds (es ++ (f ∷ fs)) ≡ Refusal 5
+unfolding place after
+place-followed [] ds g f fs e = no-outcome 5 g e
+place-followed (Bad n ∷ es) ds g f fs e = no-outcome n g e
+place-followed (Other ∷ es) ds g f fs e = place-followed es ds g f fs e
+place-followed (Data a bs ∷ es) [] g f fs e = no-outcome 4 g e
+place-followed (Data a bs ∷ es) (d ∷ ds) g f fs e =
+    go (eqb a (d .address) && leb (length bs) (d .size)) e (λ r q. place-followed es (advance (length bs) d ds) r f fs q)
+  where
+    go : (b : Bool) → cond b (after bs (place (advance (length bs) d ds) es)) (Refusal 4) ≡ Stream g
+        → ((r : List ℕ) → place (advance (length bs) d ds) es ≡ Stream r → place (advance (length bs) d ds) (es ++ (f ∷ fs)) ≡ Refusal 5)
+        → cond b (after bs (place (advance (length bs) d ds) (es ++ (f ∷ fs)))) (Refusal 4) ≡ Refusal 5
+    go true e ih = let r = after-stream bs g (place (advance (length bs) d ds) es) e in rw (ih (r .0) (r .1))
+    go false e ih = no-outcome 4 g e
+place-followed (End ∷ []) [] g f fs e = refl
+place-followed (End ∷ x ∷ es) [] g f fs e = no-outcome 5 g e
+place-followed (End ∷ es) (d ∷ ds) g f fs e = no-outcome 5 g e
