@@ -1,0 +1,240 @@
+-- How far the reading loop has come, and one turn of it. Assumes nothing.
+use mathlib.Core.Bool.{Bool, true, false, cond}
+use mathlib.Core.List.{List, [], _∷_, _++_, append-assoc}
+use mathlib.Core.Path.{_≡_, refl, sym, ap, _∙_}
+use Prim.Native.Nat.{ℕ, zero, suc, _+_, _-_, _≤_, _<_}
+use native.Mathlib.Omega.{arith}
+use borrow.Author.Tests.{eqb-true, eqb-false, eq-eqb, ne-eqb}
+use lib.Dec.{eqb, lit≤, lit<}
+use lib.ListN.{length, getD, take, drop}
+use lib.Seq.{sets, length-sets}
+use Rattle.hex.specs.Steps.{outcomeAt, dues, dueList, TurnAt, Sized, advancedOf, Filled, ScannedAs}
+use Rattle.hex.specs.Texts.{outcomeOf}
+use Rattle.hex.specs.declared.Due.{Due}
+use Rattle.hex.specs.declared.Scanned.the-variants.{Bad, Whole}
+use Rattle.hex.specs.declared.Turn.{Turn}
+use Rattle.hex.specs.declared.Turn.the-variants.{Stop, Done, Moved, Store}
+use Rattle.image.specs.Sections.{sectionsOf, noSection}
+use Rattle.image.specs.declared.Home.{Home}
+use Rattle.image.specs.declared.Home.the-variants.{InImage, InHeader}
+use Rattle.image.specs.declared.Section.{Section}
+use Rattle.parts.specs.Sizes.{imageSize}
+use Rattle.parts.specs.declared.Geometry.{Geometry}
+use Rattle.text.specs.Placing.{Outcome, Refusal, Stream, after, advance, restOf, sameHome}
+use Rattle.text.specs.Storing.{storedIn, laid}
+use Rattle.text.proofs.Placing.{after-append, laid-advance, stored-in}
+use Rattle.hex.proofs.Bodies.{payloadIn, payload-length}
+use Rattle.hex.proofs.Sizes.{Roomy, roomy-at, due-at, last-section}
+
+-- what is due after some bytes
+pub advanced-next : (g : Geometry) (d : Due) (count : ℕ) (s : Section) → count ≡ d .section .size → s ≡ getD (sectionsOf g) (d .next) noSection
+    → record { section = s; next = d .next + 1 } ≡ advancedOf g d count
+advanced-next g d count s e h = rw (eq-eqb count (d .section .size) e, h)
+
+pub advanced-rest : (g : Geometry) (d : Due) (count : ℕ) → (count ≡ d .section .size → ⊥)
+    → record { section = restOf count (d .section); next = d .next } ≡ advancedOf g d count
+advanced-rest g d count h = rw (ne-eqb count (d .section .size) h)
+
+-- the next section, or the rest of this one
+abbrev chosen : Bool → Geometry → Due → ℕ → Due
+chosen b g d count =
+    cond b (record { section = getD (sectionsOf g) (d .next) noSection; next = d .next + 1 })
+    (record { section = restOf count (d .section); next = d .next })
+
+dues-some : (s : Section) (ss : List Section) → 0 < s .size → dues s ss ≡ s ∷ ss
+dues-some s ss h = rw (ne-eqb (s .size) 0 (λ e. absurd (omega arith)))
+
+dues-none : (s : Section) (ss : List Section) → s .size ≡ 0 → dues s ss ≡ []
+dues-none s ss h = rw (eq-eqb (s .size) 0 h)
+
+module _ (g : Geometry) (z : Sized g) (d : Due) (count : ℕ) (some : 1 ≤ count) (le : count ≤ d .section .size) where
+  due-advance : dueList g (advancedOf g d count) ≡ advance count (d .section) (drop (d .next) (sectionsOf g))
+  unfolding advance
+  due-advance = go (eqb count (d .section .size)) refl
+    where
+      go : (b : Bool) → eqb count (d .section .size) ≡ b
+          → dueList g (chosen b g d count)
+          ≡ cond b (drop (d .next) (sectionsOf g)) (restOf count (d .section) ∷ drop (d .next) (sectionsOf g))
+      go true e = due-at g z (d .next)
+      go false e =
+          let n = eqb-false count (d .section .size) e in
+          dues-some (restOf count (d .section)) (drop (d .next) (sectionsOf g)) (omega (arith, n))
+
+  roomy-advance : Roomy (imageSize g) 15 (d .section) → Roomy (imageSize g) 15 (advancedOf g d count .section)
+  roomy-advance r = go (eqb count (d .section .size))
+    where
+      go : (b : Bool)
+          → Roomy (imageSize g) 15 (chosen b g d count .section)
+      go true = roomy-at g z (d .next)
+      go false = record {
+        in-image = λ e. omega (arith, r .in-image e);
+        in-header = λ e. omega (arith, r .in-header e);
+        end = omega (arith, r .end);
+        addresses = omega (arith, r .addresses);
+      }
+
+  next-advance : d .next ≤ 5 → 0 < advancedOf g d count .section .size → advancedOf g d count .next ≤ 5
+  next-advance h = go (eqb count (d .section .size))
+    where
+      go : (b : Bool)
+          → 0 < chosen b g d count .section .size
+          → chosen b g d count .next ≤ 5
+      go true i = omega (arith, last-section g (d .next) i)
+      go false i = h
+
+-- the place of the loop: the outcome is what the rest comes to after the bytes done, and those are laid where they belong
+pub record Here (g : Geometry) (text image₀ header₀ image header : List ℕ) (at upper : ℕ) (due : Due) : Type 0 where
+  pub at-le : at ≤ length text
+  pub upper-lt : upper < 65536
+  pub image-kept : length image ≡ length image₀
+  pub header-kept : length header ≡ length header₀
+  pub roomy : Roomy (imageSize g) 15 (due .section)
+  pub next-le : 0 < due .section .size → due .next ≤ 5
+  pub done : List ℕ
+  pub outcome : outcomeOf text (sectionsOf g) ≡ after done (outcomeAt text at upper (dueList g due))
+  pub image-laid : (r : List ℕ) → laid InImage (sectionsOf g) (done ++ r) image₀ ≡ laid InImage (dueList g due) r image
+  pub header-laid : (r : List ℕ) → laid InHeader (sectionsOf g) (done ++ r) header₀ ≡ laid InHeader (dueList g due) r header
+
+after-nil : (o : Outcome) → o ≡ after [] o
+unfolding after
+after-nil (Refusal n) = refl
+after-nil (Stream bs) = refl
+
+module _ (g : Geometry) (z : Sized g) (text image₀ header₀ : List ℕ) where
+  pub here-start : (s : Section) → s ≡ getD (sectionsOf g) 0 noSection → Here g text image₀ header₀ image₀ header₀ 0 0 (record { section = s; next = 1 })
+  here-start s e =
+      let d : dueList g (record { section = s; next = 1 }) ≡ sectionsOf g = ap (λ (x : Section). dues x (drop 1 (sectionsOf g))) e ∙ due-at g z 0 in
+      record {
+        at-le = omega arith;
+        upper-lt = lit< tt;
+        image-kept = refl;
+        header-kept = refl;
+        roomy = rw e (roomy-at g z 0);
+        next-le = λ h. lit≤ tt;
+        done = [];
+        outcome = after-nil (outcomeOf text (sectionsOf g)) ∙ ap (λ (ds : List Section). after [] (outcomeAt text 0 0 ds)) (sym d);
+        image-laid = λ r. ap (λ (ds : List Section). laid InImage ds r image₀) (sym d);
+        header-laid = λ r. ap (λ (ds : List Section). laid InHeader ds r header₀) (sym d);
+      }
+
+  module _ {image header : List ℕ} {at upper : ℕ} {due : Due} (h : Here g text image₀ header₀ image header at upper due)
+      (t : Turn) (row : List ℕ) (turn : TurnAt text at upper (due .section) t row) where
+    pub here-stop : (n : ℕ) → t ≡ Stop n → ScannedAs text g image₀ header₀ (Bad n) image header
+    unfolding after
+    here-stop n e = let u = rw e at turn in h .outcome ∙ ap (after (h .done)) (u (drop (due .next) (sectionsOf g)))
+
+    pub here-done : t ≡ Done → ScannedAs text g image₀ header₀ Whole image header
+    unfolding after laid
+    here-done e =
+        let u = rw e at turn in
+        let n = dues-none (due .section) (drop (due .next) (sectionsOf g)) (u .1) in
+        record {
+          stream = h .done ++ [];
+          is = h .outcome ∙ ap (after (h .done)) (u .0 (drop (due .next) (sectionsOf g)));
+          image-is = sym (h .image-laid [] ∙ ap (λ (ds : List Section). laid InImage ds [] image) n);
+          header-is = sym (h .header-laid [] ∙ ap (λ (ds : List Section). laid InHeader ds [] header) n);
+        }
+
+    module _ (next new : ℕ) (e : t ≡ Moved next new) where
+      pub here-moved : Here g text image₀ header₀ image header next new due
+      here-moved =
+          let u = rw e at turn in
+          record {
+            at-le = u .2;
+            upper-lt = u .3;
+            image-kept = h .image-kept;
+            header-kept = h .header-kept;
+            roomy = h .roomy;
+            next-le = h .next-le;
+            done = h .done;
+            outcome = h .outcome ∙ ap (after (h .done)) (u .0 (dueList g due));
+            image-laid = h .image-laid;
+            header-laid = h .header-laid;
+          }
+
+      pub moved-less : (at < next) × (next ≤ length text)
+      moved-less = let u = rw e at turn in (u .1, u .2)
+
+    module _ (count next : ℕ) (e : t ≡ Store count next) where
+      pub store-bounds : (at < next) × (next ≤ length text) × (1 ≤ count) × (count ≤ 255) × (count ≤ due .section .size)
+      store-bounds = let u = rw e at turn in (u .1, u .2, u .3, u .4, u .5)
+
+      pub store-asks : (due .section .offset + due .section .size ≤ 131200) × (due .section .address + due .section .size ≤ 4294967296) × (due .next ≤ 5)
+          × (count ≤ 255)
+          × (count ≤ due .section .size)
+      store-asks =
+          let b = store-bounds in
+          (h .roomy .end, h .roomy .addresses, h .next-le (omega (arith, b .2, b .4)), b .3, b .4)
+
+      module _ (wide : length row ≡ 260) (image-size : length image₀ ≡ imageSize g) (header-size : length header₀ ≡ 15) where
+        bs : List ℕ
+        bs = payloadIn row count
+
+        size : length bs ≡ count
+        unfolding bs
+        size = let b = store-bounds in payload-length row count wide (b .3)
+
+        full : dueList g due ≡ due .section ∷ drop (due .next) (sectionsOf g)
+        full = let b = store-bounds in dues-some (due .section) (drop (due .next) (sectionsOf g)) (omega (arith, b .2, b .4))
+
+        put-kept : (b : Bool) (dst : List ℕ) → length (cond b (sets dst (due .section .offset) bs) dst) ≡ length dst
+        put-kept true dst = length-sets dst (due .section .offset) bs
+        put-kept false dst = refl
+
+        module _ (home : Home) (dst₀ dst dst′ : List ℕ) (is : dst′ ≡ storedIn home dst (due .section) row 4 count)
+            (room : sameHome home (due .section .home) ≡ true → due .section .offset + due .section .size ≤ length dst)
+            (before : (r : List ℕ) → laid home (sectionsOf g) (h .done ++ r) dst₀ ≡ laid home (dueList g due) r dst) where
+          put-is : dst′ ≡ cond (sameHome home (due .section .home)) (sets dst (due .section .offset) bs) dst
+          unfolding bs
+          put-is =
+              let b = store-bounds in
+              is ∙ stored-in home dst (due .section) row 4 count (omega (arith, b .3)) (λ e. omega (arith, room e, b .4))
+
+          put-length : length dst′ ≡ length dst
+          put-length = ap length put-is ∙ put-kept (sameHome home (due .section .home)) dst
+
+          put-laid : (r : List ℕ) → laid home (sectionsOf g) ((h .done ++ bs) ++ r) dst₀ ≡ laid home (dueList g (advancedOf g due count)) r dst′
+          put-laid r =
+              let b = store-bounds in
+              ap (λ (l : List ℕ). laid home (sectionsOf g) l dst₀) (append-assoc (h .done) bs r)
+              ∙ before (bs ++ r)
+              ∙ ap (λ (ds : List Section). laid home ds (bs ++ r) dst) full
+              ∙ laid-advance home (due .section) (drop (due .next) (sectionsOf g)) bs r dst (omega (arith, size, b .4))
+              ∙ ap (λ (n : ℕ). laid home (advance n (due .section) (drop (due .next) (sectionsOf g))) r (cond (sameHome home (due .section .home)) (sets dst (due .section .offset) bs) dst)) size
+              ∙ ap (λ (ds : List Section). laid home ds r (cond (sameHome home (due .section .home)) (sets dst (due .section .offset) bs) dst)) (sym (due-advance g z due count (b .2) (b .4)))
+              ∙ ap (laid home (dueList g (advancedOf g due count)) r) (sym put-is)
+
+        stream : outcomeOf text (sectionsOf g) ≡ after (h .done ++ bs) (outcomeAt text next upper (dueList g (advancedOf g due count)))
+        unfolding bs
+        stream =
+            let u = rw e at turn in
+            let b = store-bounds in
+            h .outcome
+            ∙ ap (λ (ds : List Section). after (h .done) (outcomeAt text at upper ds)) full
+            ∙ ap (after (h .done)) (u .0 (drop (due .next) (sectionsOf g)))
+            ∙ after-append (h .done) (payloadIn row count) (outcomeAt text next upper (advance count (due .section) (drop (due .next) (sectionsOf g))))
+            ∙ ap (λ (ds : List Section). after (h .done ++ payloadIn row count) (outcomeAt text next upper ds)) (sym (due-advance g z due count (b .2) (b .4)))
+
+        pub here-store : (image′ header′ : List ℕ) (due′ : Due) → image′ ≡ storedIn InImage image (due .section) row 4 count
+            → header′ ≡ storedIn InHeader header (due .section) row 4 count
+            → due′ ≡ advancedOf g due count
+            → Here g text image₀ header₀ image′ header′ next upper due′
+        here-store image′ header′ due′ ei eh ed =
+            let b = store-bounds in
+            let ri : sameHome InImage (due .section .home) ≡ true → due .section .offset + due .section .size ≤ length image =
+            λ q. omega (arith, h .roomy .in-image q, h .image-kept) in
+            let rh : sameHome InHeader (due .section .home) ≡ true → due .section .offset + due .section .size ≤ length header =
+            λ q. omega (arith, h .roomy .in-header q, h .header-kept) in
+            rw ed
+            (record {
+              at-le = b .1;
+              upper-lt = h .upper-lt;
+              image-kept = put-length InImage image₀ image image′ ei ri (h .image-laid) ∙ h .image-kept;
+              header-kept = put-length InHeader header₀ header header′ eh rh (h .header-laid) ∙ h .header-kept;
+              roomy = roomy-advance g z due count (b .2) (b .4) (h .roomy);
+              next-le = next-advance g z due count (b .2) (b .4) (h .next-le (omega (arith, b .2, b .4)));
+              done = h .done ++ bs;
+              outcome = stream;
+              image-laid = put-laid InImage image₀ image image′ ei ri (h .image-laid);
+              header-laid = put-laid InHeader header₀ header header′ eh rh (h .header-laid);
+            })

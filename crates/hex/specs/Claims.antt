@@ -1,0 +1,28 @@
+-- What a caller may want to know of reading, beside the definition itself. Assumes nothing.
+use mathlib.Core.List.{List, _∷_, _++_}
+use mathlib.Core.Path.{_≡_}
+use Prim.Native.Nat.{ℕ}
+use lib.ListN.{length}
+use Rattle.hex.specs.Texts.{outcomeOf, hexReading}
+use Rattle.image.specs.Checks.{imageFault}
+use Rattle.image.specs.declared.Header.{Header}
+use Rattle.image.specs.declared.Section.{Section}
+use Rattle.text.specs.Placing.{Refusal, Stream, overall}
+use Rattle.text.specs.Reading.{Taken}
+
+-- a text that is taken into a buffer of `room` bytes gives this header and these image bytes
+abbrev pub Takes : (part macros : ℕ) (text : List ℕ) (room : ℕ) → Header → (bytes : List ℕ) → Type 0
+Takes part macros text room h bytes = hexReading part macros text room ≡ Taken h bytes
+
+pub record ReadingClaims : Type 0 where
+  -- one text is never taken for two images, whatever the buffers
+  pub one-image : (part macros : ℕ) (text : List ℕ) (room room′ : ℕ) (h h′ : Header) (bytes bytes′ : List ℕ) → Takes part macros text room h bytes
+      → Takes part macros text room′ h′ bytes′
+      → (h ≡ h′) × (bytes ≡ bytes′)
+  -- what is taken passes the checks of writing and starting: 11, 12, 6 to 10
+  pub sound : (part macros : ℕ) (text : List ℕ) (room : ℕ) (h : Header) (bytes : List ℕ) → Takes part macros text room h bytes → imageFault h bytes ≡ 0
+  -- 'each byte once': the records in place have just the bytes of the sections
+  pub each-once : (text : List ℕ) (due : List Section) (stream : List ℕ) → outcomeOf text due ≡ Stream stream → length stream ≡ overall (λ s. s .size) due
+  -- 'anything after the end record is 5, unread'
+  pub followed : (text : List ℕ) (due : List Section) (stream : List ℕ) (c : ℕ) (more : List ℕ) → outcomeOf text due ≡ Stream stream
+      → outcomeOf (text ++ (c ∷ more)) due ≡ Refusal 5

@@ -1,0 +1,6 @@
+pub mod Records
+pub mod Texts
+pub mod Written
+pub mod Examples
+pub mod Steps
+pub mod Claims

@@ -1,0 +1,126 @@
+-- What the reader's private functions give, at a position of the text; `read`'s own contract needs none of it. Assumes nothing.
+use mathlib.Core.Bool.{_&&_, cond}
+use mathlib.Core.List.{List, [], _∷_}
+use mathlib.Core.Path.{_≡_}
+use Prim.Native.Nat.{ℕ, _+_, _*_, _≤_, _<_}
+use lib.Dec.{eqb, leb}
+use lib.ListN.{length, getD, take, drop}
+use Rattle.hex.specs.Records.{Record, BadRecord, DataRecord, ExtendedAddress, EndRecord, lineRecord, recordOf}
+use Rattle.hex.specs.Texts.{events, outcomeOf}
+use Rattle.hex.specs.declared.Due.{Due}
+use Rattle.hex.specs.declared.Found.{Found}
+use Rattle.hex.specs.declared.Found.the-variants.{Refused, Payload, Extended, Ended}
+use Rattle.hex.specs.declared.Frame.{Frame}
+use Rattle.hex.specs.declared.Frame.the-variants.{Broken, Framed}
+use Rattle.hex.specs.declared.Scanned.{Scanned}
+use Rattle.hex.specs.declared.Scanned.the-variants.{Bad, Whole}
+use Rattle.hex.specs.declared.Turn.{Turn}
+use Rattle.hex.specs.declared.Turn.the-variants.{Stop, Done, Moved, Store}
+use Rattle.image.specs.Sections.{sectionsOf, noSection}
+use Rattle.image.specs.Words.{total}
+use Rattle.image.specs.declared.Home.the-variants.{InImage, InHeader}
+use Rattle.image.specs.declared.Section.{Section}
+use Rattle.parts.specs.Sizes.{flashSize, lockTotal}
+use Rattle.parts.specs.declared.Geometry.{Geometry}
+use Rattle.text.specs.Lines.{Line, linesOf}
+use Rattle.text.specs.Placing.{Outcome, Refusal, Stream, place, after, advance, restOf}
+use Rattle.text.specs.Storing.{laid}
+
+-- the first line at a position is such a record
+pub record LineAt (text : List ℕ) (at : ℕ) (r : Record) : Type 0 where
+  pub line : Line
+  pub rest : List Line
+  pub is : linesOf (drop at text) ≡ line ∷ rest
+  pub says : lineRecord line ≡ r
+
+-- and the next line begins at `next`
+pub record LineTo (text : List ℕ) (at next : ℕ) (r : Record) : Type 0 where
+  pub line : Line
+  pub is : linesOf (drop at text) ≡ line ∷ linesOf (drop next text)
+  pub says : lineRecord line ≡ r
+  pub more : at < next
+  pub inside : next ≤ length text
+
+-- a line's bytes are in the row: the count, and four and as many as it says
+pub record Spelled (row : List ℕ) (count sum : ℕ) : Type 0 where
+  pub small : count ≤ 255
+  pub counts : getD row 0 0 ≡ count
+  pub sums : total (take (count + 5) row) ≡ sum
+
+abbrev pub FrameAt : (text : List ℕ) (at : ℕ) → Frame → (row : List ℕ) → Type 0
+FrameAt text at Broken row = LineAt text at (BadRecord 1)
+FrameAt text at (Framed count sum next) row = LineTo text at next (recordOf (take (count + 5) row)) × Spelled row count sum
+
+-- a record by its type, size and address
+unfoldable pub foundOf : (kind low count upper : ℕ) → Found
+foundOf kind low count upper =
+    cond (eqb kind 0) (cond (leb 1 count) (Payload low count) (Refused 3))
+    (cond (eqb kind 4) (cond (eqb count 2 && eqb low 0) (Extended upper) (Refused 3))
+    (cond (eqb kind 1) (cond (eqb count 0 && eqb low 0) Ended (Refused 3))
+    (Refused 3)))
+
+abbrev pub foundIn : (row : List ℕ) (count : ℕ) → Found
+foundIn row count = foundOf (getD row 3 0) (256 * getD row 1 0 + getD row 2 0) count (256 * getD row 4 0 + getD row 5 0)
+
+abbrev pub FoundAt : (text : List ℕ) (at next : ℕ) → Found → (row : List ℕ) → Type 0
+FoundAt text at next (Refused n) row = LineAt text at (BadRecord n)
+FoundAt text at next (Payload low count) row =
+    LineTo text at next (DataRecord low (take count (drop 4 row))) × (low < 65536) × (1 ≤ count) × (count ≤ 255)
+FoundAt text at next (Extended upper) row = LineTo text at next (ExtendedAddress upper) × (upper < 65536)
+FoundAt text at next Ended row = LineTo text at next EndRecord
+
+-- what the lines from a position on come to
+abbrev pub outcomeAt : (text : List ℕ) (at upper : ℕ) (due : List Section) → Outcome
+outcomeAt text at upper due = place due (events upper (linesOf (drop at text)))
+
+-- a section and those after it; one of no bytes stands for none
+abbrev pub dues : Section → List Section → List Section
+dues s ss = cond (eqb (s .size) 0) [] (s ∷ ss)
+
+abbrev pub dueList : Geometry → Due → List Section
+dueList g d = dues (d .section) (drop (d .next) (sectionsOf g))
+
+unfoldable pub dataTurn : Section → (upper low count next : ℕ) → Turn
+dataTurn due upper low count next =
+    cond (leb (low + count) 65536 && (eqb (65536 * upper + low) (due .address) && leb count (due .size))) (Store count next) (Stop 4)
+
+unfoldable pub endTurn : Section → (next len : ℕ) → Turn
+endTurn due next len = cond (eqb (due .size) 0 && eqb next len) Done (Stop 5)
+
+-- what a turn does to the outcome, whatever sections follow the one that is due
+abbrev pub TurnAt : (text : List ℕ) (at upper : ℕ) → Section → Turn → (row : List ℕ) → Type 0
+TurnAt text at upper due (Stop n) row = (ss : List Section) → outcomeAt text at upper (dues due ss) ≡ Refusal n
+TurnAt text at upper due Done row = ((ss : List Section) → outcomeAt text at upper (dues due ss) ≡ Stream []) × (due .size ≡ 0)
+TurnAt text at upper due (Moved next new) row =
+    ((ss : List Section) → outcomeAt text at upper ss ≡ outcomeAt text next new ss) × (at < next) × (next ≤ length text) × (new < 65536)
+TurnAt text at upper due (Store count next) row =
+    ((ss : List Section) → outcomeAt text at upper (due ∷ ss) ≡ after (take count (drop 4 row)) (outcomeAt text next upper (advance count due ss)))
+    × (at < next)
+    × (next ≤ length text)
+    × (1 ≤ count)
+    × (count ≤ 255)
+    × (count ≤ due .size)
+
+-- the sizes of a part in the table
+pub record Sized (g : Geometry) : Type 0 where
+  pub flash-some : 0 < flashSize g
+  pub flash-most : flashSize g ≤ 131072
+  pub locks-some : 0 < lockTotal g
+  pub locks-most : lockTotal g ≤ 128
+
+-- what is due after count bytes
+abbrev pub advancedOf : Geometry → Due → (count : ℕ) → Due
+advancedOf g d count =
+    cond (eqb count (d .section .size)) (record { section = getD (sectionsOf g) (d .next) noSection; next = d .next + 1 })
+    (record { section = restOf count (d .section); next = d .next })
+
+-- a text whose records all are in place, and where its bytes are
+pub record Filled (text : List ℕ) (g : Geometry) (image₀ header₀ image header : List ℕ) : Type 0 where
+  pub stream : List ℕ
+  pub is : outcomeOf text (sectionsOf g) ≡ Stream stream
+  pub image-is : image ≡ laid InImage (sectionsOf g) stream image₀
+  pub header-is : header ≡ laid InHeader (sectionsOf g) stream header₀
+
+abbrev pub ScannedAs : (text : List ℕ) (g : Geometry) (image₀ header₀ : List ℕ) → Scanned → (image header : List ℕ) → Type 0
+ScannedAs text g image₀ header₀ (Bad n) image header = outcomeOf text (sectionsOf g) ≡ Refusal n
+ScannedAs text g image₀ header₀ Whole image header = Filled text g image₀ header₀ image header

@@ -1,0 +1,7 @@
+pub mod Spelling
+pub mod Ends
+pub mod Storing
+pub mod Lines
+pub mod Positions
+pub mod Settling
+pub mod Placing

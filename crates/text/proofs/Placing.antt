@@ -1,0 +1,210 @@
+-- Laws of the sections that are due and of the bytes that go into them. Assumes nothing.
+use mathlib.Core.Bool.{Bool, true, false, false≢true, _&&_, cond}
+use mathlib.Core.List.{List, [], _∷_, _++_, append-nil, append-assoc}
+use mathlib.Core.Path.{_≡_, refl, sym, ap, _∙_}
+use Prim.Native.Nat.{ℕ, zero, suc, _+_, _-_, _≤_, _<_}
+use native.Mathlib.Nat.{le-refl}
+use native.Mathlib.Omega.{arith}
+use borrow.Author.Tests.{eqb-true, eqb-false, leb-true, ne-eqb, eq-eqb}
+use lib.Dec.{eqb, leb}
+use lib.ListN.{length, take, drop, length-append, length-drop}
+use lib.Seq.{sets, sets-eq, drop-length, take-at, drop-at, drop-drop, take-append-add, drop-append-add, length-take-le}
+use Rattle.image.specs.Sections.{sectionsOf}
+use Rattle.image.specs.declared.Home.{Home}
+use Rattle.image.specs.declared.Home.the-variants.{InImage, InHeader}
+use Rattle.image.specs.declared.Section.{Section}
+use Rattle.parts.specs.Sizes.{flashSize, lockTotal, imageSize}
+use Rattle.parts.specs.declared.Geometry.{Geometry}
+use Rattle.text.specs.Placing.{Event, Bad, Other, Data, End, Outcome, Refusal, Stream, after, fits, restOf, advance, place, sameHome, gathered, overall}
+use Rattle.text.specs.Storing.{storedAt, storedIn, laid}
+use Rattle.text.proofs.Storing.{sets-past, sets-append, stored}
+
+-- Taken: each byte of each section once.
+
+pub no-outcome : {A : Type 0} (n : ℕ) (g : List ℕ) → Refusal n ≡ Stream g → A
+no-outcome n g e = let t : false ≡ true = cc e in absurd (false≢true t)
+
+pub after-stream : (bs g : List ℕ) (o : Outcome) → after bs o ≡ Stream g → (r : List ℕ) × (o ≡ Stream r) × (g ≡ bs ++ r)
+unfolding after
+after-stream bs g (Refusal n) e = no-outcome n g e
+after-stream bs g (Stream r) e = (r, refl, cc e)
+
+abbrev pub sizeOf : Section → ℕ
+sizeOf s = s .size
+
+advance-size : (n : ℕ) (s : Section) (ss : List Section) → n ≤ s .size → n + overall sizeOf (advance n s ss) ≡ s .size + overall sizeOf ss
+unfolding advance overall
+advance-size n s ss h = go (eqb n (s .size)) refl
+  where
+    go : (b : Bool) → eqb n (s .size) ≡ b → n + overall sizeOf (cond b ss (restOf n s ∷ ss)) ≡ s .size + overall sizeOf ss
+    go true q = omega (arith, eqb-true n (s .size) q)
+    go false q = omega arith
+
+-- 'each byte once': a text that is taken has all bytes of the sections
+pub place-length : (es : List Event) (ds : List Section) (g : List ℕ) → place ds es ≡ Stream g → length g ≡ overall sizeOf ds
+unfolding place overall
+place-length [] ds g e = no-outcome 5 g e
+place-length (Bad n ∷ es) ds g e = no-outcome n g e
+place-length (Other ∷ es) ds g e = place-length es ds g e
+place-length (Data a bs ∷ es) [] g e = no-outcome 4 g e
+place-length (Data a bs ∷ es) (d ∷ ds) g e =
+    go (eqb a (d .address)) (leb (length bs) (d .size)) refl e (λ r q. place-length es (advance (length bs) d ds) r q)
+  where
+    go : (x y : Bool) → leb (length bs) (d .size) ≡ y → cond (x && y) (after bs (place (advance (length bs) d ds) es)) (Refusal 4) ≡ Stream g
+        → ((r : List ℕ) → place (advance (length bs) d ds) es ≡ Stream r → length r ≡ overall sizeOf (advance (length bs) d ds))
+        → length g ≡ d .size + overall sizeOf ds
+    go true true q e ih =
+        let r = after-stream bs g (place (advance (length bs) d ds) es) e in
+        let i = ih (r .0) (r .1) in
+        omega (arith, ap length (r .2), length-append bs (r .0), i, advance-size (length bs) d ds (leb-true (length bs) (d .size) q))
+    go true false q e ih = no-outcome 4 g e
+    go false y q e ih = no-outcome 4 g e
+place-length (End ∷ []) [] g e = let z : [] ≡ g = cc e in omega (arith, ap length z)
+place-length (End ∷ x ∷ es) [] g e = no-outcome 5 g e
+place-length (End ∷ es) (d ∷ ds) g e = no-outcome 5 g e
+
+pub after-append : (a b : List ℕ) (o : Outcome) → after a (after b o) ≡ after (a ++ b) o
+unfolding after
+after-append a b (Refusal n) = refl
+after-append a b (Stream g) = ap Stream (sym (append-assoc a b g))
+
+-- Bytes that go into the section that is due.
+
+module _ (h : Home) (s : Section) (ss : List Section) (bs r dst : List ℕ) (h-le : length bs ≤ s .size) where
+  abbrev put : List ℕ
+  put = cond (sameHome h (s .home)) (sets dst (s .offset) bs) dst
+
+  whole : length bs ≡ s .size → laid h (s ∷ ss) (bs ++ r) dst ≡ laid h ss r put
+  unfolding laid
+  whole e = rw (take-at bs r (s .size) e, drop-at bs r (s .size) e)
+
+  twice : (b : Bool) (n m : ℕ) (ws : List ℕ) → n ≡ length bs
+      → cond b (sets dst m (bs ++ ws)) dst ≡ cond b (sets (cond b (sets dst m bs) dst) (m + n) ws) (cond b (sets dst m bs) dst)
+  twice true n m ws e = sets-append dst m bs ws ∙ ap (λ (k : ℕ). sets (sets dst m bs) (m + k) ws) (sym e)
+  twice false n m ws e = refl
+
+  part : laid h (s ∷ ss) (bs ++ r) dst ≡ laid h (restOf (length bs) s ∷ ss) r put
+  unfolding laid
+  part =
+      let e : s .size ≡ length bs + (s .size - length bs) = omega arith in
+      ap (λ (k : ℕ). laid h ss (drop k (bs ++ r)) (cond (sameHome h (s .home)) (sets dst (s .offset) (take k (bs ++ r))) dst)) e
+      ∙ ap (λ (l : List ℕ). laid h ss l (cond (sameHome h (s .home)) (sets dst (s .offset) (take (length bs + (s .size - length bs)) (bs ++ r))) dst)) (drop-append-add bs r (s .size - length bs))
+      ∙ ap (λ (l : List ℕ). laid h ss (drop (s .size - length bs) r) (cond (sameHome h (s .home)) (sets dst (s .offset) l) dst)) (take-append-add bs r (s .size - length bs))
+      ∙ ap (laid h ss (drop (s .size - length bs) r)) (twice (sameHome h (s .home)) (length bs) (s .offset) (take (s .size - length bs) r) refl)
+
+  pub laid-advance : laid h (s ∷ ss) (bs ++ r) dst ≡ laid h (advance (length bs) s ss) r put
+  unfolding advance
+  laid-advance = go (eqb (length bs) (s .size)) refl
+    where
+      go : (b : Bool) → eqb (length bs) (s .size) ≡ b → laid h (s ∷ ss) (bs ++ r) dst ≡ laid h (cond b ss (restOf (length bs) s ∷ ss)) r put
+      go true q = whole (eqb-true (length bs) (s .size) q)
+      go false q = part
+
+-- a store that has room
+pub stored-in : (h : Home) (dst : List ℕ) (s : Section) (row : List ℕ) (from n : ℕ) → from + n ≤ length row
+    → (sameHome h (s .home) ≡ true → s .offset + n ≤ length dst)
+    → storedIn h dst s row from n ≡ cond (sameHome h (s .home)) (sets dst (s .offset) (take n (drop from row))) dst
+unfolding storedIn
+stored-in h dst s row from n a b = go (sameHome h (s .home)) refl
+  where
+    go : (t : Bool) → sameHome h (s .home) ≡ t → cond t (storedAt dst (s .offset) row from n) dst ≡ cond t (sets dst (s .offset) (take n (drop from row))) dst
+    go true e = sym (stored dst (s .offset) row from n a (b e))
+    go false e = refl
+
+-- The five sections laid into an image and a header are the bytes gathered for each.
+
+sets-front : (d vs : List ℕ) → length vs ≤ length d → sets d 0 vs ≡ vs ++ drop (length vs) d
+sets-front d vs h =
+    let e : 0 + length vs ≡ length vs = omega arith in
+    sets-eq vs d 0 (omega arith) ∙ ap (λ (k : ℕ). vs ++ drop k d) e
+
+sets-whole : (d vs : List ℕ) → length vs ≡ length d → sets d 0 vs ≡ vs
+sets-whole d vs h =
+    sets-front d vs (omega arith) ∙ ap (λ (l : List ℕ). vs ++ l) (ap (λ (k : ℕ). drop k d) h ∙ drop-length d) ∙ append-nil vs
+
+-- a store right behind the first part of a list
+sets-second : (a b vs : List ℕ) (n : ℕ) → length a ≡ n → sets (a ++ b) n vs ≡ a ++ sets b 0 vs
+sets-second a b vs n h =
+    let e : n - n ≡ 0 = omega arith in
+    sets-past a b n n vs h (le-refl n) ∙ ap (λ (k : ℕ). a ++ sets b k vs) e
+
+module _ (g : Geometry) (stream : List ℕ) (all : length stream ≡ overall sizeOf (sectionsOf g)) where
+  r₁ : List ℕ
+  r₁ = drop (flashSize g) stream
+
+  r₂ : List ℕ
+  r₂ = drop 2 r₁
+
+  r₃ : List ℕ
+  r₃ = drop (lockTotal g) r₂
+
+  r₄ : List ℕ
+  r₄ = drop 12 r₃
+
+  sizes : (length r₁ ≡ 2 + lockTotal g + 12 + 1) × (length r₂ ≡ lockTotal g + 12 + 1) × (length r₃ ≡ 13) × (length r₄ ≡ 1) × (flashSize g ≤ length stream)
+  unfolding r₁ r₂ r₃ r₄ overall
+  sizes =
+      let a = length-drop (flashSize g) stream in
+      let b = length-drop 2 r₁ in
+      let c = length-drop (lockTotal g) r₂ in
+      let d = length-drop 12 r₃ in
+      (omega arith, omega arith, omega arith, omega arith, omega arith)
+
+  pub laid-image : (image : List ℕ) → length image ≡ imageSize g → laid InImage (sectionsOf g) stream image ≡ gathered InImage (sectionsOf g) stream
+  unfolding laid gathered imageSize r₁ r₂ r₃ r₄
+  laid-image image h =
+      let z = sizes in
+      let a : length (take (flashSize g) stream) ≡ flashSize g = length-take-le (flashSize g) stream (z .4) in
+      let b : length (take (lockTotal g) r₂) ≡ lockTotal g = length-take-le (lockTotal g) r₂ (omega (arith, z .1)) in
+      ap (λ (l : List ℕ). sets l (flashSize g) (take (lockTotal g) r₂)) (sets-front image (take (flashSize g) stream) (omega arith))
+      ∙ sets-second (take (flashSize g) stream) (drop (length (take (flashSize g) stream)) image) (take (lockTotal g) r₂) (flashSize g) a
+      ∙ ap (λ (l : List ℕ). take (flashSize g) stream ++ l)
+      (sets-whole (drop (length (take (flashSize g) stream)) image) (take (lockTotal g) r₂) (omega (arith, length-drop (length (take (flashSize g) stream)) image))
+      ∙ sym (append-nil (take (lockTotal g) r₂)))
+
+  pub laid-header : (header : List ℕ) → length header ≡ 15 → laid InHeader (sectionsOf g) stream header ≡ gathered InHeader (sectionsOf g) stream
+  unfolding laid gathered r₁ r₂ r₃ r₄
+  laid-header header h =
+      let z = sizes in
+      let a : length (take 2 r₁) ≡ 2 = length-take-le 2 r₁ (omega (arith, z .0)) in
+      let b : length (take 12 r₃) ≡ 12 = length-take-le 12 r₃ (omega (arith, z .2)) in
+      let c : length (take 1 r₄) ≡ 1 = length-take-le 1 r₄ (omega (arith, z .3)) in
+      let d₁ = drop (length (take 2 r₁)) header in
+      let d₂ = drop (length (take 12 r₃)) d₁ in
+      let e₁ : length d₁ ≡ 13 = length-drop (length (take 2 r₁)) header ∙ omega arith in
+      let e₂ : length d₂ ≡ 1 = length-drop (length (take 12 r₃)) d₁ ∙ omega arith in
+      let two : 14 - 2 ≡ 12 = refl in
+      ap (λ (l : List ℕ). sets (sets l 2 (take 12 r₃)) 14 (take 1 r₄)) (sets-front header (take 2 r₁) (omega arith))
+      ∙ ap (λ (l : List ℕ). sets l 14 (take 1 r₄)) (sets-second (take 2 r₁) d₁ (take 12 r₃) 2 a)
+      ∙ sets-past (take 2 r₁) (sets d₁ 0 (take 12 r₃)) 2 14 (take 1 r₄) a (omega arith)
+      ∙ ap (λ (l : List ℕ). take 2 r₁ ++ l)
+      (ap (λ (l : List ℕ). sets l 12 (take 1 r₄)) (sets-front d₁ (take 12 r₃) (omega arith))
+      ∙ sets-second (take 12 r₃) d₂ (take 1 r₄) 12 b
+      ∙ ap (λ (l : List ℕ). take 12 r₃ ++ l) (sets-whole d₂ (take 1 r₄) (omega arith) ∙ sym (append-nil (take 1 r₄))))
+
+  pub image-length : length (gathered InImage (sectionsOf g) stream) ≡ imageSize g
+  unfolding gathered imageSize r₁ r₂ r₃ r₄
+  image-length =
+      let z = sizes in
+      let a : length (take (flashSize g) stream) ≡ flashSize g = length-take-le (flashSize g) stream (z .4) in
+      let b : length (take (lockTotal g) r₂) ≡ lockTotal g = length-take-le (lockTotal g) r₂ (omega (arith, z .1)) in
+      simp (length-append, append-nil) (omega arith)
+
+-- Whatever follows records that are in place is 5.
+pub place-followed : (es : List Event) (ds : List Section) (g : List ℕ) (f : Event) (fs : List Event) → place ds es ≡ Stream g → place ds (es ++ (f ∷ fs)) ≡ Refusal 5
+unfolding place after
+place-followed [] ds g f fs e = no-outcome 5 g e
+place-followed (Bad n ∷ es) ds g f fs e = no-outcome n g e
+place-followed (Other ∷ es) ds g f fs e = place-followed es ds g f fs e
+place-followed (Data a bs ∷ es) [] g f fs e = no-outcome 4 g e
+place-followed (Data a bs ∷ es) (d ∷ ds) g f fs e =
+    go (eqb a (d .address) && leb (length bs) (d .size)) e (λ r q. place-followed es (advance (length bs) d ds) r f fs q)
+  where
+    go : (b : Bool) → cond b (after bs (place (advance (length bs) d ds) es)) (Refusal 4) ≡ Stream g
+        → ((r : List ℕ) → place (advance (length bs) d ds) es ≡ Stream r → place (advance (length bs) d ds) (es ++ (f ∷ fs)) ≡ Refusal 5)
+        → cond b (after bs (place (advance (length bs) d ds) (es ++ (f ∷ fs)))) (Refusal 4) ≡ Refusal 5
+    go true e ih = let r = after-stream bs g (place (advance (length bs) d ds) es) e in rw (ih (r .0) (r .1))
+    go false e ih = no-outcome 4 g e
+place-followed (End ∷ []) [] g f fs e = refl
+place-followed (End ∷ x ∷ es) [] g f fs e = no-outcome 5 g e
+place-followed (End ∷ es) (d ∷ ds) g f fs e = no-outcome 5 g e

@@ -1,0 +1,21 @@
+-- The room tests of `storedAt`, then the copy. Assumes nothing.
+use native.Mathlib.Omega.{arith}
+use mathlib.Core.Path.{_∙_}
+use Rattle.text.proofs.Storing.{row-short, dst-short, stored}
+use borrow.Author.Needs.{needs}
+use Rattle.text.proofs.store.Statement.{statement}
+use Rattle.text.proofs.store.Tie as tie
+
+pub store-spec : {M : Type 1} → statement M
+store-spec =
+    tie.close
+    (tie.spec
+    (λ c. row-short _ _ _ _ _ (omega arith))
+    (λ c. search needs)
+    (λ c. row-short _ _ _ _ _ (omega arith))
+    (λ c. dst-short _ _ _ _ _ (omega arith) (omega arith))
+    (λ c. search needs)
+    (λ c. dst-short _ _ _ _ _ (omega arith) (omega arith))
+    (λ c κs. search needs)
+    (λ c. search needs)
+    (λ c. c .before .before .copy .ensures ∙ stored _ _ _ _ _ (omega arith) (omega arith)))

@@ -1,0 +1,238 @@
+// What the text formats share: digit pairs, line ends, the sections that are due, and the answer of reading (document 01, 'Hex text').
+ghost use mathlib.Core.Path.{_≡_};
+ghost use mathlib.Core.List.{_++_};
+ghost use Prim.Native.Nat.{_+_, _*_, _≤_};
+ghost use lib.ListN.{length, take, drop, replicate};
+ghost use lib.Dec.{eqb};
+ghost use lib.Seq.{sets};
+ghost use Rattle.image.specs.Words.{total};
+ghost use Rattle.text.specs.Digits.{digitOf};
+ghost use Rattle.text.specs.Spelling.{digitsFrom, front, pairsAt, runOf, rowAfter, lineEnd};
+ghost use Rattle.image.specs.declared.Home.the-variants.{InImage, InHeader};
+ghost use Rattle.text.specs.Reading.{noHeader, answerOf, bufferAfter};
+ghost use Rattle.text.specs.Storing.{storedAt, storedIn, cleared, settled};
+use image::Header;
+use image::Home;
+use image::Section;
+
+mod table;
+
+// What a run of pairs comes to.
+pub struct Run {
+    pub good: bool,
+    pub sum: u32,
+}
+
+// What reading gives: 0 and the image's header, or a refusal's number and a header of zeros.
+pub struct ReadAnswer {
+    pub number: u8,
+    pub header: Header,
+}
+
+// The value of a hex digit, by the table.
+fn digit(table: &[u8; 256], c: u8) -> u8
+    requires { ⌜ now table ≡ digitsFrom 0 256 ⌝ }
+    ensures { λ r. ⌜ r ≡ digitOf c ⌝ }
+{
+    table[c as usize]
+}
+
+// Spells k pairs from p on into the row, up to the first that is none.
+fn spell_pairs(row: &mut [u8], text: &[u8], p: usize, k: usize) -> Run
+    requires { ⌜ (p + 2 * k ≤ length (now text)) × (k ≤ length (now row)) × (k ≤ 260) ⌝ }
+    ensures { λ r. ⌜ r ≡ record { good = eqb (length (front (pairsAt (now (text .entry)) p k))) k; sum = total (front (pairsAt (now (text .entry)) p k)) } ⌝ }
+    ensures { λ _. ⌜ now (row .exit) ≡ sets (now (row .entry)) 0 (front (pairsAt (now (text .entry)) p k)) ⌝ }
+{
+    let table = table::DIGITS;
+    let mut q = p;
+    let mut i: usize = 0;
+    let mut left = k;
+    let mut sum: u32 = 0;
+    while 0 < left {
+        let h = digit(&table, text[q]);
+        let l = digit(&table, text[q + 1]);
+        if 15 < h {
+            return Run { good: false, sum };
+        }
+        if 15 < l {
+            return Run { good: false, sum };
+        }
+        let b = 16 * h + l;
+        row[i] = b;
+        sum += b as u32;
+        q += 2;
+        i += 1;
+        left -= 1;
+    }
+    Run { good: true, sum }
+}
+
+// Spells k pairs from p on into the row, up to the first that is none; nothing where they lie past the text or the row.
+pub fn spell(row: &mut [u8], text: &[u8], p: usize, k: usize) -> Run
+    ensures { λ r. ⌜ r ≡ runOf (now (text .entry)) p k (length (now (row .entry))) ⌝ }
+    ensures { λ _. ⌜ now (row .exit) ≡ rowAfter (now (row .entry)) (now (text .entry)) p k ⌝ }
+{
+    if 260 < k {
+        return Run {
+            good: false,
+            sum: 0,
+        };
+    }
+    if row.len() < k {
+        return Run {
+            good: false,
+            sum: 0,
+        };
+    }
+    if text.len() < p {
+        return Run {
+            good: false,
+            sum: 0,
+        };
+    }
+    if text.len() - p < 2 * k {
+        return Run {
+            good: false,
+            sum: 0,
+        };
+    }
+    spell_pairs(row, text, p, k)
+}
+
+// How many characters the line end at a position has: LF 1, CR LF 2, none 0.
+pub fn line_end(text: &[u8], at: usize) -> usize
+    ensures { λ r. ⌜ r ≡ lineEnd (now (text .entry)) at ⌝ }
+{
+    if text.len() <= at {
+        return 0;
+    }
+    if text[at] == 10 {
+        return 1;
+    }
+    if text[at] == 13 {
+        if at + 1 < text.len() {
+            if text[at + 1] == 10 {
+                return 2;
+            }
+        }
+    }
+    0
+}
+
+// Copies n bytes of the row, from `from` on, into dst.
+fn copy(dst: &mut [u8], to: usize, row: &[u8], from: usize, n: usize)
+    requires { ⌜ (from + n ≤ length (now row)) × (to + n ≤ length (now dst)) ⌝ }
+    ensures { λ _. ⌜ now (dst .exit) ≡ sets (now (dst .entry)) to (take n (drop from (now (row .entry)))) ⌝ }
+{
+    let mut i = from;
+    let mut j = to;
+    let mut left = n;
+    while 0 < left {
+        dst[j] = row[i];
+        i += 1;
+        j += 1;
+        left -= 1;
+    }
+}
+
+// The same, and nothing where the row or dst is too short.
+fn store(dst: &mut [u8], to: usize, row: &[u8], from: usize, n: usize)
+    ensures { λ _. ⌜ now (dst .exit) ≡ storedAt (now (dst .entry)) to (now (row .entry)) from n ⌝ }
+{
+    if row.len() < n {
+        return;
+    }
+    if row.len() - n < from {
+        return;
+    }
+    if dst.len() < n {
+        return;
+    }
+    if dst.len() - n < to {
+        return;
+    }
+    copy(dst, to, row, from, n);
+}
+
+// The same for an image: past the flash the part after it is lent.
+fn store_image(image: &mut [u8], flash: usize, to: usize, row: &[u8], from: usize, n: usize)
+    ensures { λ _. ⌜ now (image .exit) ≡ storedAt (now (image .entry)) to (now (row .entry)) from n ⌝ }
+{
+    if to < flash {
+        store(image, to, row, from, n);
+        return;
+    }
+    if image.len() < flash {
+        return;
+    }
+    store(&mut image[flash..], to - flash, row, from, n);
+}
+
+// Puts n data bytes of a row where the section that is due lies: in the image, or in the header's bytes.
+pub fn fill(
+    image: &mut [u8],
+    header: &mut [u8],
+    flash: usize,
+    due: Section,
+    row: &[u8],
+    from: usize,
+    n: usize,
+)
+    ensures { λ _. ⌜ now (image .exit) ≡ storedIn InImage (now (image .entry)) due (now (row .entry)) from n ⌝ }
+    ensures { λ _. ⌜ now (header .exit) ≡ storedIn InHeader (now (header .entry)) due (now (row .entry)) from n ⌝ }
+{
+    let home = due.home;
+    let to = due.offset;
+    match home {
+        Home::InImage => store_image(image, flash, to, row, from, n),
+        Home::InHeader => store(header, to, row, from, n),
+    }
+}
+
+// Zeroes the first n bytes, where there are so many.
+pub fn clear(bytes: &mut [u8], n: usize)
+    ensures { λ _. ⌜ now (bytes .exit) ≡ cleared n (now (bytes .entry)) ⌝ }
+{
+    if bytes.len() < n {
+        return;
+    }
+    let mut i: usize = 0;
+    while i < n {
+        bytes[i] = 0;
+        i += 1;
+    }
+}
+
+// A refusal: its number, and a header of zeros.
+pub fn refusal(number: u8) -> ReadAnswer
+    ensures { λ r. ⌜ r ≡ record { number = number; header = noHeader } ⌝ }
+{
+    ReadAnswer {
+        number,
+        header: Header {
+            part: 0,
+            macros: 0,
+            sum: 0,
+            metadata: [0u8; 12],
+            level: 0,
+        },
+    }
+}
+
+// Checks an image that was read: its header, or the number of what is wrong with it and zeros in its place.
+pub fn settle(part: u8, macros: u8, header: [u8; 15], image: &mut [u8]) -> ReadAnswer
+    ensures { λ r. ⌜ r ≡ answerOf (settled part macros header (now (image .entry))) ⌝ }
+    ensures { λ _. ⌜ now (image .exit) ≡ bufferAfter (settled part macros header (now (image .entry))) (now (image .entry)) ⌝ }
+{
+    let h = image::header_of(part, macros, header);
+    let number = image::check(h, image);
+    if number == 0 {
+        return ReadAnswer {
+            number: 0,
+            header: h,
+        };
+    }
+    let all = image.len();
+    clear(image, all);
+    refusal(number)
+}
