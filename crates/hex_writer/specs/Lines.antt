@@ -1,0 +1,22 @@
+-- What the functions that put lines leave. Assumes nothing.
+use mathlib.Core.List.{List, [], _∷_}
+use Prim.Native.Nat.{ℕ, zero, suc, _+_}
+use lib.ListN.{length}
+use Rattle.hex.specs.Written.{linesFrom, upperOf}
+use Rattle.hex_writer.specs.declared.Place.{Place}
+use Rattle.text.specs.Digits.{capital}
+use Rattle.text.specs.Placing.{Piece}
+
+-- the capitals of the n numbers from i on
+unfoldable pub capitalsFrom : (i n : ℕ) → List ℕ
+capitalsFrom i zero = []
+capitalsFrom i (suc n) = capital i ∷ capitalsFrom (i + 1) n
+
+-- the upper half that the last of some pieces leaves
+unfoldable pub upperPast : (upper : ℕ) → List Piece → ℕ
+upperPast upper [] = upper
+upperPast upper (p ∷ ps) = upperPast (upperOf (p .address)) ps
+
+-- where the text goes on after the lines of some pieces
+unfoldable pub placeAfter : Place → List Piece → Place
+placeAfter w ps = record { at = w .at + length (linesFrom (w .upper) ps); upper = upperPast (w .upper) ps }

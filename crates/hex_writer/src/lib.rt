@@ -1,0 +1,86 @@
+// Writes the Intel hex text of an image (document 01, 'Hex text').
+ghost use mathlib.Core.Path.{_≡_};
+ghost use mathlib.Core.List.{_++_};
+ghost use Prim.Native.Nat.{_+_, _-_, _*_, _%_, _≤_, _<_};
+ghost use lib.ListN.{length};
+ghost use lib.Seq.{sets};
+ghost use Rattle.image.specs.Words.{total};
+ghost use Rattle.text.specs.Digits.{capital as capitalOf, pairsOf};
+ghost use Rattle.hex.specs.Written.{lineText, dataLine, extendedLine, endLine, newUpper, linesFrom};
+ghost use Rattle.hex_writer.specs.Lines.{capitalsFrom};
+
+const CAPITALS: [u8; 16] = [
+    b'0',
+    b'1',
+    b'2',
+    b'3',
+    b'4',
+    b'5',
+    b'6',
+    b'7',
+    b'8',
+    b'9',
+    b'A',
+    b'B',
+    b'C',
+    b'D',
+    b'E',
+    b'F',
+];
+
+// How far the text has come: the next place, and the upper half of the last address.
+struct Place {
+    at: usize,
+    upper: u32,
+}
+
+// The capital digit of a number below 16, by the table.
+fn capital(table: &[u8; 16], n: u8) -> u8
+    requires { ⌜ (now table ≡ capitalsFrom 0 16) × (n < 16) ⌝ }
+    ensures { λ r. ⌜ r ≡ capitalOf n ⌝ }
+{
+    table[n as usize]
+}
+
+// Puts the digit pairs of bytes; their sum.
+fn put_pairs(text: &mut [u8], at: usize, bytes: &[u8]) -> u32
+    requires { ⌜ (at + 2 * length (now bytes) ≤ length (now text)) × (length (now bytes) ≤ 255) ⌝ }
+    ensures { λ r. ⌜ r ≡ total (now (bytes .entry)) ⌝ ∗ ⌜ r ≤ 65025 ⌝ }
+    ensures { λ _. ⌜ now (text .exit) ≡ sets (now (text .entry)) at (pairsOf (now (bytes .entry))) ⌝ }
+{
+    let table = CAPITALS;
+    let mut sum: u32 = 0;
+    let mut q = at;
+    let mut i: usize = 0;
+    while i < bytes.len() {
+        let b = bytes[i];
+        text[q] = capital(&table, b / 16);
+        text[q + 1] = capital(&table, b % 16);
+        sum += b as u32;
+        q += 2;
+        i += 1;
+    }
+    sum
+}
+
+// The byte that makes a line's sum 0.
+fn sum_byte(sum: u32) -> u8
+    ensures { λ r. ⌜ r ≡ (256 - sum % 256) % 256 ⌝ }
+{
+    ((256 - sum % 256) % 256) as u8
+}
+
+// Puts a line: a colon, the head, the data, the byte that makes the sum 0, CR LF.
+fn put_line(text: &mut [u8], at: usize, head: [u8; 4], payload: &[u8])
+    requires { ⌜ (length (now payload) ≤ 64) × (at + 13 + 2 * length (now payload) ≤ length (now text)) ⌝ }
+    ensures { λ _. ⌜ now (text .exit) ≡ sets (now (text .entry)) at (lineText (head ++ now (payload .entry))) ⌝ }
+{
+    text[at] = b':';
+    let first = put_pairs(text, at + 1, &head);
+    let second = put_pairs(text, at + 9, payload);
+    let end = at + 9 + 2 * payload.len();
+    let last = [sum_byte(first + second)];
+    put_pairs(text, end, &last);
+    text[end + 2] = b'\r';
+    text[end + 3] = b'\n';
+}
