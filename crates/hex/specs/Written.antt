@@ -38,13 +38,14 @@ abbrev pub lowOf : ℕ → ℕ
 lowOf a = a % 65536
 
 -- '.. and at each new upper half'
-abbrev pub newUpper : (upper : ℕ) → Piece → List ℕ
-newUpper upper p = cond (eqb (upperOf (p .address)) upper) [] (extendedLine (upperOf (p .address)))
+abbrev pub newUpper : (upper new : ℕ) → List ℕ
+newUpper upper new = cond (eqb new upper) [] (extendedLine new)
 
 -- the lines of the pieces while the upper half is so
 unfoldable pub linesFrom : (upper : ℕ) → List Piece → List ℕ
 linesFrom upper [] = []
-linesFrom upper (p ∷ ps) = newUpper upper p ++ (dataLine (lowOf (p .address)) (p .bytes) ++ linesFrom (upperOf (p .address)) ps)
+linesFrom upper (p ∷ ps) =
+    newUpper upper (upperOf (p .address)) ++ (dataLine (lowOf (p .address)) (p .bytes) ++ linesFrom (upperOf (p .address)) ps)
 
 -- 'a type 4 record first' and the end record last
 unfoldable pub writtenText : List Piece → List ℕ

@@ -12,6 +12,9 @@ unfoldable pub capitalsFrom : (i n : ℕ) → List ℕ
 capitalsFrom i zero = []
 capitalsFrom i (suc n) = capital i ∷ capitalsFrom (i + 1) n
 
+abbrev pub onePiece : (address : ℕ) (bytes : List ℕ) → List Piece
+onePiece a bs = record { address = a; bytes = bs } ∷ []
+
 -- the upper half that the last of some pieces leaves
 unfoldable pub upperPast : (upper : ℕ) → List Piece → ℕ
 upperPast upper [] = upper

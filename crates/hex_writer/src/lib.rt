@@ -1,13 +1,14 @@
 // Writes the Intel hex text of an image (document 01, 'Hex text').
 ghost use mathlib.Core.Path.{_≡_};
 ghost use mathlib.Core.List.{_++_};
-ghost use Prim.Native.Nat.{_+_, _-_, _*_, _%_, _≤_, _<_};
+ghost use Prim.Native.Nat.{min, _+_, _-_, _*_, _/_, _%_, _≤_, _<_};
 ghost use lib.ListN.{length};
 ghost use lib.Seq.{sets};
 ghost use Rattle.image.specs.Words.{total};
 ghost use Rattle.text.specs.Digits.{capital as capitalOf, pairsOf};
 ghost use Rattle.hex.specs.Written.{lineText, dataLine, extendedLine, endLine, newUpper, linesFrom};
-ghost use Rattle.hex_writer.specs.Lines.{capitalsFrom};
+ghost use Rattle.hex_writer.specs.Lines.{capitalsFrom, onePiece, placeAfter};
+ghost use Rattle.text.specs.Placing.{cut};
 
 const CAPITALS: [u8; 16] = [
     b'0',
@@ -83,4 +84,79 @@ fn put_line(text: &mut [u8], at: usize, head: [u8; 4], payload: &[u8])
     put_pairs(text, end, &last);
     text[end + 2] = b'\r';
     text[end + 3] = b'\n';
+}
+
+// Puts a data record.
+fn put_data(text: &mut [u8], at: usize, low: u32, payload: &[u8])
+    requires { ⌜ (low < 65536) × (length (now payload) ≤ 64) × (at + 13 + 2 * length (now payload) ≤ length (now text)) ⌝ }
+    ensures { λ _. ⌜ now (text .exit) ≡ sets (now (text .entry)) at (dataLine low (now (payload .entry))) ⌝ }
+{
+    let head = [payload.len() as u8, (low / 256) as u8, (low % 256) as u8, 0];
+    put_line(text, at, head, payload);
+}
+
+// Puts a type 4 record.
+fn put_extended(text: &mut [u8], at: usize, upper: u32)
+    requires { ⌜ (upper < 65536) × (at + 17 ≤ length (now text)) ⌝ }
+    ensures { λ _. ⌜ now (text .exit) ≡ sets (now (text .entry)) at (extendedLine upper) ⌝ }
+{
+    let half = [(upper / 256) as u8, (upper % 256) as u8];
+    put_line(text, at, [2, 0, 0, 4], &half);
+}
+
+// Puts a type 4 record where the upper half is a new one; the place after it.
+fn put_upper(text: &mut [u8], place: Place, upper: u32) -> usize
+    requires { ⌜ (upper < 65536) × (place .at + length (newUpper (place .upper) upper) ≤ length (now text)) ⌝ }
+    ensures { λ r. ⌜ r ≡ place .at + length (newUpper (place .upper) upper) ⌝ }
+    ensures { λ _. ⌜ now (text .exit) ≡ sets (now (text .entry)) (place .at) (newUpper (place .upper) upper) ⌝ }
+{
+    let at = place.at;
+    if upper == place.upper {
+        return at;
+    }
+    put_extended(text, at, upper);
+    at + 17
+}
+
+// Puts the lines of one piece.
+fn put_piece(text: &mut [u8], place: Place, address: u32, payload: &[u8]) -> Place
+    requires { ⌜ (length (now payload) ≤ 64) × (placeAfter place (onePiece address (now payload)) .at ≤ length (now text)) ⌝ }
+    ensures { λ r. ⌜ r ≡ placeAfter place (onePiece address (now (payload .entry))) ⌝ }
+    ensures { λ _. ⌜ now (text .exit) ≡ sets (now (text .entry)) (place .at) (linesFrom (place .upper) (onePiece address (now (payload .entry)))) ⌝ }
+{
+    let upper = address / 65536;
+    let at = put_upper(text, place, upper);
+    put_data(text, at, address % 65536, payload);
+    Place {
+        at: at + 13 + 2 * payload.len(),
+        upper,
+    }
+}
+
+// Where the piece that starts at `from` ends: after 64 bytes, or at the section's end.
+fn piece_end(from: usize, size: usize) -> usize
+    requires { ⌜ from ≤ size ⌝ }
+    ensures { λ r. ⌜ r ≡ min (from + 64) size ⌝ }
+{
+    if size - from < 64 { size } else { from + 64 }
+}
+
+// Puts the lines of a section's pieces.
+fn put_section(text: &mut [u8], place: Place, address: u32, bytes: &[u8]) -> Place
+    requires { ⌜ (address + length (now bytes) + 64 ≤ 4294967296) × (placeAfter place (cut ((length (now bytes) + 63) / 64) address (now bytes)) .at ≤ length (now text)) ⌝ }
+    ensures { λ r. ⌜ r ≡ placeAfter place (cut ((length (now (bytes .entry)) + 63) / 64) address (now (bytes .entry))) ⌝ }
+    ensures { λ _. ⌜ now (text .exit) ≡ sets (now (text .entry)) (place .at) (linesFrom (place .upper) (cut ((length (now (bytes .entry)) + 63) / 64) address (now (bytes .entry)))) ⌝ }
+{
+    let mut w = place;
+    let mut a = address;
+    let mut from: usize = 0;
+    let mut left = (bytes.len() + 63) / 64;
+    while 0 < left {
+        let end = piece_end(from, bytes.len());
+        w = put_piece(text, w, a, &bytes[from..end]);
+        a += 64;
+        from = end;
+        left -= 1;
+    }
+    w
 }
