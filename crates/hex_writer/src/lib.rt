@@ -7,8 +7,17 @@ ghost use lib.Seq.{sets};
 ghost use Rattle.image.specs.Words.{total};
 ghost use Rattle.text.specs.Digits.{capital as capitalOf, pairsOf};
 ghost use Rattle.hex.specs.Written.{lineText, dataLine, extendedLine, endLine, newUpper, linesFrom};
+ghost use Rattle.hex.specs.Written.{writtenText, textOf, textLength};
 ghost use Rattle.hex_writer.specs.Lines.{capitalsFrom, onePiece, placeAfter};
-ghost use Rattle.text.specs.Placing.{cut};
+ghost use Rattle.hex_writer.specs.Sized.{Sound, Sized, Laid};
+ghost use Rattle.hex_writer.specs.Writing.{writeOf, textAfter};
+ghost use Rattle.image.specs.Sections.{sectionsOf, sectionBytes};
+ghost use Rattle.text.specs.Placing.{piecesIn, cut, pieces};
+use image::Header;
+use image::Home;
+use image::Section;
+use parts::Geometry;
+use parts::Lookup;
 
 const CAPITALS: [u8; 16] = [
     b'0',
@@ -28,6 +37,12 @@ const CAPITALS: [u8; 16] = [
     b'E',
     b'F',
 ];
+
+// What writing gives: 0 and the text's length, or a refusal's number and 0.
+pub struct WriteAnswer {
+    pub number: u8,
+    pub length: usize,
+}
 
 // How far the text has come: the next place, and the upper half of the last address.
 struct Place {
@@ -157,6 +172,43 @@ fn put_section(text: &mut [u8], place: Place, address: u32, bytes: &[u8]) -> Pla
         a += 64;
         from = end;
         left -= 1;
+    }
+    w
+}
+
+// Puts the lines of a section, whose bytes lie in the image or in the header.
+fn put_home(text: &mut [u8], place: Place, s: Section, h: Header, bytes: &[u8]) -> Place
+    requires { ⌜ Laid h (now bytes) s ⌝ }
+    requires { ⌜ placeAfter place (cut (piecesIn s) (s .address) (sectionBytes h (now bytes) s)) .at ≤ length (now text) ⌝ }
+    ensures { λ r. ⌜ r ≡ placeAfter place (cut (piecesIn s) (s .address) (sectionBytes h (now (bytes .entry)) s)) ⌝ }
+    ensures { λ _. ⌜ now (text .exit) ≡ sets (now (text .entry)) (place .at) (linesFrom (place .upper) (cut (piecesIn s) (s .address) (sectionBytes h (now (bytes .entry)) s))) ⌝ }
+{
+    let address = s.address;
+    let home = s.home;
+    let from = s.offset;
+    let end = from + s.size;
+    match home {
+        Home::InImage => put_section(text, place, address, &bytes[from..end]),
+        Home::InHeader => {
+            let header = image::header_bytes(h);
+            put_section(text, place, address, &header[from..end])
+        }
+    }
+}
+
+// Puts the lines of all sections.
+fn put_sections(text: &mut [u8], place: Place, g: Geometry, h: Header, bytes: &[u8]) -> Place
+    requires { ⌜ Sized g h (now bytes) ⌝ }
+    requires { ⌜ placeAfter place (pieces (sectionBytes h (now bytes)) (sectionsOf g)) .at ≤ length (now text) ⌝ }
+    ensures { λ r. ⌜ r ≡ placeAfter place (pieces (sectionBytes h (now (bytes .entry))) (sectionsOf g)) ⌝ }
+    ensures { λ _. ⌜ now (text .exit) ≡ sets (now (text .entry)) (place .at) (linesFrom (place .upper) (pieces (sectionBytes h (now (bytes .entry))) (sectionsOf g))) ⌝ }
+{
+    let mut w = place;
+    let mut k: usize = 0;
+    while k < 5 {
+        let s = image::section_at(g, k);
+        w = put_home(text, w, s, h, bytes);
+        k += 1;
     }
     w
 }
