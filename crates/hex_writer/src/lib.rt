@@ -212,3 +212,46 @@ fn put_sections(text: &mut [u8], place: Place, g: Geometry, h: Header, bytes: &[
     }
     w
 }
+
+// Puts the end record.
+fn put_end(text: &mut [u8], at: usize)
+    requires { ⌜ at + 13 ≤ length (now text) ⌝ }
+    ensures { λ _. ⌜ now (text .exit) ≡ sets (now (text .entry)) at endLine ⌝ }
+{
+    text::store(text, at, b":00000001FF\r\n", 0, 13);
+}
+
+// The length of a section's lines.
+fn lines_length(size: usize) -> usize
+    requires { ⌜ size ≤ 33554432 ⌝ }
+    ensures { λ r. ⌜ r ≡ 17 * ((size + 65535) / 65536) + 13 * ((size + 63) / 64) + 2 * size ⌝ ∗ ⌜ r ≤ 100000000 ⌝ }
+{
+    17 * ((size + 65535) / 65536) + 13 * ((size + 63) / 64) + 2 * size
+}
+
+// The length of an image's text.
+fn text_length(g: Geometry) -> usize
+    requires { ⌜ Sound g ⌝ }
+    ensures { λ r. ⌜ r ≡ textLength g ⌝ }
+{
+    let mut sum: usize = 13;
+    let mut k: usize = 0;
+    while k < 5 {
+        let s = image::section_at(g, k);
+        sum += lines_length(s.size);
+        k += 1;
+    }
+    sum
+}
+
+// Puts the text of an image.
+fn put_text(text: &mut [u8], g: Geometry, h: Header, bytes: &[u8])
+    requires { ⌜ Sized g h (now bytes) ⌝ }
+    requires { ⌜ length (textOf g h (now bytes)) ≤ length (now text) ⌝ }
+    ensures { λ _. ⌜ now (text .exit) ≡ sets (now (text .entry)) 0 (textOf g h (now (bytes .entry))) ⌝ }
+{
+    put_extended(text, 0, 0);
+    let w = put_sections(text, Place { at: 17, upper: 0 }, g, h, bytes);
+    let at = w.at;
+    put_end(text, at);
+}
