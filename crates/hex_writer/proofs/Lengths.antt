@@ -6,11 +6,17 @@ use Prim.Native.Nat.{ℕ, zero, suc, _+_, _-_, _*_, _/_, _%_, _≤_, _<_}
 use native.Mathlib.Omega.{arith}
 use borrow.Author.Tests.{eqb-true, eqb-false}
 use lib.Dec.{eqb}
-use lib.ListN.{length, take, drop, length-append, length-take, length-drop}
-use Rattle.hex.specs.Written.{dataLine, extendedLine, newUpper, lowOf, upperOf, linesFrom, uppersIn}
-use Rattle.hex_writer.specs.Lines.{upperPast, linesLength}
+use lib.ListN.{length, getD, take, drop, length-append, length-take, length-drop}
+use Rattle.hex.specs.Written.{dataLine, extendedLine, newUpper, lowOf, upperOf, linesFrom, uppersIn, textOf, textLength}
+use Rattle.hex_writer.specs.Lines.{upperPast, linesLength, placeAfter}
+use Rattle.hex_writer.specs.Sized.{Sound, Sized, Laid}
 use Rattle.hex_writer.proofs.Lines.{data-length, extended-length, upper-same, upper-new, lines-append}
+use Rattle.hex_writer.proofs.Whole.{laid-at, text-lines, text-room}
+use Rattle.image.specs.Sections.{sectionsOf, noSection, sectionBytes, homeOf}
+use Rattle.image.specs.declared.Header.{Header}
 use Rattle.image.specs.declared.Section.{Section}
+use Rattle.parts.specs.Sizes.{flashSize}
+use Rattle.parts.specs.declared.Geometry.{Geometry}
 use Rattle.text.specs.Placing.{Piece, cut, piecesIn, pieces, overall}
 
 -- a type 4 record of the next upper half
@@ -32,11 +38,12 @@ lines-cons : (u : ℕ) (p : Piece) (ps : List Piece)
     → length (linesFrom u (p ∷ ps)) ≡ length (newUpper u (upperOf (p .address))) + (13 + 2 * length (p .bytes)) + length (linesFrom (upperOf (p .address)) ps)
 unfolding linesFrom
 lines-cons u p ps =
-    omega
-    (arith,
-    length-append (newUpper u (upperOf (p .address))) (dataLine (lowOf (p .address)) (p .bytes) ++ linesFrom (upperOf (p .address)) ps),
-    length-append (dataLine (lowOf (p .address)) (p .bytes)) (linesFrom (upperOf (p .address)) ps),
-    data-length (lowOf (p .address)) (p .bytes))
+    omega (
+      arith,
+      length-append (newUpper u (upperOf (p .address))) (dataLine (lowOf (p .address)) (p .bytes) ++ linesFrom (upperOf (p .address)) ps),
+      length-append (dataLine (lowOf (p .address)) (p .bytes)) (linesFrom (upperOf (p .address)) ps),
+      data-length (lowOf (p .address)) (p .bytes),
+    )
 
 adds : (all new here rest next last u v n size : ℕ) → here ≡ 64 → all ≡ new + (13 + 2 * here) + rest → rest + 17 * v ≡ next + 17 * last + 13 * suc n + 2 * (size - 64)
     → next + 17 * u ≡ 17 * v
@@ -103,3 +110,65 @@ all-lines f u (s ∷ ss) a =
       length-append (linesFrom u (cut (piecesIn s) (s .address) (f s))) (linesFrom (upperPast u (cut (piecesIn s) (s .address) (f s))) (pieces f ss)),
       ap (λ (v : ℕ). length (linesFrom v (pieces f ss))) past,
     )
+
+-- 'a type 4 record first': the first section's upper half is told before it
+pub first-lines : (f : Section → List ℕ) (s : Section) (ss : List Section) → 0 < s .size → length (f s) ≡ s .size → s .address ≡ 0
+    → Apart f ((s .size - 1) / 65536) ss
+    → 17 + length (linesFrom 0 (pieces f (s ∷ ss))) ≡ overall linesLength (s ∷ ss)
+unfolding pieces overall
+first-lines f s ss some size begins rest =
+    let here = section-lines 0 (s .address) (s .size) (f s) size some (omega arith) in
+    let past : upperPast 0 (cut (piecesIn s) (s .address) (f s)) ≡ (s .size - 1) / 65536 =
+    cut-past (piecesIn s) (s .address) 0 (s .size) (f s) some refl (omega arith) ∙ omega arith in
+    omega (
+      arith,
+      here,
+      stays 0 (s .address / 65536) (omega arith),
+      all-lines f ((s .size - 1) / 65536) ss rest,
+      ap length (lines-append 0 (cut (piecesIn s) (s .address) (f s)) (pieces f ss)),
+      length-append (linesFrom 0 (cut (piecesIn s) (s .address) (f s))) (linesFrom (upperPast 0 (cut (piecesIn s) (s .address) (f s))) (pieces f ss)),
+      ap (λ (v : ℕ). length (linesFrom v (pieces f ss))) past,
+    )
+
+section-size : (h : Header) (bytes : List ℕ) (s : Section) → Laid h bytes s → length (sectionBytes h bytes s) ≡ s .size
+section-size h bytes s l =
+    omega (arith, length-take (s .size) (drop (s .offset) (homeOf (s .home) h bytes)), length-drop (s .offset) (homeOf (s .home) h bytes), l .inside)
+
+-- the text of an image has the length that the formula says
+module _ {g : Geometry} {h : Header} {bytes : List ℕ} (z : Sized g h bytes) where
+  size-at : (k : ℕ) → k < 5 → length (sectionBytes h bytes (getD (sectionsOf g) k noSection)) ≡ getD (sectionsOf g) k noSection .size
+  size-at k i = section-size h bytes (getD (sectionsOf g) k noSection) (laid-at z k i)
+
+  all-apart : Apart (sectionBytes h bytes) ((flashSize g - 1) / 65536) (drop 1 (sectionsOf g))
+  all-apart =
+      let f = z .sound .flashSmall in
+      let l = z .sound .locksSmall in
+      let b = z .sound .locks in (
+        omega arith,
+        size-at 1 (omega arith),
+        omega arith,
+        (λ e. absurd (omega arith)),
+        (
+          b,
+          size-at 2 (omega arith),
+          omega arith,
+          (λ e. absurd (omega arith)),
+          (
+            omega arith,
+            size-at 3 (omega arith),
+            omega arith,
+            (λ e. absurd (omega arith)),
+            (omega arith, size-at 4 (omega arith), omega arith, (λ e. absurd (omega arith)), tt),
+          ),
+        ),
+      )
+
+  pub text-length : length (textOf g h bytes) ≡ textLength g
+  unfolding placeAfter
+  text-length =
+      omega (
+        arith,
+        text-room [] g h bytes,
+        text-lines g,
+        first-lines (sectionBytes h bytes) (getD (sectionsOf g) 0 noSection) (drop 1 (sectionsOf g)) (z .sound .flash) (size-at 0 (omega arith)) refl all-apart,
+      )

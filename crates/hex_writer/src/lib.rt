@@ -12,6 +12,8 @@ ghost use Rattle.hex_writer.specs.Lines.{capitalsFrom, onePiece, placeAf
 ghost use Rattle.hex_writer.specs.Sized.{Sound, Sized, Laid};
 ghost use Rattle.hex_writer.specs.Writing.{writeOf, textAfter};
 ghost use Rattle.image.specs.Sections.{sectionsOf, sectionBytes};
+ghost use Rattle.parts.specs.Parts.{lookupOf};
+ghost use Rattle.parts.specs.declared.Lookup.the-variants.{Found};
 ghost use Rattle.text.specs.Placing.{piecesIn, cut, pieces};
 use image::Header;
 use image::Home;
@@ -254,4 +256,47 @@ fn put_text(text: &mut [u8], g: Geometry, h: Header, bytes: &[u8])
     let w = put_sections(text, Place { at: 17, upper: 0 }, g, h, bytes);
     let at = w.at;
     put_end(text, at);
+}
+
+// A refusal: its number, and the length 0.
+fn refusal(number: u8) -> WriteAnswer
+    ensures { λ r. ⌜ r ≡ record { number = number; length = 0 } ⌝ }
+{
+    WriteAnswer { number, length: 0 }
+}
+
+// Writes the text of an image of a geometry; the checks after the look-up.
+fn write_found(text: &mut [u8], g: Geometry, h: Header, bytes: &[u8]) -> WriteAnswer
+    requires { ⌜ lookupOf (h .part) (h .macros) ≡ Found g ⌝ }
+    ensures { λ r. ⌜ r ≡ writeOf h (now (bytes .entry)) (now (text .entry)) ⌝ }
+    ensures { λ _. ⌜ now (text .exit) ≡ textAfter h (now (bytes .entry)) (now (text .entry)) ⌝ }
+{
+    if bytes.len() != parts::image_size(g) {
+        return refusal(12);
+    }
+    let n = text_length(g);
+    if text.len() < n {
+        return refusal(12);
+    }
+    let fault = image::check(h, bytes);
+    if fault != 0 {
+        return refusal(fault);
+    }
+    put_text(text, g, h, bytes);
+    WriteAnswer {
+        number: 0,
+        length: n,
+    }
+}
+
+// Writes an image's text into the buffer: 0 and the text's length, or a refusal and the buffer as it was.
+pub fn write(header: Header, bytes: &[u8], text: &mut [u8]) -> WriteAnswer
+    ensures { λ r. ⌜ r ≡ writeOf header (now (bytes .entry)) (now (text .entry)) ⌝ }
+    ensures { λ _. ⌜ now (text .exit) ≡ textAfter header (now (bytes .entry)) (now (text .entry)) ⌝ }
+{
+    let found = parts::find(header.part, header.macros);
+    match found {
+        Lookup::Refused(n) => refusal(n),
+        Lookup::Found(g) => write_found(text, g, header, bytes),
+    }
 }
