@@ -5,3 +5,4 @@ pub mod Lines
 pub mod Positions
 pub mod Settling
 pub mod Placing
+pub mod Pieces
