@@ -6,3 +6,4 @@ pub mod Positions
 pub mod Settling
 pub mod Placing
 pub mod Pieces
+pub mod Capitals

@@ -1,15 +1,16 @@
 -- What a text comes to whose records say the pieces of the sections' bytes, in every format. Assumes nothing.
-use mathlib.Core.Bool.{Bool, true, false, false≢true, _&&_, cond}
-use mathlib.Core.List.{List, [], _∷_, _++_, append-assoc, append-nil}
+use mathlib.Core.Bool.{Bool, true, false, cond}
+use mathlib.Core.List.{List, [], _∷_, _++_}
 use mathlib.Core.Path.{_≡_, refl, sym, ap, _∙_}
 use Prim.Native.Nat.{ℕ, zero, suc, _+_, _-_, _*_, _/_, _≤_, _<_}
 use native.Mathlib.Omega.{arith}
-use borrow.Author.Tests.{le-leb, eq-eqb, ne-eqb, eqb-true, leb-true}
-use lib.Dec.{eqb, leb}
-use lib.ListN.{length, take, drop, length-append, length-drop, take-append-drop}
-use lib.Seq.{take-all, length-take-le}
+use borrow.Author.Tests.{le-leb, eq-eqb, ne-eqb}
+use lib.ListN.{length, take, drop, length-drop, take-append-drop}
+use lib.Seq.{take-all, length-take-le, take-at, drop-at}
 use Rattle.image.specs.declared.Section.{Section}
-use Rattle.text.specs.Placing.{Event, Bad, Other, Data, End, Outcome, Refusal, Stream, after, restOf, advance, place, Piece, cut, piecesIn, pieces, overall}
+use Rattle.image.specs.declared.Home.{Home}
+use Rattle.text.specs.Placing.{Event, Bad, Other, Data, End, Outcome, Refusal, Stream, after, restOf, fits, advance, place, sameHome, gathered, Piece, cut, piecesIn, pieces}
+use Rattle.text.proofs.Placing.{no-outcome, after-stream, after-append}
 
 -- the records of a text say just these pieces, then end
 abbrev pub Says : List Piece → List Event → Type 0
@@ -31,11 +32,6 @@ Filled f (s ∷ ss) = (0 < s .size) × (length (f s) ≡ s .size) × Filled f ss
 unfoldable pub joined : (Section → List ℕ) → List Section → List ℕ
 joined f [] = []
 joined f (s ∷ ss) = f s ++ joined f ss
-
-after-append : (a b : List ℕ) (o : Outcome) → after a (after b o) ≡ after (a ++ b) o
-unfolding after
-after-append a b (Refusal n) = refl
-after-append a b (Stream g) = ap Stream (sym (append-assoc a b g))
 
 -- one data record that is due
 step : (s : Section) (ss : List Section) (bs : List ℕ) (es : List Event) → length bs ≤ s .size
@@ -112,14 +108,6 @@ placed f (s ∷ ss) es fill says =
 
 -- ---- and back
 
-no-outcome : {A : Type 0} (n : ℕ) (g : List ℕ) → Refusal n ≡ Stream g → A
-no-outcome n g e = let t : false ≡ true = cc e in absurd (false≢true t)
-
-after-stream : (bs g : List ℕ) (o : Outcome) → after bs o ≡ Stream g → (r : List ℕ) × (o ≡ Stream r) × (g ≡ bs ++ r)
-unfolding after
-after-stream bs g (Refusal n) e = no-outcome n g e
-after-stream bs g (Stream r) e = (r, refl, cc e)
-
 -- the data of a text's records, whatever is due
 unfoldable pub dataOf : List Event → List ℕ
 dataOf [] = []
@@ -128,40 +116,33 @@ dataOf (Other ∷ es) = dataOf es
 dataOf (Data a bs ∷ es) = bs ++ dataOf es
 dataOf (End ∷ es) = dataOf es
 
-advance-sizes : (n : ℕ) (s : Section) (ss : List Section) → n ≤ s .size → n + overall (λ t. t .size) (advance n s ss) ≡ s .size + overall (λ t. t .size) ss
-unfolding advance overall
-advance-sizes n s ss h = go (eqb n (s .size)) refl
+-- a text that is taken: its data, in their order, are the bytes of the sections
+pub place-data : (es : List Event) (due : List Section) (g : List ℕ) → place due es ≡ Stream g → g ≡ dataOf es
+unfolding place dataOf
+place-data [] due g e = no-outcome 5 g e
+place-data (Bad n ∷ es) due g e = no-outcome n g e
+place-data (Other ∷ es) due g e = place-data es due g e
+place-data (Data a bs ∷ es) [] g e = no-outcome 4 g e
+place-data (Data a bs ∷ es) (s ∷ ss) g e = go (fits a (length bs) s) e (λ r q. place-data es (advance (length bs) s ss) r q)
   where
-    go : (b : Bool) → eqb n (s .size) ≡ b → n + overall (λ t. t .size) (cond b ss (restOf n s ∷ ss)) ≡ s .size + overall (λ t. t .size) ss
-    go true q = omega (arith, eqb-true n (s .size) q)
-    go false q = omega arith
-
--- a text that is taken: its data, in their order, are the bytes of the sections, each once
-pub record Whole (es : List Event) (due : List Section) (bytes : List ℕ) : Type 0 where
-  pub data-is : bytes ≡ dataOf es
-  pub each-once : length bytes ≡ overall (λ s. s .size) due
-
-pub whole : (es : List Event) (due : List Section) (bytes : List ℕ) → place due es ≡ Stream bytes → Whole es due bytes
-unfolding place dataOf overall
-whole [] due g e = no-outcome 5 g e
-whole (Bad n ∷ es) due g e = no-outcome n g e
-whole (Other ∷ es) due g e = let w = whole es due g e in record { data-is = w .data-is; each-once = w .each-once }
-whole (Data a bs ∷ es) [] g e = no-outcome 4 g e
-whole (Data a bs ∷ es) (s ∷ ss) g e = go (eqb a (s .address)) (leb (length bs) (s .size)) refl e (λ r q. whole es (advance (length bs) s ss) r q)
-  where
-    go : (x y : Bool) → leb (length bs) (s .size) ≡ y
-        → cond (x && y) (after bs (place (advance (length bs) s ss) es)) (Refusal 4) ≡ Stream g
-        → ((r : List ℕ) → place (advance (length bs) s ss) es ≡ Stream r → Whole es (advance (length bs) s ss) r)
-        → Whole (Data a bs ∷ es) (s ∷ ss) g
-    go true true q e ih =
+    go : (b : Bool) → cond b (after bs (place (advance (length bs) s ss) es)) (Refusal 4) ≡ Stream g
+        → ((r : List ℕ) → place (advance (length bs) s ss) es ≡ Stream r → r ≡ dataOf es)
+        → g ≡ bs ++ dataOf es
+    go true e ih =
         let r = after-stream bs g (place (advance (length bs) s ss) es) e in
-        let i = ih (r .0) (r .1) in
-        record {
-          data-is = r .2 ∙ ap (λ (x : List ℕ). bs ++ x) (i .data-is);
-          each-once = omega (arith, ap length (r .2), length-append bs (r .0), i .each-once, advance-sizes (length bs) s ss (leb-true (length bs) (s .size) q));
-        }
-    go true false q e ih = no-outcome 4 g e
-    go false y q e ih = no-outcome 4 g e
-whole (End ∷ []) [] g e = let z : [] ≡ g = cc e in record { data-is = sym z; each-once = ap length (sym z) }
-whole (End ∷ x ∷ es) [] g e = no-outcome 5 g e
-whole (End ∷ es) (s ∷ ss) g e = no-outcome 5 g e
+        r .2 ∙ ap (λ (x : List ℕ). bs ++ x) (ih (r .0) (r .1))
+    go false e ih = no-outcome 4 g e
+place-data (End ∷ []) [] g e = let z : [] ≡ g = cc e in sym z
+place-data (End ∷ x ∷ es) [] g e = no-outcome 5 g e
+place-data (End ∷ es) (s ∷ ss) g e = no-outcome 5 g e
+
+-- the bytes of the sections in one home, out of the bytes of them all
+abbrev pub filtered : Home → (Section → List ℕ) → List Section → List ℕ
+filtered h f [] = []
+filtered h f (s ∷ ss) = cond (sameHome h (s .home)) (f s) [] ++ filtered h f ss
+
+pub gathered-joined : (h : Home) (f : Section → List ℕ) (ss : List Section) → Filled f ss → gathered h ss (joined f ss) ≡ filtered h f ss
+unfolding gathered joined
+gathered-joined h f [] fill = refl
+gathered-joined h f (s ∷ ss) fill =
+    rw (take-at (f s) (joined f ss) (s .size) (fill .1), drop-at (f s) (joined f ss) (s .size) (fill .1), gathered-joined h f ss (fill .2))
