@@ -136,7 +136,7 @@ section-size h bytes s l =
 
 -- the text of an image has the length that the formula says
 module _ {g : Geometry} {h : Header} {bytes : List ℕ} (z : Sized g h bytes) where
-  size-at : (k : ℕ) → k < 5 → length (sectionBytes h bytes (getD (sectionsOf g) k noSection)) ≡ getD (sectionsOf g) k noSection .size
+  pub size-at : (k : ℕ) → k < 5 → length (sectionBytes h bytes (getD (sectionsOf g) k noSection)) ≡ getD (sectionsOf g) k noSection .size
   size-at k i = section-size h bytes (getD (sectionsOf g) k noSection) (laid-at z k i)
 
   all-apart : Apart (sectionBytes h bytes) ((flashSize g - 1) / 65536) (drop 1 (sectionsOf g))
