@@ -1,5 +1,5 @@
 -- Capitals are digits: written pairs spell the bytes that they were written from. Assumes nothing.
-use mathlib.Core.Bool.{Bool, true, false, cond}
+use mathlib.Core.Bool.{Bool, true, false, _&&_, cond}
 use mathlib.Core.List.{List, [], _∷_, _++_}
 use mathlib.Core.Path.{_≡_, refl, sym, ap, _∙_}
 use Prim.Native.Nat.{ℕ, zero, suc, _+_, _-_, _*_, _/_, _%_, _≤_, _<_}
@@ -7,7 +7,7 @@ use native.Mathlib.Omega.{arith}
 use borrow.Author.Tests.{lt-ltb, le-leb, lt-leb, ltb-true, ltb-false}
 use lib.Dec.{ltb}
 use lib.ListN.{length, getD, take, drop}
-use Rattle.text.specs.Digits.{Spells, spelt, withByte, digitOf, isDigit, capital, pairsOf}
+use Rattle.text.specs.Digits.{Spelt, Unreadable, Spells, spelt, withByte, digitOf, isDigit, capital, pairsOf}
 use Rattle.text.proofs.Lines.{Digits}
 
 -- numbers that are bytes
@@ -69,3 +69,23 @@ spelt-pairs (b ∷ bs) h =
     let y = capital-digit (b % 16) (omega arith) in
     let z : 16 * (b / 16) + b % 16 ≡ b = omega arith in
     rw (capital-is (b / 16) (omega arith), capital-is (b % 16) (omega arith), spelt-pairs bs (h .1), x, y, z)
+
+-- what is spelt are bytes
+abbrev AllSpelt : Spelt → Type 0
+AllSpelt Unreadable = Unit {0}
+AllSpelt (Spells bs) = AllBytes bs
+
+spelt-bytes : (m : List ℕ) → AllSpelt (spelt m)
+unfolding spelt withByte
+spelt-bytes [] = tt
+spelt-bytes (a ∷ []) = tt
+spelt-bytes (a ∷ b ∷ m) = go (isDigit a) (isDigit b) refl refl (spelt m) (spelt-bytes m)
+  where
+    go : (x y : Bool) → isDigit a ≡ x → isDigit b ≡ y → (t : Spelt) → AllSpelt t → AllSpelt (cond (x && y) (withByte (16 * digitOf a + digitOf b) t) Unreadable)
+    go true true p q Unreadable h = tt
+    go true true p q (Spells bs) h = (omega (arith, ltb-true (digitOf a) 16 p, ltb-true (digitOf b) 16 q), h)
+    go true false p q t h = tt
+    go false y p q t h = tt
+
+pub bytes-spelt : (m bs : List ℕ) → spelt m ≡ Spells bs → AllBytes bs
+bytes-spelt m bs e = rw e at (spelt-bytes m)

@@ -10,6 +10,7 @@ use lib.Seq.{take-all, length-take-le, take-at, drop-at}
 use Rattle.image.specs.declared.Section.{Section}
 use Rattle.image.specs.declared.Home.{Home}
 use Rattle.text.specs.Placing.{Event, Bad, Other, Data, End, Outcome, Refusal, Stream, after, restOf, fits, advance, place, sameHome, gathered, Piece, cut, piecesIn, pieces}
+use Rattle.text.proofs.Capitals.{AllBytes, bytes-append, bytes-take, bytes-drop}
 use Rattle.text.proofs.Placing.{no-outcome, after-stream, after-append}
 
 -- the records of a text say just these pieces, then end
@@ -146,3 +147,12 @@ unfolding gathered joined
 gathered-joined h f [] fill = refl
 gathered-joined h f (s ∷ ss) fill =
     rw (take-at (f s) (joined f ss) (s .size) (fill .1), drop-at (f s) (joined f ss) (s .size) (fill .1), gathered-joined h f ss (fill .2))
+
+pub gathered-bytes : (h : Home) (ss : List Section) (stream : List ℕ) → AllBytes stream → AllBytes (gathered h ss stream)
+unfolding gathered
+gathered-bytes h [] stream a = tt
+gathered-bytes h (s ∷ ss) stream a = bytes-append (cond (sameHome h (s .home)) (take (s .size) stream) []) (gathered h ss (drop (s .size) stream)) (go (sameHome h (s .home))) (gathered-bytes h ss (drop (s .size) stream) (bytes-drop (s .size) stream a))
+  where
+    go : (b : Bool) → AllBytes (cond b (take (s .size) stream) [])
+    go true = bytes-take (s .size) stream a
+    go false = tt
