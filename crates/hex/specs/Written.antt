@@ -38,17 +38,18 @@ abbrev pub lowOf : ℕ → ℕ
 lowOf a = a % 65536
 
 -- '.. and at each new upper half'
-abbrev pub newUpper : (upper : ℕ) → Piece → List ℕ
-newUpper upper p = cond (eqb (upperOf (p .address)) upper) [] (extendedLine (upperOf (p .address)))
+abbrev pub newUpper : (upper new : ℕ) → List ℕ
+newUpper upper new = cond (eqb new upper) [] (extendedLine new)
 
--- the lines of the pieces while the upper half is so, and the end record
+-- the lines of the pieces while the upper half is so
 unfoldable pub linesFrom : (upper : ℕ) → List Piece → List ℕ
-linesFrom upper [] = endLine
-linesFrom upper (p ∷ ps) = newUpper upper p ++ (dataLine (lowOf (p .address)) (p .bytes) ++ linesFrom (upperOf (p .address)) ps)
+linesFrom upper [] = []
+linesFrom upper (p ∷ ps) =
+    newUpper upper (upperOf (p .address)) ++ (dataLine (lowOf (p .address)) (p .bytes) ++ linesFrom (upperOf (p .address)) ps)
 
--- 'a type 4 record first'
+-- 'a type 4 record first' and the end record last
 unfoldable pub writtenText : List Piece → List ℕ
-writtenText ps = extendedLine 0 ++ linesFrom 0 ps
+writtenText ps = extendedLine 0 ++ (linesFrom 0 ps ++ endLine)
 
 -- the text of an image
 unfoldable pub textOf : Geometry → Header → (bytes : List ℕ) → List ℕ

@@ -5,3 +5,5 @@ pub mod Lines
 pub mod Positions
 pub mod Settling
 pub mod Placing
+pub mod Pieces
+pub mod Capitals

@@ -136,7 +136,7 @@ fn copy(dst: &mut [u8], to: usize, row: &[u8], from: usize, n: usize)
 }
 
 // The same, and nothing where the row or dst is too short.
-fn store(dst: &mut [u8], to: usize, row: &[u8], from: usize, n: usize)
+pub fn store(dst: &mut [u8], to: usize, row: &[u8], from: usize, n: usize)
     ensures { λ _. ⌜ now (dst .exit) ≡ storedAt (now (dst .entry)) to (now (row .entry)) from n ⌝ }
 {
     if row.len() < n {

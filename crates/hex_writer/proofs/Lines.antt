@@ -1,0 +1,146 @@
+-- Laws of lines and of the lines of pieces. Assumes nothing.
+use mathlib.Core.Bool.{Bool, true, false, cond}
+use mathlib.Core.List.{List, [], _∷_, _++_, append-assoc, append-nil}
+use mathlib.Core.Path.{_≡_, refl, sym, ap, _∙_}
+use Prim.Native.Nat.{ℕ, zero, suc, _+_, _-_, _*_, _/_, _%_, _≤_, _<_}
+use native.Mathlib.Omega.{arith}
+use borrow.Author.Tests.{eq-eqb, ne-eqb}
+use lib.Dec.{eqb}
+use lib.ListN.{length, length-append}
+use lib.Seq.{sets, length-sets}
+use Rattle.hex.specs.Written.{sumByte, lineText, dataLine, extendedLine, newUpper, upperOf, lowOf, linesFrom}
+use Rattle.hex_writer.specs.Lines.{onePiece, upperPast, placeAfter}
+use Rattle.hex_writer.specs.declared.Place.{Place}
+use Rattle.hex_writer.proofs.Pairs.{length-pairs}
+use Rattle.text.proofs.Storing.{sets-append}
+use Rattle.text.specs.Digits.{pairsOf}
+use Rattle.text.specs.Placing.{Piece}
+
+pub line-length : (bs : List ℕ) → length (lineText bs) ≡ 5 + 2 * length bs
+unfolding lineText
+line-length bs =
+    let all : List ℕ = bs ++ (sumByte bs ∷ []) in
+    omega (arith, length-append (pairsOf all) (13 ∷ 10 ∷ []), length-pairs all, length-append bs (sumByte bs ∷ []))
+
+pub data-length : (low : ℕ) (payload : List ℕ) → length (dataLine low payload) ≡ 13 + 2 * length payload
+data-length low payload = line-length (length payload ∷ low / 256 ∷ low % 256 ∷ 0 ∷ payload) ∙ omega arith
+
+pub extended-length : (upper : ℕ) → length (extendedLine upper) ≡ 17
+extended-length upper = line-length (2 ∷ 0 ∷ 0 ∷ 4 ∷ upper / 256 ∷ upper % 256 ∷ [])
+
+-- the type 4 record: none while the upper half stays, else one
+pub upper-same : (u v : ℕ) → v ≡ u → newUpper u v ≡ []
+upper-same u v e = rw (eq-eqb v u e)
+
+pub upper-new : (u v : ℕ) → (v ≡ u → ⊥) → newUpper u v ≡ extendedLine v
+upper-new u v e = rw (ne-eqb v u e)
+
+-- the lines of pieces, one after the other
+pub lines-append : (u : ℕ) (ps qs : List Piece) → linesFrom u (ps ++ qs) ≡ linesFrom u ps ++ linesFrom (upperPast u ps) qs
+unfolding linesFrom upperPast
+lines-append u [] qs = refl
+lines-append u (p ∷ ps) qs = rw (lines-append (upperOf (p .address)) ps qs) (simp append-assoc)
+
+pub past-append : (u : ℕ) (ps qs : List Piece) → upperPast u (ps ++ qs) ≡ upperPast (upperPast u ps) qs
+unfolding upperPast
+past-append u [] qs = refl
+past-append u (p ∷ ps) qs = past-append (upperOf (p .address)) ps qs
+
+abbrev place : (at upper : ℕ) → Place
+place a u = record { at = a; upper = u }
+
+pub after-append : (w : Place) (ps qs : List Piece) → placeAfter w (ps ++ qs) ≡ placeAfter (placeAfter w ps) qs
+unfolding placeAfter
+after-append w ps qs =
+    let e : w .at + length (linesFrom (w .upper) (ps ++ qs)) ≡ w .at + length (linesFrom (w .upper) ps) + length (linesFrom (upperPast (w .upper) ps) qs) =
+    omega (arith, ap length (lines-append (w .upper) ps qs), length-append (linesFrom (w .upper) ps) (linesFrom (upperPast (w .upper) ps) qs)) in
+    ap (λ (a : ℕ). place a (upperPast (w .upper) (ps ++ qs))) e ∙ ap (place _) (past-append (w .upper) ps qs)
+
+-- one piece
+pub one-lines : (u a : ℕ) (bs : List ℕ) → linesFrom u (onePiece a bs) ≡ newUpper u (upperOf a) ++ dataLine (lowOf a) bs
+unfolding linesFrom
+one-lines u a bs = ap (λ (l : List ℕ). newUpper u (upperOf a) ++ l) (append-nil (dataLine (lowOf a) bs))
+
+pub one-after : (w : Place) (a : ℕ) (bs : List ℕ)
+    → placeAfter w (onePiece a bs) ≡ place (w .at + length (newUpper (w .upper) (upperOf a)) + 13 + 2 * length bs) (upperOf a)
+unfolding placeAfter upperPast
+one-after w a bs =
+    ap (λ (n : ℕ). place n (upperOf a))
+    (omega (
+      arith,
+      ap length (one-lines (w .upper) a bs),
+      length-append (newUpper (w .upper) (upperOf a)) (dataLine (lowOf a) bs),
+      data-length (lowOf a) bs,
+    ))
+
+-- what `put_upper` leaves
+module _ (text : List ℕ) (w : Place) (u : ℕ) where
+  abbrev Past : (at : ℕ) (text′ : List ℕ) → Type 0
+  Past at text′ = (at ≡ w .at + length (newUpper (w .upper) u)) × (text′ ≡ sets text (w .at) (newUpper (w .upper) u))
+
+  pub upper-stays : u ≡ w .upper → Past (w .at) text
+  upper-stays e = let n = upper-same (w .upper) u e in (rw n (omega arith), rw n)
+
+  module _ (e : u ≡ w .upper → ⊥) where
+    pub upper-room : w .at + length (newUpper (w .upper) u) ≤ length text → w .at + 17 ≤ length text
+    upper-room h = omega (arith, ap length (upper-new (w .upper) u e), extended-length u)
+
+    pub upper-put : (text′ : List ℕ) → text′ ≡ sets text (w .at) (extendedLine u) → Past (w .at + 17) text′
+    upper-put text′ p =
+        let n = upper-new (w .upper) u e in
+        (omega (arith, ap length n, extended-length u), p ∙ ap (sets text (w .at)) (sym n))
+
+-- what `put_piece` leaves
+module _ (text : List ℕ) (w : Place) (a : ℕ) (bs : List ℕ) where
+  pub one-room : placeAfter w (onePiece a bs) .at ≤ length text → w .at + length (newUpper (w .upper) (upperOf a)) + 13 + 2 * length bs ≤ length text
+  one-room h = omega (arith, ap (λ (p : Place). p .at) (one-after w a bs))
+
+  pub one-put : (at : ℕ) (text₁ text₂ : List ℕ) → Past text w (upperOf a) at text₁ → text₂ ≡ sets text₁ at (dataLine (lowOf a) bs)
+      → (place (at + 13 + 2 * length bs) (upperOf a) ≡ placeAfter w (onePiece a bs)) × (text₂ ≡ sets text (w .at) (linesFrom (w .upper) (onePiece a bs)))
+  one-put at text₁ text₂ p e = (
+    rw (p .0) (sym (one-after w a bs)),
+    e ∙ rw (p .1, p .0) (sym (ap (sets text (w .at)) (one-lines (w .upper) a bs) ∙ sets-append text (w .at) (newUpper (w .upper) (upperOf a)) (dataLine (lowOf a) bs))),
+  )
+
+-- how far the text has come: the pieces that are left put the rest
+pub record Going (text₀ : List ℕ) (w₀ : Place) (all : List Piece) (text : List ℕ) (w : Place) (rest : List Piece) : Type 0 where
+  pub put : sets text₀ (w₀ .at) (linesFrom (w₀ .upper) all) ≡ sets text (w .at) (linesFrom (w .upper) rest)
+  pub after : placeAfter w₀ all ≡ placeAfter w rest
+  pub kept : length text ≡ length text₀
+  pub room : placeAfter w rest .at ≤ length text
+
+pub start : (text : List ℕ) (w : Place) (all : List Piece) → placeAfter w all .at ≤ length text → Going text w all text w all
+start text w all h = record { put = refl; after = refl; kept = refl; room = h }
+
+module _ {text₀ : List ℕ} {w₀ : Place} {all : List Piece} {text : List ℕ} {w : Place} {rest : List Piece} (v : Going text₀ w₀ all text w rest) where
+  module _ (ps qs : List Piece) (e : rest ≡ ps ++ qs) where
+    abbrev next : List ℕ
+    next = sets text (w .at) (linesFrom (w .upper) ps)
+
+    stands : placeAfter w rest ≡ placeAfter (placeAfter w ps) qs
+    stands = ap (placeAfter w) e ∙ after-append w ps qs
+
+    pub fits : placeAfter w ps .at ≤ length text
+    unfolding placeAfter
+    fits = omega (arith, v .room, ap (λ (p : Place). p .at) stands)
+
+    puts : sets text (w .at) (linesFrom (w .upper) rest) ≡ sets next (placeAfter w ps .at) (linesFrom (placeAfter w ps .upper) qs)
+    unfolding placeAfter
+    puts = ap (λ (l : List Piece). sets text (w .at) (linesFrom (w .upper) l)) e ∙ rw (lines-append, sets-append)
+
+    on : Going text₀ w₀ all next (placeAfter w ps) qs
+    on = record {
+      put = v .put ∙ puts;
+      after = v .after ∙ stands;
+      kept = length-sets text (w .at) (linesFrom (w .upper) ps) ∙ v .kept;
+      room = omega (arith, v .room, ap (λ (p : Place). p .at) stands, length-sets text (w .at) (linesFrom (w .upper) ps));
+    }
+
+    -- after the lines of some pieces
+    pub turn : (text′ : List ℕ) (w′ : Place) → w′ ≡ placeAfter w ps → text′ ≡ sets text (w .at) (linesFrom (w .upper) ps)
+        → Going text₀ w₀ all text′ w′ qs
+    turn text′ w′ ew et = rw (ew, et) on
+
+  pub ended : rest ≡ [] → (w ≡ placeAfter w₀ all) × (text ≡ sets text₀ (w₀ .at) (linesFrom (w₀ .upper) all))
+  unfolding placeAfter upperPast linesFrom
+  ended e = (sym (v .after ∙ ap (placeAfter w) e ∙ ap (λ (n : ℕ). place n (w .upper)) (omega arith)), sym (v .put ∙ rw e))

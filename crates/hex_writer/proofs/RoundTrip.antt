@@ -1,0 +1,133 @@
+-- A written text reads back. Assumes nothing.
+use mathlib.Core.Bool.{Bool, true, false, cond}
+use mathlib.Core.List.{List, [], _∷_, _++_, append-nil}
+use mathlib.Core.Path.{_≡_, refl, sym, ap, _∙_}
+use Prim.Native.Nat.{ℕ, zero, suc, _+_, _-_, _*_, _/_, _%_, _≤_, _<_}
+use native.Mathlib.Omega.{arith}
+use borrow.Author.Tests.{le-leb}
+use lib.Dec.{leb}
+use lib.ListN.{length, getD, take, drop, length-append, length-drop, take-append-drop}
+use lib.Seq.{take-all, take-at, getD-at, drop-drop}
+use Rattle.hex.specs.Claims.{Takes}
+use Rattle.hex.specs.Texts.{outcomeOf, hexReading}
+use Rattle.hex.specs.Written.{textOf, writtenText}
+use Rattle.hex_writer.specs.Claims.{Typed}
+use Rattle.hex_writer.specs.Sized.{Sized}
+use Rattle.hex_writer.proofs.Lengths.{size-at}
+use Rattle.hex_writer.proofs.ReadBack.{AllNeat, neat-append, cut-neat, text-says}
+use Rattle.hex_writer.proofs.Table.{sound}
+use Rattle.image.proofs.Sections.{headerWith}
+use Rattle.image.specs.Checks.{imageFault}
+use Rattle.image.specs.Sections.{sectionsOf, sectionBytes, homeOf, headerBytes, headerOf}
+use Rattle.image.specs.declared.Header.{Header}
+use Rattle.image.specs.declared.Home.the-variants.{InImage, InHeader}
+use Rattle.image.specs.declared.Section.{Section}
+use Rattle.parts.specs.Parts.{lookupOf}
+use Rattle.parts.specs.Sizes.{flashSize, lockTotal, imageSize}
+use Rattle.parts.specs.declared.Geometry.{Geometry}
+use Rattle.parts.specs.declared.Lookup.{Lookup}
+use Rattle.parts.specs.declared.Lookup.the-variants.{Found}
+use Rattle.text.proofs.Capitals.{AllBytes, bytes-all, bytes-append, bytes-take, bytes-drop}
+use Rattle.text.proofs.Pieces.{Filled, joined, placed, filtered, gathered-joined}
+use Rattle.text.specs.Placing.{Outcome, Stream, pieces, piecesIn, cut, gathered}
+use Rattle.text.specs.Reading.{Reading, Untouched, Taken, checked, judged, readFor}
+
+-- sections whose pieces are neat
+abbrev Sharp : (Section → List ℕ) → List Section → Type 0
+Sharp f [] = Unit {0}
+Sharp f (s ∷ ss) = (s .address % 64 ≡ 0) × (s .address + s .size ≤ 4294967296) × AllBytes (f s) × Sharp f ss
+
+pieces-neat : (f : Section → List ℕ) (ss : List Section) → Filled f ss → Sharp f ss → AllNeat (pieces f ss)
+unfolding pieces
+pieces-neat f [] fill sharp = tt
+pieces-neat f (s ∷ ss) fill sharp =
+    neat-append (cut (piecesIn s) (s .address) (f s)) (pieces f ss)
+    (cut-neat (piecesIn s) (s .address) (s .size) (f s) (fill .1) (fill .0) refl (sharp .0) (sharp .1) (sharp .2))
+    (pieces-neat f ss (fill .2) (sharp .3))
+
+-- what a header says of itself makes it again
+module _ (h : Header) (sum : h .sum < 65536) (twelve : length (h .metadata) ≡ 12) where
+  pub header-again : headerOf (h .part) (h .macros) (headerBytes h) ≡ h
+  header-again =
+      let s : 256 * (h .sum / 256) + h .sum % 256 ≡ h .sum = omega arith in
+      let m = take-at (h .metadata) (h .level ∷ []) 12 twelve in
+      let l = getD-at (h .metadata) (h .level) [] 0 12 twelve in
+      ap (λ (x : ℕ). headerWith (h .part) (h .macros) x (take 12 (h .metadata ++ (h .level ∷ []))) (getD (h .metadata ++ (h .level ∷ [])) 12 0)) s
+      ∙ ap (λ (x : List ℕ). headerWith (h .part) (h .macros) (h .sum) x (getD (h .metadata ++ (h .level ∷ [])) 12 0)) m
+      ∙ ap (headerWith (h .part) (h .macros) (h .sum) (h .metadata)) l
+
+-- a list in two or three parts
+two-parts : (l : List ℕ) (a b : ℕ) → length l ≡ a + b → take a (drop 0 l) ++ ([] ++ (take b (drop a l) ++ ([] ++ ([] ++ [])))) ≡ l
+two-parts l a b e =
+    rw (append-nil (take b (drop a l)), take-all b (drop a l) (omega (arith, length-drop a l))) (take-append-drop a l)
+
+three-parts : (l : List ℕ) → length l ≡ 15 → [] ++ (take 2 (drop 0 l) ++ ([] ++ (take 12 (drop 2 l) ++ (take 1 (drop 14 l) ++ [])))) ≡ l
+three-parts l e =
+    let d : drop 14 l ≡ drop 12 (drop 2 l) = sym (drop-drop 12 2 l) in
+    rw (append-nil (take 1 (drop 14 l)), take-all 1 (drop 14 l) (omega (arith, length-drop 14 l)), d, take-append-drop 12 (drop 2 l)) (take-append-drop 2 l)
+
+module _ {g : Geometry} {h : Header} {bytes : List ℕ} (found : lookupOf (h .part) (h .macros) ≡ Found g) (t : Typed h bytes) (exact : length bytes ≡ imageSize g) where
+  pub sized : Sized g h bytes
+  sized = record { sound = sound (h .part) (h .macros) g found; metadata = t .metadata; exact = exact }
+
+  abbrev f : Section → List ℕ
+  f = sectionBytes h bytes
+
+  filled : Filled f (sectionsOf g)
+  filled =
+      let a = sized .sound .flash in
+      let b = sized .sound .locks in (
+        a,
+        size-at sized 0 (omega arith),
+        (
+          omega arith,
+          size-at sized 1 (omega arith),
+          (b, size-at sized 2 (omega arith), (omega arith, size-at sized 3 (omega arith), (omega arith, size-at sized 4 (omega arith), tt))),
+        ),
+      )
+
+  header-bytes : AllBytes (headerBytes h)
+  header-bytes =
+      let s = t .sum in
+      (omega arith, (omega arith, bytes-append (h .metadata) (h .level ∷ []) (bytes-all (h .metadata) (t .metadataBytes)) (t .level, tt)))
+
+  in-image : (n o : ℕ) → AllBytes (take n (drop o bytes))
+  in-image n o = bytes-take n (drop o bytes) (bytes-drop o bytes (bytes-all bytes (t .imageBytes)))
+
+  in-header : (n o : ℕ) → AllBytes (take n (drop o (headerBytes h)))
+  in-header n o = bytes-take n (drop o (headerBytes h)) (bytes-drop o (headerBytes h) header-bytes)
+
+  sharp : Sharp f (sectionsOf g)
+  sharp =
+      let a = sized .sound .flashSmall in
+      let b = sized .sound .locksSmall in (
+        omega arith,
+        omega arith,
+        in-image (flashSize g) 0,
+        (
+          omega arith,
+          omega arith,
+          in-header 2 0,
+          (omega arith, omega arith, in-image (lockTotal g) (flashSize g), (omega arith, omega arith, in-header 12 2, (omega arith, omega arith, in-header 1 14, tt))),
+        ),
+      )
+
+  outcome : outcomeOf (textOf g h bytes) (sectionsOf g) ≡ Stream (joined f (sectionsOf g))
+  unfolding textOf
+  outcome = placed f (sectionsOf g) _ filled (text-says (pieces f (sectionsOf g)) (pieces-neat f (sectionsOf g) filled sharp))
+
+  image-is : gathered InImage (sectionsOf g) (joined f (sectionsOf g)) ≡ bytes
+  unfolding imageSize
+  image-is = gathered-joined InImage f (sectionsOf g) filled ∙ two-parts bytes (flashSize g) (lockTotal g) exact
+
+  header-is : gathered InHeader (sectionsOf g) (joined f (sectionsOf g)) ≡ headerBytes h
+  header-is =
+      gathered-joined InHeader f (sectionsOf g) filled
+      ∙ three-parts (headerBytes h) (omega (arith, length-append (h .metadata) (h .level ∷ []), t .metadata))
+
+  pub reads-back : (room : ℕ) → imageFault h bytes ≡ 0 → length bytes ≤ room → Takes (h .part) (h .macros) (textOf g h bytes) room h bytes
+  reads-back room none fits =
+      ap (λ (l : Lookup). readFor l (h .part) (h .macros) room (outcomeOf (textOf g h bytes))) found
+      ∙ ap (λ (b : Bool). cond b (judged g (h .part) (h .macros) (outcomeOf (textOf g h bytes) (sectionsOf g))) (Untouched 12)) (le-leb (imageSize g) room (omega arith))
+      ∙ ap (judged g (h .part) (h .macros)) outcome
+      ∙ rw (header-is, image-is, header-again h (t .sum) (t .metadata), none)

@@ -1,0 +1,163 @@
+-- Laws of all sections. Assumes nothing.
+use mathlib.Core.List.{List, [], _∷_, _++_}
+use mathlib.Core.Path.{_≡_, refl, sym, ap, _∙_}
+use Prim.Native.Nat.{ℕ, zero, suc, _+_, _-_, _*_, _/_, _≤_, _<_}
+use native.Mathlib.Omega.{arith}
+use lib.ListN.{length, getD, drop, length-append, drop-of-length-le}
+use lib.Seq.{sets, drop-cons}
+use Rattle.hex.specs.Written.{extendedLine, endLine, linesFrom, writtenText, textOf, uppersIn, textLength}
+use Rattle.hex_writer.specs.Lines.{placeAfter, linesLength}
+use Rattle.hex_writer.specs.Sized.{Sound, Sized, Laid}
+use Rattle.hex_writer.specs.declared.Place.{Place}
+use Rattle.hex_writer.proofs.Lines as lines
+use Rattle.image.specs.Sections.{sectionsOf, noSection, sectionBytes, headerBytes}
+use Rattle.image.specs.declared.Header.{Header}
+use Rattle.image.specs.declared.Section.{Section}
+use Rattle.parts.specs.Sizes.{flashSize, lockTotal, imageSize}
+use Rattle.parts.specs.declared.Geometry.{Geometry}
+use Rattle.text.proofs.Storing.{sets-append}
+use Rattle.text.specs.Placing.{Piece, cut, piecesIn, pieces, overall}
+
+-- a section's pieces come first, then those of the sections after it
+pub pieces-turn : (f : Section → List ℕ) (ss : List Section) (k : ℕ) (d : Section) → k < length ss
+    → pieces f (drop k ss) ≡ cut (piecesIn (getD ss k d)) (getD ss k d .address) (f (getD ss k d)) ++ pieces f (drop (k + 1) ss)
+unfolding pieces
+pieces-turn f ss k d h =
+    let n : k + 1 ≡ suc k = omega arith in
+    rw n (ap (pieces f) (drop-cons ss k d h))
+
+pub pieces-none : (f : Section → List ℕ) (ss : List Section) (k : ℕ) → length ss ≤ k → pieces f (drop k ss) ≡ []
+unfolding pieces
+pieces-none f ss k h = ap (pieces f) (drop-of-length-le ss {i = k} h)
+
+pub small-at : (g : Geometry) → Sound g → (k : ℕ) → k < 5 → getD (sectionsOf g) k noSection .offset + getD (sectionsOf g) k noSection .size ≤ 33554432
+small-at g z zero i = omega (arith, z .flashSmall)
+small-at g z (suc zero) i = omega arith
+small-at g z (suc (suc zero)) i = omega (arith, z .flashSmall, z .locksSmall)
+small-at g z (suc (suc (suc zero))) i = omega arith
+small-at g z (suc (suc (suc (suc zero)))) i = omega arith
+small-at g z (suc (suc (suc (suc (suc k))))) i = absurd (omega arith)
+
+module _ {g : Geometry} {h : Header} {bytes : List ℕ} (z : Sized g h bytes) where
+  header-size : length (headerBytes h) ≡ 15
+  header-size = omega (arith, length-append (h .metadata) (h .level ∷ []), z .metadata)
+
+  pub laid-at : (k : ℕ) → k < 5 → Laid h bytes (getD (sectionsOf g) k noSection)
+  unfolding imageSize
+  laid-at zero i = record { some = z .sound .flash; small = small-at g (z .sound) 0 i; high = omega (arith, z .sound .flashSmall); inside = omega (arith, z .exact) }
+  laid-at (suc zero) i = record { some = omega arith; small = small-at g (z .sound) 1 i; high = omega arith; inside = omega (arith, header-size) }
+  laid-at (suc (suc zero)) i = record { some = z .sound .locks; small = small-at g (z .sound) 2 i; high = omega (arith, z .sound .locksSmall); inside = omega (arith, z .exact) }
+  laid-at (suc (suc (suc zero))) i = record { some = omega arith; small = small-at g (z .sound) 3 i; high = omega arith; inside = omega (arith, header-size) }
+  laid-at (suc (suc (suc (suc zero)))) i = record { some = omega arith; small = small-at g (z .sound) 4 i; high = omega arith; inside = omega (arith, header-size) }
+  laid-at (suc (suc (suc (suc (suc k))))) i = absurd (omega arith)
+
+-- how far the loop over the sections has come
+pub record Through (text₀ : List ℕ) (w₀ : Place) (g : Geometry) (h : Header) (bytes text : List ℕ) (w : Place) (k : ℕ) : Type 0 where
+  pub sized : Sized g h bytes
+  pub going : lines.Going text₀ w₀ (pieces (sectionBytes h bytes) (sectionsOf g)) text w (pieces (sectionBytes h bytes) (drop k (sectionsOf g)))
+
+pub start : (text : List ℕ) (w : Place) (g : Geometry) (h : Header) (bytes : List ℕ) → Sized g h bytes
+    → placeAfter w (pieces (sectionBytes h bytes) (sectionsOf g)) .at ≤ length text
+    → Through text w g h bytes text w 0
+start text w g h bytes z r = record { sized = z; going = lines.start text w _ r }
+
+module _ {text₀ : List ℕ} {w₀ : Place} {g : Geometry} {h : Header} {bytes text : List ℕ} {w : Place} {k : ℕ} (v : Through text₀ w₀ g h bytes text w k) where
+  module _ (some : k < 5) (s : Section) (is : s ≡ getD (sectionsOf g) k noSection) where
+    first : pieces (sectionBytes h bytes) (drop k (sectionsOf g))
+        ≡ cut (piecesIn s) (s .address) (sectionBytes h bytes s) ++ pieces (sectionBytes h bytes) (drop (k + 1) (sectionsOf g))
+    first = rw is (pieces-turn (sectionBytes h bytes) (sectionsOf g) k noSection some)
+
+    pub asks : Laid h bytes s × (placeAfter w (cut (piecesIn s) (s .address) (sectionBytes h bytes s)) .at ≤ length text)
+    asks = (rw is (laid-at (v .sized) k some), lines.fits (v .going) _ _ first)
+
+    pub turn : (text′ : List ℕ) (w′ : Place)
+        → w′ ≡ placeAfter w (cut (piecesIn s) (s .address) (sectionBytes h bytes s))
+        → text′ ≡ sets text (w .at) (linesFrom (w .upper) (cut (piecesIn s) (s .address) (sectionBytes h bytes s)))
+        → Through text₀ w₀ g h bytes text′ w′ (k + 1)
+    turn text′ w′ ew et = record { sized = v .sized; going = lines.turn (v .going) _ _ first text′ w′ ew et }
+
+  pub ended : 5 ≤ k
+      → (w ≡ placeAfter w₀ (pieces (sectionBytes h bytes) (sectionsOf g)))
+      × (text ≡ sets text₀ (w₀ .at) (linesFrom (w₀ .upper) (pieces (sectionBytes h bytes) (sectionsOf g))))
+  ended i = lines.ended (v .going) (pieces-none (sectionBytes h bytes) (sectionsOf g) k i)
+
+-- the lengths of all sections' lines
+pub overall-lines : (ss : List Section) → 17 * overall uppersIn ss + 13 * overall piecesIn ss + 2 * overall (λ s. s .size) ss ≡ overall linesLength ss
+unfolding overall
+overall-lines [] = refl
+overall-lines (s ∷ ss) = let e = overall-lines ss in omega arith
+
+pub text-lines : (g : Geometry) → textLength g ≡ 13 + overall linesLength (sectionsOf g)
+unfolding textLength
+text-lines g = omega (arith, overall-lines (sectionsOf g))
+
+overall-turn : (f : Section → ℕ) (ss : List Section) (k : ℕ) (d : Section) → k < length ss → overall f (drop k ss) ≡ f (getD ss k d) + overall f (drop (k + 1) ss)
+unfolding overall
+overall-turn f ss k d h =
+    let n : k + 1 ≡ suc k = omega arith in
+    rw n (ap (overall f) (drop-cons ss k d h))
+
+overall-none : (f : Section → ℕ) (ss : List Section) (k : ℕ) → length ss ≤ k → overall f (drop k ss) ≡ 0
+unfolding overall
+overall-none f ss k h = ap (overall f) (drop-of-length-le ss {i = k} h)
+
+-- how far the measuring has come
+pub record Measuring (g : Geometry) (sum k : ℕ) : Type 0 where
+  pub sound : Sound g
+  pub within : k ≤ 5
+  pub small : sum ≤ 13 + 100000000 * k
+  pub whole : textLength g ≡ sum + overall linesLength (drop k (sectionsOf g))
+
+pub measure-start : (g : Geometry) → Sound g → Measuring g 13 0
+measure-start g z = record { sound = z; within = omega arith; small = omega arith; whole = text-lines g }
+
+module _ {g : Geometry} {sum k : ℕ} (v : Measuring g sum k) where
+  module _ (some : k < 5) (s : Section) (is : s ≡ getD (sectionsOf g) k noSection) where
+    pub measure-small : s .size ≤ 33554432
+    measure-small = omega (arith, small-at g (v .sound) k some, ap (λ (x : Section). x .size) is)
+
+    pub measure-turn : (n : ℕ) → n ≡ linesLength s → n ≤ 100000000 → Measuring g (sum + n) (k + 1)
+    measure-turn n e l = record {
+      sound = v .sound;
+      within = omega arith;
+      small = omega (arith, v .small);
+      whole = omega (arith, v .whole, overall-turn linesLength (sectionsOf g) k noSection some, e ∙ ap linesLength is);
+    }
+
+  pub measured : 5 ≤ k → sum ≡ textLength g
+  measured h = omega (arith, v .whole, overall-none linesLength (sectionsOf g) k h)
+
+-- the text of an image, put part by part
+module _ (text : List ℕ) (g : Geometry) (h : Header) (bytes : List ℕ) where
+  abbrev all : List Piece
+  all = pieces (sectionBytes h bytes) (sectionsOf g)
+
+  abbrev begin : Place
+  begin = record { at = 17; upper = 0 }
+
+  pub text-room : length (textOf g h bytes) ≡ placeAfter begin all .at + 13
+  unfolding textOf writtenText placeAfter
+  text-room =
+      omega (
+        arith,
+        length-append (extendedLine 0) (linesFrom 0 all ++ endLine),
+        length-append (linesFrom 0 all) endLine,
+        lines.extended-length 0,
+      )
+
+  pub after-begin : 17 ≤ placeAfter begin all .at
+  unfolding placeAfter
+  after-begin = omega arith
+
+  pub text-put : (t₁ t₂ t₃ : List ℕ) (w : Place)
+      → t₁ ≡ sets text 0 (extendedLine 0)
+      → w ≡ placeAfter begin all
+      → t₂ ≡ sets t₁ 17 (linesFrom 0 all)
+      → t₃ ≡ sets t₂ (w .at) endLine
+      → t₃ ≡ sets text 0 (textOf g h bytes)
+  unfolding textOf writtenText placeAfter
+  text-put t₁ t₂ t₃ w e₁ ew e₂ e₃ =
+      let n : 0 + length (extendedLine 0) ≡ 17 = omega (arith, lines.extended-length 0) in
+      sym
+      (sets-append text 0 (extendedLine 0) (linesFrom 0 all ++ endLine)
+      ∙ rw (n, ← e₁, sets-append, ← e₂) (sym (e₃ ∙ rw ew)))

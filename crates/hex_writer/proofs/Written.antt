@@ -1,0 +1,93 @@
+-- What an image that is written was. Assumes nothing.
+use mathlib.Core.Bool.{Bool, true, false, false≢true, cond}
+use mathlib.Core.List.{List, [], _∷_, _++_}
+use mathlib.Core.Path.{_≡_, refl, sym, ap, _∙_}
+use Prim.Native.Nat.{ℕ, _≤_, _<_}
+use native.Mathlib.Omega.{arith}
+use borrow.Author.Tests.{eq-eqb, ne-eqb, le-leb, eqb-true, eqb-false, leb-true}
+use lib.Dec.{eqb, leb}
+use lib.ListN.{length}
+use Rattle.hex.specs.Written.{textOf, textLength}
+use Rattle.hex_writer.specs.Claims.{Writes}
+use Rattle.hex_writer.specs.Writing.{Writing, Unwritten, Written, writeChecks, unlessRefused, writeFor, writing}
+use Rattle.hex_writer.proofs.Table.{refused-eleven}
+use Rattle.image.proofs.Checks.{looked}
+use Rattle.image.proofs.Refusals.{passed, failed}
+use Rattle.image.specs.Checks.{contentChecks, imageFault}
+use Rattle.image.specs.Refusals.{_unless_, firstRefusal}
+use Rattle.image.specs.declared.Header.{Header}
+use Rattle.parts.specs.Parts.{lookupOf}
+use Rattle.parts.specs.Sizes.{imageSize}
+use Rattle.parts.specs.declared.Geometry.{Geometry}
+use Rattle.parts.specs.declared.Lookup.{Lookup}
+use Rattle.parts.specs.declared.Lookup.the-variants.{Found, Refused}
+
+-- the refusals of writing, once the sizes fit, are those of the image
+module _ (h : Header) (bytes : List ℕ) (room : ℕ) (g : Geometry) (found : lookupOf (h .part) (h .macros) ≡ Found g) where
+  pub image-number : length bytes ≡ imageSize g → textLength g ≤ room → firstRefusal (writeChecks g h bytes room) ≡ imageFault h bytes
+  image-number exact fits =
+      passed _ _ (eq-eqb (length bytes) (imageSize g) exact)
+      ∙ passed _ _ (le-leb (textLength g) room fits)
+      ∙ sym (looked h bytes found ∙ passed _ _ (eq-eqb (length bytes) (imageSize g) exact))
+
+  pub writes : length bytes ≡ imageSize g → textLength g ≤ room → imageFault h bytes ≡ 0 → Writes h bytes room (textOf g h bytes)
+  writes exact fits none =
+      ap (λ (l : Lookup). writeFor l h bytes room) found
+      ∙ ap (λ (n : ℕ). unlessRefused n (textOf g h bytes)) (image-number exact fits ∙ none)
+
+-- what was written
+pub record WrittenFrom (h : Header) (bytes : List ℕ) (room : ℕ) (text : List ℕ) : Type 0 where
+  pub g : Geometry
+  pub found : lookupOf (h .part) (h .macros) ≡ Found g
+  pub exact : length bytes ≡ imageSize g
+  pub room-enough : textLength g ≤ room
+  pub none : imageFault h bytes ≡ 0
+  pub is : text ≡ textOf g h bytes
+
+module _ (h : Header) (bytes : List ℕ) (room : ℕ) (text : List ℕ) where
+  module _ (g : Geometry) (found : lookupOf (h .part) (h .macros) ≡ Found g) (is : text ≡ textOf g h bytes) (zero-number : firstRefusal (writeChecks g h bytes room) ≡ 0) where
+    exact : (b : Bool) → eqb (length bytes) (imageSize g) ≡ b → length bytes ≡ imageSize g
+    exact true q = eqb-true (length bytes) (imageSize g) q
+    exact false q = absurd (omega (arith, zero-number, failed 12 (12 unless leb (textLength g) room ∷ contentChecks g h bytes) q))
+
+    fits : length bytes ≡ imageSize g → (b : Bool) → leb (textLength g) room ≡ b → textLength g ≤ room
+    fits e true q = leb-true (textLength g) room q
+    fits e false q =
+        absurd
+        (omega (
+          arith,
+          zero-number,
+          passed 12 (12 unless leb (textLength g) room ∷ contentChecks g h bytes) (eq-eqb (length bytes) (imageSize g) e),
+          failed 12 (contentChecks g h bytes) q,
+        ))
+
+    whole : WrittenFrom h bytes room text
+    whole =
+        let e = exact (eqb (length bytes) (imageSize g)) refl in
+        let f = fits e (leb (textLength g) room) refl in
+        record { g = g; found = found; exact = e; room-enough = f; none = sym (image-number h bytes room g found e f) ∙ zero-number; is = is }
+
+  pub written-from : Writes h bytes room text → WrittenFrom h bytes room text
+  written-from = look (lookupOf (h .part) (h .macros)) refl
+    where
+      pick : (g : Geometry) → lookupOf (h .part) (h .macros) ≡ Found g → (n : ℕ) → firstRefusal (writeChecks g h bytes room) ≡ n → (b : Bool) → eqb n 0 ≡ b
+          → cond b (Written (textOf g h bytes)) (Unwritten n) ≡ Written text
+          → WrittenFrom h bytes room text
+      pick g q n d true z e = let t : textOf g h bytes ≡ text = cc e in whole g q (sym t) (d ∙ eqb-true n 0 z)
+      pick g q n d false z e = let t : false ≡ true = cc e in absurd (false≢true t)
+
+      look : (l : Lookup) → lookupOf (h .part) (h .macros) ≡ l → writeFor l h bytes room ≡ Written text → WrittenFrom h bytes room text
+      look (Refused n) q e = let t : false ≡ true = cc e in absurd (false≢true t)
+      look (Found g) q e = pick g q (firstRefusal (writeChecks g h bytes room)) refl (eqb (firstRefusal (writeChecks g h bytes room)) 0) refl e
+
+-- a refusal is never 0
+pub some-number : (h : Header) (bytes : List ℕ) (room n : ℕ) → writing h bytes room ≡ Unwritten n → n ≡ 0 → ⊥
+some-number h bytes room n e z = look (lookupOf (h .part) (h .macros)) refl e
+  where
+    pick : (k : ℕ) (text : List ℕ) (b : Bool) → eqb k 0 ≡ b → cond b (Written text) (Unwritten k) ≡ Unwritten n → ⊥
+    pick k text true q e = let t : false ≡ true = cc e in absurd (false≢true t)
+    pick k text false q e = let t : k ≡ n = cc e in eqb-false k 0 q (t ∙ z)
+
+    look : (l : Lookup) → lookupOf (h .part) (h .macros) ≡ l → writeFor l h bytes room ≡ Unwritten n → ⊥
+    look (Refused k) q e = let t : k ≡ n = cc e in absurd (omega (arith, t, z, refused-eleven (h .part) (h .macros) k q))
+    look (Found g) q e = pick (firstRefusal (writeChecks g h bytes room)) (textOf g h bytes) (eqb (firstRefusal (writeChecks g h bytes room)) 0) refl e

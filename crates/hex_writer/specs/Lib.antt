@@ -1,0 +1,4 @@
+pub mod Lines
+pub mod Sized
+pub mod Writing
+pub mod Claims

@@ -1,0 +1,302 @@
+// Writes the Intel hex text of an image (document 01, 'Hex text').
+ghost use mathlib.Core.Path.{_≡_};
+ghost use mathlib.Core.List.{_++_};
+ghost use Prim.Native.Nat.{min, _+_, _-_, _*_, _/_, _%_, _≤_, _<_};
+ghost use lib.ListN.{length};
+ghost use lib.Seq.{sets};
+ghost use Rattle.image.specs.Words.{total};
+ghost use Rattle.text.specs.Digits.{capital as capitalOf, pairsOf};
+ghost use Rattle.hex.specs.Written.{lineText, dataLine, extendedLine, endLine, newUpper, linesFrom};
+ghost use Rattle.hex.specs.Written.{writtenText, textOf, textLength};
+ghost use Rattle.hex_writer.specs.Lines.{capitalsFrom, onePiece, placeAfter};
+ghost use Rattle.hex_writer.specs.Sized.{Sound, Sized, Laid};
+ghost use Rattle.hex_writer.specs.Writing.{writeOf, textAfter};
+ghost use Rattle.image.specs.Sections.{sectionsOf, sectionBytes};
+ghost use Rattle.parts.specs.Parts.{lookupOf};
+ghost use Rattle.parts.specs.declared.Lookup.the-variants.{Found};
+ghost use Rattle.text.specs.Placing.{piecesIn, cut, pieces};
+use image::Header;
+use image::Home;
+use image::Section;
+use parts::Geometry;
+use parts::Lookup;
+
+const CAPITALS: [u8; 16] = [
+    b'0',
+    b'1',
+    b'2',
+    b'3',
+    b'4',
+    b'5',
+    b'6',
+    b'7',
+    b'8',
+    b'9',
+    b'A',
+    b'B',
+    b'C',
+    b'D',
+    b'E',
+    b'F',
+];
+
+// What writing gives: 0 and the text's length, or a refusal's number and 0.
+pub struct WriteAnswer {
+    pub number: u8,
+    pub length: usize,
+}
+
+// How far the text has come: the next place, and the upper half of the last address.
+struct Place {
+    at: usize,
+    upper: u32,
+}
+
+// The capital digit of a number below 16, by the table.
+fn capital(table: &[u8; 16], n: u8) -> u8
+    requires { ⌜ (now table ≡ capitalsFrom 0 16) × (n < 16) ⌝ }
+    ensures { λ r. ⌜ r ≡ capitalOf n ⌝ }
+{
+    table[n as usize]
+}
+
+// Puts the digit pairs of bytes; their sum.
+fn put_pairs(text: &mut [u8], at: usize, bytes: &[u8]) -> u32
+    requires { ⌜ (at + 2 * length (now bytes) ≤ length (now text)) × (length (now bytes) ≤ 255) ⌝ }
+    ensures { λ r. ⌜ r ≡ total (now (bytes .entry)) ⌝ ∗ ⌜ r ≤ 65025 ⌝ }
+    ensures { λ _. ⌜ now (text .exit) ≡ sets (now (text .entry)) at (pairsOf (now (bytes .entry))) ⌝ }
+{
+    let table = CAPITALS;
+    let mut sum: u32 = 0;
+    let mut q = at;
+    let mut i: usize = 0;
+    while i < bytes.len() {
+        let b = bytes[i];
+        text[q] = capital(&table, b / 16);
+        text[q + 1] = capital(&table, b % 16);
+        sum += b as u32;
+        q += 2;
+        i += 1;
+    }
+    sum
+}
+
+// The byte that makes a line's sum 0.
+fn sum_byte(sum: u32) -> u8
+    ensures { λ r. ⌜ r ≡ (256 - sum % 256) % 256 ⌝ }
+{
+    ((256 - sum % 256) % 256) as u8
+}
+
+// Puts a line: a colon, the head, the data, the byte that makes the sum 0, CR LF.
+fn put_line(text: &mut [u8], at: usize, head: [u8; 4], payload: &[u8])
+    requires { ⌜ (length (now payload) ≤ 64) × (at + 13 + 2 * length (now payload) ≤ length (now text)) ⌝ }
+    ensures { λ _. ⌜ now (text .exit) ≡ sets (now (text .entry)) at (lineText (head ++ now (payload .entry))) ⌝ }
+{
+    text[at] = b':';
+    let first = put_pairs(text, at + 1, &head);
+    let second = put_pairs(text, at + 9, payload);
+    let end = at + 9 + 2 * payload.len();
+    let last = [sum_byte(first + second)];
+    put_pairs(text, end, &last);
+    text[end + 2] = b'\r';
+    text[end + 3] = b'\n';
+}
+
+// Puts a data record.
+fn put_data(text: &mut [u8], at: usize, low: u32, payload: &[u8])
+    requires { ⌜ (low < 65536) × (length (now payload) ≤ 64) × (at + 13 + 2 * length (now payload) ≤ length (now text)) ⌝ }
+    ensures { λ _. ⌜ now (text .exit) ≡ sets (now (text .entry)) at (dataLine low (now (payload .entry))) ⌝ }
+{
+    let head = [payload.len() as u8, (low / 256) as u8, (low % 256) as u8, 0];
+    put_line(text, at, head, payload);
+}
+
+// Puts a type 4 record.
+fn put_extended(text: &mut [u8], at: usize, upper: u32)
+    requires { ⌜ (upper < 65536) × (at + 17 ≤ length (now text)) ⌝ }
+    ensures { λ _. ⌜ now (text .exit) ≡ sets (now (text .entry)) at (extendedLine upper) ⌝ }
+{
+    let half = [(upper / 256) as u8, (upper % 256) as u8];
+    put_line(text, at, [2, 0, 0, 4], &half);
+}
+
+// Puts a type 4 record where the upper half is a new one; the place after it.
+fn put_upper(text: &mut [u8], place: Place, upper: u32) -> usize
+    requires { ⌜ (upper < 65536) × (place .at + length (newUpper (place .upper) upper) ≤ length (now text)) ⌝ }
+    ensures { λ r. ⌜ r ≡ place .at + length (newUpper (place .upper) upper) ⌝ }
+    ensures { λ _. ⌜ now (text .exit) ≡ sets (now (text .entry)) (place .at) (newUpper (place .upper) upper) ⌝ }
+{
+    let at = place.at;
+    if upper == place.upper {
+        return at;
+    }
+    put_extended(text, at, upper);
+    at + 17
+}
+
+// Puts the lines of one piece.
+fn put_piece(text: &mut [u8], place: Place, address: u32, payload: &[u8]) -> Place
+    requires { ⌜ (length (now payload) ≤ 64) × (placeAfter place (onePiece address (now payload)) .at ≤ length (now text)) ⌝ }
+    ensures { λ r. ⌜ r ≡ placeAfter place (onePiece address (now (payload .entry))) ⌝ }
+    ensures { λ _. ⌜ now (text .exit) ≡ sets (now (text .entry)) (place .at) (linesFrom (place .upper) (onePiece address (now (payload .entry)))) ⌝ }
+{
+    let upper = address / 65536;
+    let at = put_upper(text, place, upper);
+    put_data(text, at, address % 65536, payload);
+    Place {
+        at: at + 13 + 2 * payload.len(),
+        upper,
+    }
+}
+
+// Where the piece that starts at `from` ends: after 64 bytes, or at the section's end.
+fn piece_end(from: usize, size: usize) -> usize
+    requires { ⌜ from ≤ size ⌝ }
+    ensures { λ r. ⌜ r ≡ min (from + 64) size ⌝ }
+{
+    if size - from < 64 { size } else { from + 64 }
+}
+
+// Puts the lines of a section's pieces.
+fn put_section(text: &mut [u8], place: Place, address: u32, bytes: &[u8]) -> Place
+    requires { ⌜ (address + length (now bytes) + 64 ≤ 4294967296) × (placeAfter place (cut ((length (now bytes) + 63) / 64) address (now bytes)) .at ≤ length (now text)) ⌝ }
+    ensures { λ r. ⌜ r ≡ placeAfter place (cut ((length (now (bytes .entry)) + 63) / 64) address (now (bytes .entry))) ⌝ }
+    ensures { λ _. ⌜ now (text .exit) ≡ sets (now (text .entry)) (place .at) (linesFrom (place .upper) (cut ((length (now (bytes .entry)) + 63) / 64) address (now (bytes .entry)))) ⌝ }
+{
+    let mut w = place;
+    let mut a = address;
+    let mut from: usize = 0;
+    let mut left = (bytes.len() + 63) / 64;
+    while 0 < left {
+        let end = piece_end(from, bytes.len());
+        w = put_piece(text, w, a, &bytes[from..end]);
+        a += 64;
+        from = end;
+        left -= 1;
+    }
+    w
+}
+
+// Puts the lines of a section, whose bytes lie in the image or in the header.
+fn put_home(text: &mut [u8], place: Place, s: Section, h: Header, bytes: &[u8]) -> Place
+    requires { ⌜ Laid h (now bytes) s ⌝ }
+    requires { ⌜ placeAfter place (cut (piecesIn s) (s .address) (sectionBytes h (now bytes) s)) .at ≤ length (now text) ⌝ }
+    ensures { λ r. ⌜ r ≡ placeAfter place (cut (piecesIn s) (s .address) (sectionBytes h (now (bytes .entry)) s)) ⌝ }
+    ensures { λ _. ⌜ now (text .exit) ≡ sets (now (text .entry)) (place .at) (linesFrom (place .upper) (cut (piecesIn s) (s .address) (sectionBytes h (now (bytes .entry)) s))) ⌝ }
+{
+    let address = s.address;
+    let home = s.home;
+    let from = s.offset;
+    let end = from + s.size;
+    match home {
+        Home::InImage => put_section(text, place, address, &bytes[from..end]),
+        Home::InHeader => {
+            let header = image::header_bytes(h);
+            put_section(text, place, address, &header[from..end])
+        }
+    }
+}
+
+// Puts the lines of all sections.
+fn put_sections(text: &mut [u8], place: Place, g: Geometry, h: Header, bytes: &[u8]) -> Place
+    requires { ⌜ Sized g h (now bytes) ⌝ }
+    requires { ⌜ placeAfter place (pieces (sectionBytes h (now bytes)) (sectionsOf g)) .at ≤ length (now text) ⌝ }
+    ensures { λ r. ⌜ r ≡ placeAfter place (pieces (sectionBytes h (now (bytes .entry))) (sectionsOf g)) ⌝ }
+    ensures { λ _. ⌜ now (text .exit) ≡ sets (now (text .entry)) (place .at) (linesFrom (place .upper) (pieces (sectionBytes h (now (bytes .entry))) (sectionsOf g))) ⌝ }
+{
+    let mut w = place;
+    let mut k: usize = 0;
+    while k < 5 {
+        let s = image::section_at(g, k);
+        w = put_home(text, w, s, h, bytes);
+        k += 1;
+    }
+    w
+}
+
+// Puts the end record.
+fn put_end(text: &mut [u8], at: usize)
+    requires { ⌜ at + 13 ≤ length (now text) ⌝ }
+    ensures { λ _. ⌜ now (text .exit) ≡ sets (now (text .entry)) at endLine ⌝ }
+{
+    text::store(text, at, b":00000001FF\r\n", 0, 13);
+}
+
+// The length of a section's lines.
+fn lines_length(size: usize) -> usize
+    requires { ⌜ size ≤ 33554432 ⌝ }
+    ensures { λ r. ⌜ r ≡ 17 * ((size + 65535) / 65536) + 13 * ((size + 63) / 64) + 2 * size ⌝ ∗ ⌜ r ≤ 100000000 ⌝ }
+{
+    17 * ((size + 65535) / 65536) + 13 * ((size + 63) / 64) + 2 * size
+}
+
+// The length of an image's text.
+fn text_length(g: Geometry) -> usize
+    requires { ⌜ Sound g ⌝ }
+    ensures { λ r. ⌜ r ≡ textLength g ⌝ }
+{
+    let mut sum: usize = 13;
+    let mut k: usize = 0;
+    while k < 5 {
+        let s = image::section_at(g, k);
+        sum += lines_length(s.size);
+        k += 1;
+    }
+    sum
+}
+
+// Puts the text of an image.
+fn put_text(text: &mut [u8], g: Geometry, h: Header, bytes: &[u8])
+    requires { ⌜ Sized g h (now bytes) ⌝ }
+    requires { ⌜ length (textOf g h (now bytes)) ≤ length (now text) ⌝ }
+    ensures { λ _. ⌜ now (text .exit) ≡ sets (now (text .entry)) 0 (textOf g h (now (bytes .entry))) ⌝ }
+{
+    put_extended(text, 0, 0);
+    let w = put_sections(text, Place { at: 17, upper: 0 }, g, h, bytes);
+    let at = w.at;
+    put_end(text, at);
+}
+
+// A refusal: its number, and the length 0.
+fn refusal(number: u8) -> WriteAnswer
+    ensures { λ r. ⌜ r ≡ record { number = number; length = 0 } ⌝ }
+{
+    WriteAnswer { number, length: 0 }
+}
+
+// Writes the text of an image of a geometry; the checks after the look-up.
+fn write_found(text: &mut [u8], g: Geometry, h: Header, bytes: &[u8]) -> WriteAnswer
+    requires { ⌜ lookupOf (h .part) (h .macros) ≡ Found g ⌝ }
+    ensures { λ r. ⌜ r ≡ writeOf h (now (bytes .entry)) (now (text .entry)) ⌝ }
+    ensures { λ _. ⌜ now (text .exit) ≡ textAfter h (now (bytes .entry)) (now (text .entry)) ⌝ }
+{
+    if bytes.len() != parts::image_size(g) {
+        return refusal(12);
+    }
+    let n = text_length(g);
+    if text.len() < n {
+        return refusal(12);
+    }
+    let fault = image::check(h, bytes);
+    if fault != 0 {
+        return refusal(fault);
+    }
+    put_text(text, g, h, bytes);
+    WriteAnswer {
+        number: 0,
+        length: n,
+    }
+}
+
+// Writes an image's text into the buffer: 0 and the text's length, or a refusal and the buffer as it was.
+pub fn write(header: Header, bytes: &[u8], text: &mut [u8]) -> WriteAnswer
+    ensures { λ r. ⌜ r ≡ writeOf header (now (bytes .entry)) (now (text .entry)) ⌝ }
+    ensures { λ _. ⌜ now (text .exit) ≡ textAfter header (now (bytes .entry)) (now (text .entry)) ⌝ }
+{
+    let found = parts::find(header.part, header.macros);
+    match found {
+        Lookup::Refused(n) => refusal(n),
+        Lookup::Found(g) => write_found(text, g, header, bytes),
+    }
+}
