@@ -43,42 +43,8 @@ handled g s a =
       locksStep = leb-true _ _ (a₂ .1);
     }
 
--- a part with its most macros, and so with fewer
-abbrev full : Part → Geometry
-full p = record { part = p; macros = p .«most_macros» }
-
-abbrev tableHandled : List Part → Bool
-tableHandled [] = true
-tableHandled (p ∷ ps) = handles (full p) && tableHandled ps
-
-fewer : (p : Part) (m : ℕ) → handles (full p) ≡ true → m ≤ p .«most_macros» → handles (record { part = p; macros = m }) ≡ true
-fewer p m h l =
-    let t = both (sizesHandled (full p)) (addressesHandled (full p)) h in
-    let s = both (leb 4 (p .«row_bytes») && leb (p .«row_bytes») 1024 && leb 32 (p .«rows_per_macro») && leb (p .«rows_per_macro») 4096) (leb (p .«most_macros») 16) (t .0) in
-    let f : leb m 16 ≡ true = le-leb m 16 (omega (arith, leb-true (p .«most_macros») 16 (s .1))) in
-    rw (s .0, f, t .1)
-
-looked : (ps : List Part) (n m : ℕ) (g : Geometry) → tableHandled ps ≡ true → lookIn ps n m ≡ Found g → handles g ≡ true
-unfolding lookIn
-looked [] n m g h e = absurd (omega (arith, different e))
-  where
-    different : Refused 11 ≡ Found g → _≡_ {A = ℕ} 0 1
-    different e = cc
-looked (p ∷ ps) n m g h e = by (λ h′ e′. looked ps n m g h′ e′) (offers p n m) refl
-  where
-    parts : (handles (full p) ≡ true) × (tableHandled ps ≡ true)
-    parts = both (handles (full p)) (tableHandled ps) h
-
-    by : (tableHandled ps ≡ true → lookIn ps n m ≡ Found g → handles g ≡ true) → (y : Bool) → offers p n m ≡ y → handles g ≡ true
-    by rec true o =
-        let is : Found (record { part = p; macros = m }) ≡ Found g = rw o at e in
-        let geo : record { part = p; macros = m } ≡ g = cc in
-        let t = both (eqb (p .number) n && leb 1 m) (leb m (p .«most_macros»)) o in
-        rw (← geo) (fewer p m (parts .0) (leb-true m (p .«most_macros») (t .1)))
-    by rec false o = rec (parts .1) (rw o at e)
-
 pub table-handled : (n m : ℕ) (g : Geometry) → lookupOf n m ≡ Found g → handles g ≡ true
-table-handled n m g e = looked partTable n m g refl e
+table-handled n m g e = at-found handles refl n m e
 
 -- ---- what the tests decide
 
