@@ -1,8 +1,7 @@
 -- How many moves each list has: decided by the geometry alone. Assumes nothing.
-use mathlib.Core.List.{List, [], _∷_, _++_}
+use mathlib.Core.List.{List, [], _∷_}
 use mathlib.Core.Path.{_≡_, refl, sym, ap, _∙_}
-use Prim.Native.Nat.{ℕ, zero, suc, _+_, _*_, _/_}
-use native.Mathlib.Nat.{mul-add, mul-assoc}
+use Prim.Native.Nat.{ℕ, _+_, _*_, _/_}
 use native.Mathlib.Omega.{arith}
 use lib.ListN.{length, length-append}
 use Rattle.flow.proofs.Counting.{length-words}
@@ -12,7 +11,6 @@ use Rattle.flow.specs.declared.Entry.the-variants.{FromOpen, FromProtected}
 use Rattle.flow.specs.declared.Purpose.{Purpose}
 use Rattle.flow.specs.declared.Purpose.the-variants.{Keep, EntryLevel, Reopened, LastSum, StoredLevel}
 use Rattle.image.specs.Image.{Image}
-use Rattle.image.specs.Words.{wordsAt}
 use Rattle.moves.proofs.Joined.{length-pieces}
 use Rattle.moves.proofs.Steps.{length-call, length-read, length-silicon, length-acquire}
 use Rattle.moves.specs.Moves.{moveCount, openingCount, programCount, bare}

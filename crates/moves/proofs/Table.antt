@@ -2,7 +2,7 @@
 use mathlib.Core.Bool.{Bool, true, false, _&&_, cond}
 use mathlib.Core.List.{List, [], _∷_}
 use mathlib.Core.Path.{_≡_, refl, ap, _∙_}
-use Prim.Native.Nat.{ℕ, zero, suc, _≤_}
+use Prim.Native.Nat.{ℕ, _≤_}
 use native.Mathlib.Omega.{arith}
 use lib.Dec.{eqb, leb}
 use lib.ListN.{length}
@@ -19,7 +19,6 @@ use Rattle.moves.specs.Moves.{moveOf}
 use Rattle.parts.specs.Parts.{partTable, offers, lookIn, lookupOf}
 use Rattle.parts.specs.Sizes.{rowBytes, macrosOf, rowsPerMacro, sysreqOf, imageSize}
 use Rattle.parts.specs.declared.Geometry.{Geometry}
-use Rattle.parts.specs.declared.Lookup.{Lookup}
 use Rattle.parts.specs.declared.Lookup.the-variants.{Found, Refused}
 use Rattle.parts.specs.declared.Part.{Part}
 

@@ -1,6 +1,6 @@
 -- What is at an index of steps 4 to 9, and of the whole sequence. Assumes nothing.
 use mathlib.Core.List.{List, [], _∷_, _++_, append-assoc}
-use mathlib.Core.Path.{_≡_, refl, sym, ap, _∙_}
+use mathlib.Core.Path.{_≡_, sym, ap, _∙_}
 use Prim.Native.Nat.{ℕ, _+_, _-_, _*_, _/_, _<_, _≤_}
 use native.Mathlib.Omega.{arith}
 use lib.ListN.{length, getD, length-append}
@@ -12,7 +12,7 @@ use Rattle.flow.specs.declared.Purpose.the-variants.{Keep, EntryLevel, Reopened
 use Rattle.image.specs.Image.{Image}
 use Rattle.moves.proofs.Counts.{length-privileged, length-rows, length-verify, length-locks, length-checks, length-listed, opening-counted}
 use Rattle.moves.proofs.Joined.{at-first, at-second, within, onward}
-use Rattle.moves.proofs.Steps.{length-call, length-read, length-silicon, length-acquire}
+use Rattle.moves.proofs.Steps.{length-call, length-read, length-silicon}
 use Rattle.moves.specs.Moves.{openingCount}
 use Rattle.parts.specs.Sizes.{rowBytes, macrosOf, rowsPerMacro, rowsOf, levelAt}
 use Rattle.parts.specs.declared.Geometry.{Geometry}

@@ -1,13 +1,13 @@
 -- Words of a part of the image, and what is at an index of a latch call's list. Assumes nothing.
-use mathlib.Core.List.{List, [], _∷_, _++_}
+use mathlib.Core.List.{List, [], _∷_}
 use mathlib.Core.Path.{_≡_, refl, sym, ap, _∙_}
 use Prim.Native.Nat.{ℕ, zero, suc, _+_, _-_, _*_, _/_, _%_, _<_, _≤_}
-use native.Mathlib.Nat.{add-zero, zero-add, not-suc-le-zero, le-of-suc-le-suc}
+use native.Mathlib.Nat.{add-zero, not-suc-le-zero, le-of-suc-le-suc}
 use native.Mathlib.Omega.{arith}
 use lib.ListN.{length, getD, take, drop, length-take, length-drop}
 use lib.Seq.{getD-take, getD-drop, ext-getD}
 use Rattle.flow.proofs.Counting.{length-words}
-use Rattle.flow.specs.Sequence.{key, write, call, writes, listed, latchList, endMove}
+use Rattle.flow.specs.Sequence.{write, call, writes, listed, latchList, endMove}
 use Rattle.image.specs.Words.{wordAt, wordsAt}
 use Rattle.moves.proofs.Counts.{length-writes}
 use Rattle.moves.proofs.Joined.{at-first, at-second}

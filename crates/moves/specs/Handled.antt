@@ -1,6 +1,6 @@
 -- The geometries that moves are found for: every one of the part table is among them (proofs/Table). Assumes nothing.
 use mathlib.Core.Bool.{Bool, _&&_}
-use Prim.Native.Nat.{ℕ, _≤_}
+use Prim.Native.Nat.{_≤_}
 use lib.Dec.{leb}
 use Rattle.parts.specs.Sizes.{rowBytes, macrosOf, rowsPerMacro, sysreqOf}
 use Rattle.parts.specs.declared.Geometry.{Geometry}

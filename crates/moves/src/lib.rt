@@ -1,5 +1,4 @@
 // The move at an index of the programming sequence, found by arithmetic (document 01, 'Flow').
-ghost use mathlib.Core.List.{[], _∷_, _++_};
 ghost use mathlib.Core.Path.{_≡_};
 ghost use Prim.Native.Nat.{_+_, _*_, _/_, _<_, _≤_};
 ghost use lib.ListN.{length, getD};
@@ -7,9 +6,9 @@ ghost use Rattle.flow.specs.Sequence.{program, afterwards, sequence, endMove};
 ghost use Rattle.flow.specs.declared.Entry.the-variants.{FromOpen, FromProtected};
 ghost use Rattle.image.specs.Image.{imageOf};
 ghost use Rattle.moves.specs.Ended.{Ended};
-ghost use Rattle.moves.specs.Handled.{handles, sizesHandled, addressesHandled, Handled};
+ghost use Rattle.moves.specs.Handled.{sizesHandled, addressesHandled, Handled};
 ghost use Rattle.moves.specs.Moves.{moveOf, moveCount, openingCount, programCount};
-ghost use Rattle.parts.specs.Sizes.{rowBytes, macrosOf, rowsPerMacro, rowsOf, imageSize};
+ghost use Rattle.parts.specs.Sizes.{imageSize};
 
 mod calls;
 mod rows;

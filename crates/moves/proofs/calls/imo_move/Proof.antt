@@ -1,5 +1,4 @@
 -- Where IMO is 0 there is no call. Assumes nothing.
-use mathlib.Core.Path.{sym, _∙_}
 use borrow.Author.Needs.{needs}
 use Rattle.flow.specs.Sequence.{imoCall}
 use Rattle.moves.proofs.Steps.{imo-some}

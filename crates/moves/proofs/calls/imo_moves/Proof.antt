@@ -1,7 +1,6 @@
 -- Where IMO is 0 there is no call. Assumes nothing.
 use mathlib.Core.Path.{sym}
 use native.Mathlib.Omega.{arith}
-use borrow.Author.Needs.{needs}
 use Rattle.flow.specs.Sequence.{imoCall}
 use Rattle.moves.proofs.Steps.{length-imo}
 use Rattle.moves.proofs.calls.imo_moves.Statement.{statement}

@@ -1,6 +1,5 @@
 -- The words of the flash. Assumes nothing.
-use mathlib.Core.Path.{_≡_}
-use mathlib.Core.Path.{refl, sym, _∙_}
+use mathlib.Core.Path.{sym, _∙_}
 use native.Mathlib.Omega.{arith}
 use borrow.Author.Needs.{needs}
 use lib.ListN.{length}
