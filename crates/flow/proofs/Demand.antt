@@ -19,7 +19,7 @@ use Rattle.flow.proofs.Frames.{Sound, Why, mishap, otherId, otherPart, 
 use Rattle.flow.proofs.Passing.{table-facts, valid}
 use Rattle.flow.proofs.Phases.{Level}
 use Rattle.flow.proofs.Reaches.{rightSilicon, RightIds, Frame, Bounded, going, Reaches, here, stop, step}
-use Rattle.flow.proofs.Table.{both}
+use Rattle.parts.proofs.Table.{both}
 use Rattle.image.specs.Checks.{metadataAt}
 use Rattle.image.specs.Image.{Image, imageOf}
 use Rattle.parts.specs.Parts.{lowFits}

@@ -8,7 +8,8 @@ use lib.Dec.{leb, ltb}
 use borrow.Author.Tests.{leb-true, lt-ltb, le-ltb, le-leb, lt-leb}
 use Rattle.flow.specs.Map.{inFlash, inLocks, inParams, atLevel, atSysreq, atSysarg, atTestMode, Region, covers, search, lockRegions, regions, place}
 use Rattle.flow.specs.Sequence.{lockStart}
-use Rattle.flow.proofs.Table.{apart, apartFrom, allApart, both, Facts}
+use Rattle.flow.proofs.Table.{apart, apartFrom, allApart, Facts}
+use Rattle.parts.proofs.Table.{both}
 use Rattle.parts.specs.Sizes.{rowBytes, macrosOf, flashSize, locksIn, sysreqOf, sysargOf, PARAMS, TEST-MODE, locksAt, levelAt}
 use Rattle.parts.specs.declared.Geometry.{Geometry}
 

@@ -7,7 +7,7 @@ use native.Mathlib.Omega.{arith}
 use lib.Dec.{eqb, leb}
 use lib.ListN.{length}
 use borrow.Author.Tests.{leb-true, le-leb, eq-eqb, ne-eqb}
-use Rattle.flow.proofs.Table.{both}
+use Rattle.parts.proofs.Table.{both, everywhere, at-found}
 use Rattle.flow.specs.Sequence.{endMove}
 use Rattle.flow.specs.Session.{moveAt}
 use Rattle.flow.specs.declared.Entry.{Entry}
@@ -16,10 +16,10 @@ use Rattle.image.specs.Image.{imageOf}
 use Rattle.image.specs.declared.Header.{Header}
 use Rattle.moves.specs.Handled.{sizesHandled, addressesHandled, handles, Handled}
 use Rattle.moves.specs.Moves.{moveOf}
-use Rattle.parts.specs.Parts.{partTable, offers, lookIn, lookupOf}
+use Rattle.parts.specs.Parts.{lookupOf}
 use Rattle.parts.specs.Sizes.{rowBytes, macrosOf, rowsPerMacro, sysreqOf, imageSize}
 use Rattle.parts.specs.declared.Geometry.{Geometry}
-use Rattle.parts.specs.declared.Lookup.the-variants.{Found, Refused}
+use Rattle.parts.specs.declared.Lookup.the-variants.{Found}
 use Rattle.parts.specs.declared.Part.{Part}
 
 -- the tests as facts
