@@ -1,18 +1,17 @@
 -- Laws of what writing gives. Assumes nothing.
-use mathlib.Core.Bool.{Bool, true, false}
-use mathlib.Core.List.{List, [], _∷_, _++_}
+use mathlib.Core.List.{List}
 use mathlib.Core.Path.{_≡_, refl, sym, ap, _∙_}
-use Prim.Native.Nat.{ℕ, zero, suc, _+_, _≤_, _<_}
+use Prim.Native.Nat.{ℕ, _+_, _≤_, _<_}
 use native.Mathlib.Omega.{arith}
-use borrow.Author.Tests.{eq-eqb, ne-eqb, le-leb, lt-leb}
+use borrow.Author.Tests.{eq-eqb, ne-eqb, lt-leb}
 use lib.ListN.{length, drop}
 use lib.Seq.{sets, sets-eq}
 use Rattle.hex.specs.Written.{textOf, textLength}
 use Rattle.hex_writer.specs.Writing.{Writing, Unwritten, Written, writeChecks, writeFor, writing, answerTo, leftBy, writeOf, textAfter}
 use Rattle.hex_writer.specs.declared.WriteAnswer.{WriteAnswer}
-use Rattle.image.proofs.Checks.{looked}
+use Rattle.hex_writer.proofs.Written.{image-number, writes}
 use Rattle.image.proofs.Refusals.{passed, failed}
-use Rattle.image.specs.Checks.{contentChecks, imageFault}
+use Rattle.image.specs.Checks.{imageFault}
 use Rattle.image.specs.Refusals.{firstRefusal}
 use Rattle.image.specs.declared.Header.{Header}
 use Rattle.parts.specs.Parts.{lookupOf}
@@ -53,19 +52,13 @@ module _ (h : Header) (bytes buffer : List ℕ) where
       no-room l = declined 12 (passed _ _ (eq-eqb (length bytes) (imageSize g) exact) ∙ failed _ _ (lt-leb (textLength g) (length buffer) l)) (λ z. absurd (omega arith))
 
       module _ (room : textLength g ≤ length buffer) where
-        the-fault : number ≡ imageFault h bytes
-        the-fault =
-            passed _ _ (eq-eqb (length bytes) (imageSize g) exact)
-            ∙ passed _ _ (le-leb (textLength g) (length buffer) room)
-            ∙ sym (looked h bytes e ∙ passed _ _ (eq-eqb (length bytes) (imageSize g) exact))
-
         pub faulty : (n : ℕ) → n ≡ imageFault h bytes → (n ≡ 0 → ⊥) → Right (refused n) buffer
-        faulty n is some = declined n (the-fault ∙ sym is) some
+        faulty n is some = declined n (image-number h bytes (length buffer) g e exact room ∙ sym is) some
 
         pub done : (n : ℕ) (text : List ℕ) → imageFault h bytes ≡ 0 → n ≡ length (textOf g h bytes) → length (textOf g h bytes) ≤ length buffer
             → text ≡ sets buffer 0 (textOf g h bytes)
             → Right (record { number = 0; length = n }) text
         done n text none size fits put =
-            let w = right (Written (textOf g h bytes)) (found ∙ rw (the-fault, none)) in
+            let w = right (Written (textOf g h bytes)) (writes h bytes (length buffer) g e exact room none) in
             let n₀ : 0 + length (textOf g h bytes) ≡ length (textOf g h bytes) = omega arith in
             (ap (λ (k : ℕ). record { number = 0; length = k }) size ∙ w .0, put ∙ (rw n₀ at (sets-eq (textOf g h bytes) buffer 0 (omega arith))) ∙ w .1)

@@ -14,7 +14,7 @@ use Rattle.hex_writer.specs.Writing.{Writing, Unwritten, Written, writin
 use Rattle.hex_writer.proofs.Data.{data-bytes}
 use Rattle.hex_writer.proofs.Lengths.{text-length}
 use Rattle.hex_writer.proofs.RoundTrip as trip
-use Rattle.hex_writer.proofs.Table.{longest}
+use Rattle.hex_writer.proofs.Entries.{longest}
 use Rattle.hex_writer.proofs.Taken.{TakenFrom, taken-from, one-image}
 use Rattle.hex_writer.proofs.Written.{WrittenFrom, written-from, writes, some-number}
 use Rattle.image.specs.Sections.{sectionsOf, headerOf}

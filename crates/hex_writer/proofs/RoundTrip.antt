@@ -15,7 +15,7 @@ use Rattle.hex_writer.specs.Claims.{Typed}
 use Rattle.hex_writer.specs.Sized.{Sized}
 use Rattle.hex_writer.proofs.Lengths.{size-at}
 use Rattle.hex_writer.proofs.ReadBack.{AllNeat, neat-append, cut-neat, text-says}
-use Rattle.hex_writer.proofs.Table.{sound}
+use Rattle.hex_writer.proofs.Entries.{sound}
 use Rattle.image.proofs.Sections.{headerWith}
 use Rattle.image.specs.Checks.{imageFault}
 use Rattle.image.specs.Sections.{sectionsOf, sectionBytes, homeOf, headerBytes, headerOf}

@@ -10,7 +10,7 @@ use lib.ListN.{length}
 use Rattle.hex.specs.Written.{textOf, textLength}
 use Rattle.hex_writer.specs.Claims.{Writes}
 use Rattle.hex_writer.specs.Writing.{Writing, Unwritten, Written, writeChecks, unlessRefused, writeFor, writing}
-use Rattle.hex_writer.proofs.Table.{refused-eleven}
+use Rattle.hex_writer.proofs.Entries.{refused-eleven}
 use Rattle.image.proofs.Checks.{looked}
 use Rattle.image.proofs.Refusals.{passed, failed}
 use Rattle.image.specs.Checks.{contentChecks, imageFault}

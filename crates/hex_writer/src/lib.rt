@@ -6,8 +6,7 @@ ghost use lib.ListN.{length};
 ghost use lib.Seq.{sets};
 ghost use Rattle.image.specs.Words.{total};
 ghost use Rattle.text.specs.Digits.{capital as capitalOf, pairsOf};
-ghost use Rattle.hex.specs.Written.{lineText, dataLine, extendedLine, endLine, newUpper, linesFrom};
-ghost use Rattle.hex.specs.Written.{writtenText, textOf, textLength};
+ghost use Rattle.hex.specs.Written.{lineText, dataLine, extendedLine, endLine, newUpper, linesFrom, textOf, textLength};
 ghost use Rattle.hex_writer.specs.Lines.{capitalsFrom, onePiece, placeAfter};
 ghost use Rattle.hex_writer.specs.Sized.{Sound, Sized, Laid};
 ghost use Rattle.hex_writer.specs.Writing.{writeOf, textAfter};
@@ -21,24 +20,7 @@ use image::Section;
 use parts::Geometry;
 use parts::Lookup;
 
-const CAPITALS: [u8; 16] = [
-    b'0',
-    b'1',
-    b'2',
-    b'3',
-    b'4',
-    b'5',
-    b'6',
-    b'7',
-    b'8',
-    b'9',
-    b'A',
-    b'B',
-    b'C',
-    b'D',
-    b'E',
-    b'F',
-];
+mod table;
 
 // What writing gives: 0 and the text's length, or a refusal's number and 0.
 pub struct WriteAnswer {
@@ -66,7 +48,7 @@ fn put_pairs(text: &mut [u8], at: usize, bytes: &[u8]) -> u32
     ensures { λ r. ⌜ r ≡ total (now (bytes .entry)) ⌝ ∗ ⌜ r ≤ 65025 ⌝ }
     ensures { λ _. ⌜ now (text .exit) ≡ sets (now (text .entry)) at (pairsOf (now (bytes .entry))) ⌝ }
 {
-    let table = CAPITALS;
+    let table = table::CAPITALS;
     let mut sum: u32 = 0;
     let mut q = at;
     let mut i: usize = 0;

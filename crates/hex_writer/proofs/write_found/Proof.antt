@@ -6,7 +6,7 @@ use borrow.Author.Needs.{needs, length-unmapped}
 use Rattle.hex_writer.specs.Sized.{Sized}
 use Rattle.hex_writer.proofs.Answers.{wrong-size, no-room, faulty, done}
 use Rattle.hex_writer.proofs.Lengths.{text-length}
-use Rattle.hex_writer.proofs.Table.{sound}
+use Rattle.hex_writer.proofs.Entries.{sound}
 use Rattle.hex_writer.proofs.write_found.Statement.{statement}
 use Rattle.hex_writer.proofs.write_found.Tie as tie
 
