@@ -1,0 +1,85 @@
+//! The plain board's two free lists.
+
+/// What the line does to one transfer.
+#[derive(Clone, Copy, PartialEq, Eq, Debug)]
+pub enum Line {
+    Ok,
+    /// Not carried out.
+    Wait,
+    /// Not carried out.
+    Fault,
+    SilentCarriedOut,
+    SilentLost,
+    /// On a read, carried out; met by a write it is an OK.
+    WrongParity,
+}
+
+/// An entry of the line's list: "Per transfer: OK; WAIT or FAULT, not carried out; silence, carried
+/// out or not; wrong parity on a read, carried out", and what is free beside.
+#[derive(Clone, Copy, PartialEq, Eq, Debug)]
+pub struct LineEvent {
+    pub line: Line,
+    /// The acknowledgement of a silence.
+    pub silence: u32,
+    /// Word and parity where they don't matter; the word of a wrong-parity read.
+    pub word: u32,
+    pub parity: bool,
+    /// The word "elsewhere any word" of a read posted by this transfer.
+    pub elsewhere: u32,
+}
+
+impl LineEvent {
+    /// "past a list's end it is OK"
+    pub const OK: LineEvent = LineEvent { line: Line::Ok, silence: 7, word: 0, parity: false, elsewhere: 0 };
+
+    pub const fn of(line: Line) -> LineEvent {
+        LineEvent { line, ..LineEvent::OK }
+    }
+}
+
+/// An entry of the calls' list: "how many DRW reads of SYSREQ post it busy (bit 31 set), then
+/// success or failure", with what a failure leaves.
+#[derive(Clone, Copy, PartialEq, Eq, Debug)]
+pub struct CallOutcome {
+    pub busy: u32,
+    pub success: bool,
+    /// "a SYSARG of another top digit"
+    pub status: u32,
+    /// "any flash, locks and latch": filled from this seed, or kept.
+    pub scramble: Option<u64>,
+    /// "a failed 0x0D on macro 0 stores the old level or the one sent".
+    pub stores: bool,
+}
+
+impl CallOutcome {
+    /// "and success without busy reads"
+    pub const OK: CallOutcome =
+        CallOutcome { busy: 0, success: true, status: 0xF000_0001, scramble: None, stores: false };
+}
+
+/// The two free lists.
+pub trait Fate {
+    fn line(&mut self) -> LineEvent;
+    fn call(&mut self) -> CallOutcome;
+}
+
+/// Lists with an end.
+#[derive(Clone, Default, Debug)]
+pub struct Lists {
+    pub line: Vec<LineEvent>,
+    pub calls: Vec<CallOutcome>,
+    pub line_used: usize,
+    pub calls_used: usize,
+}
+
+impl Fate for Lists {
+    fn line(&mut self) -> LineEvent {
+        self.line_used += 1;
+        self.line.get(self.line_used - 1).copied().unwrap_or(LineEvent::OK)
+    }
+
+    fn call(&mut self) -> CallOutcome {
+        self.calls_used += 1;
+        self.calls.get(self.calls_used - 1).copied().unwrap_or(CallOutcome::OK)
+    }
+}

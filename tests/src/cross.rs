@@ -1,0 +1,69 @@
+//! Holds another core to this one: damaged and random texts, written texts, whole sessions request by
+//! request. Implement `Core` for the core in question and call `texts` and `sessions`.
+
+mod runs;
+mod texts;
+
+pub use runs::{one_session, random_run, sessions, Run, Tampered};
+pub use texts::{damage, texts};
+
+use crate::hex;
+use crate::image::Header;
+use crate::session::{self, Outcome, Session};
+use crate::wire::Answer;
+use std::collections::BTreeMap;
+
+/// The calls of a core, as DESIGN's table of calls has them.
+pub trait Core {
+    type Session: Clone;
+    fn read(&self, part: u32, macros: u32, text: &[u8], buffer: &mut [u8]) -> (u8, Header);
+    fn write(&self, header: &Header, image: &[u8], text: &mut [u8]) -> (u8, usize);
+    fn start(&self, header: &Header, image: &[u8], leave: bool) -> (Self::Session, Outcome);
+    fn step(&self, session: &mut Self::Session, image: &[u8], answer: Answer) -> Outcome;
+}
+
+/// This crate's own.
+pub struct Reference;
+
+impl Core for Reference {
+    type Session = Session;
+
+    fn read(&self, part: u32, macros: u32, text: &[u8], buffer: &mut [u8]) -> (u8, Header) {
+        hex::read(part, macros, text, buffer)
+    }
+
+    fn write(&self, header: &Header, image: &[u8], text: &mut [u8]) -> (u8, usize) {
+        hex::write(header, image, text)
+    }
+
+    fn start(&self, header: &Header, image: &[u8], leave: bool) -> (Session, Outcome) {
+        session::start(header, image, leave)
+    }
+
+    fn step(&self, session: &mut Session, image: &[u8], answer: Answer) -> Outcome {
+        session.step(image, answer)
+    }
+}
+
+/// How often each number came.
+pub type Counts = BTreeMap<u8, u64>;
+
+#[cfg(test)]
+mod tests {
+    use super::*;
+
+    /// The generators reach every number: the counts that a cross-check will show.
+    #[test]
+    fn texts_reach_every_number() {
+        let counts = texts(&Reference, 1, 4_000);
+        println!("{counts:?}");
+        assert!((0..=12).all(|number| counts.contains_key(&number)), "{counts:?}");
+    }
+
+    #[test]
+    fn sessions_reach_every_number() {
+        let counts = sessions(&Reference, 2, 500);
+        println!("{counts:?}");
+        assert!((15..=30).chain([0]).all(|number| counts.contains_key(&number)), "{counts:?}");
+    }
+}

@@ -1,0 +1,224 @@
+//! Whole sessions with hitches and tampered answers, stepped by both cores.
+
+use super::{Core, Counts};
+use crate::board::{Board, CallOutcome, Ids, Line};
+use crate::counts::{loops, plan, Entry};
+use crate::image::Header;
+use crate::parts::{LOCKS, OPEN, PROTECTED, SIZES, TEST_MODE};
+use crate::play::Hitches;
+use crate::rng::Rng;
+use crate::session::{self, Outcome, Session};
+use crate::texts::sample_image;
+use crate::wire::{parity, Answer, Request};
+
+/// A board, its lists, and at times one Read whose word is changed on the way.
+pub struct Run {
+    pub header: Header,
+    pub image: Vec<u8>,
+    pub board: Board,
+    pub lists: Hitches,
+    pub tampered: Option<Tampered>,
+}
+
+/// The nth Read of an address gives its word with these bits turned.
+#[derive(Clone, Copy, Debug)]
+pub struct Tampered {
+    pub address: u32,
+    pub nth: u32,
+    pub turned: u32,
+}
+
+/// A run with hitches of every kind on a plain board.
+pub fn random_run(rng: &mut Rng, part: u32, macros: u32) -> Run {
+    let (header, image) = sample_image(rng, part, macros);
+    let stored = *rng.pick(&[OPEN, PROTECTED]);
+    let mut board = Board::any(rng, &header, stored);
+    board.ids.revision = rng.byte();
+    if part != 2 {
+        board.ids.low = rng.byte();
+    }
+    let lists = Hitches::calm(rng.draw());
+    let mut run = Run { header, image, board, lists, tampered: None };
+    for _ in 0..1 + rng.below(2) {
+        run.hitch(rng);
+    }
+    run
+}
+
+impl Run {
+    fn hitch(&mut self, rng: &mut Rng) {
+        let sizes = self.header.sizes().unwrap();
+        let entry = if self.board.stored == PROTECTED { Entry::Protected } else { Entry::Open };
+        let (transfers, calls) = (plan(&sizes, entry), loops(&sizes, entry));
+        // An early place half of the time, so that every step has its failures.
+        let near = rng.bit();
+        let place = |rng: &mut Rng, most: u64| rng.below(if near { 100 } else { most as usize }) as u64;
+        let all = [Line::Wait, Line::Fault, Line::SilentCarriedOut, Line::SilentLost, Line::WrongParity];
+        match rng.below(9) {
+            0 => self.lists.wait_one_in = 20 + rng.below(200),
+            1 => (self.lists.busy_one_in, self.lists.most_busy) = (1 + rng.below(5), 1 + rng.below(40)),
+            2 | 3 => {
+                let (at, line) = (place(rng, transfers), *rng.pick(&all[1..]));
+                self.lists.line.insert(at, Hitches::event(rng, line));
+            }
+            4 => {
+                let (at, run) = (place(rng, transfers), 10 + rng.below(14) as u64);
+                self.lists.line.extend((at..at + run).map(|at| (at, Hitches::event(rng, Line::Wait))));
+            }
+            5 => {
+                let at = place(rng, calls);
+                self.lists.calls.insert(at, Hitches::failure(rng));
+            }
+            6 => {
+                let (at, busy) = (place(rng, calls), 19_990 + rng.below(20) as u32);
+                self.lists.calls.insert(at, CallOutcome { busy, ..CallOutcome::OK });
+            }
+            7 => {
+                for at in 0..25 + rng.below(8) as u64 {
+                    let line = *rng.pick(&all);
+                    self.lists.line.insert(at, Hitches::event(rng, line));
+                }
+            }
+            _ => self.other_part(rng),
+        }
+    }
+
+    /// Other IDs, which part 1 and 3 may still take.
+    fn other_part(&mut self, rng: &mut Rng) {
+        let ids = &mut self.board.ids;
+        match rng.below(4) {
+            0 => ids.idcode ^= 1 << rng.below(32),
+            1 => ids.high = ids.high.wrapping_add(1 + rng.byte() % 255),
+            2 => ids.family ^= 1 << rng.below(8),
+            _ => ids.low = rng.byte(),
+        }
+    }
+
+    /// Turns bits of one Read's word: what no plain board does.
+    fn tamper(&mut self, rng: &mut Rng) {
+        let sizes = self.header.sizes().unwrap();
+        let (part, imo) = (sizes.part, u32::from(sizes.part.imo));
+        let (bit, level_bit) = (1 << rng.below(32), rng.below(4));
+        // Reads of SYSARG before step 4, and from there to step 9's.
+        let before = if self.board.stored == OPEN { imo + 3 } else { 2 * imo + 5 };
+        let between = 2 * (sizes.rows() + sizes.macros) as u32 + 2;
+        let (address, nth, turned) = match rng.below(8) {
+            0 => (TEST_MODE, rng.below(2) as u32, *rng.pick(&[bit, 1 << 31])),
+            1 => (part.sysreq, rng.below(14) as u32, *rng.pick(&[bit, 1 << 28, 1 << 31])),
+            // Step 2's own Read, the first time or the second.
+            2 => (part.sysreq, *rng.pick(&[imo + 2, 2 * imo + 6]), 0x1000 << level_bit),
+            3 => (part.sysarg(), rng.below(14) as u32, bit),
+            4 => (part.sysarg(), before + 1 + *rng.pick(&[0, between]), bit),
+            5 => (4 * rng.below(sizes.flash() / 4) as u32, 0, bit),
+            6 => {
+                let start = LOCKS + rng.below(sizes.macros) as u32 * 0x400;
+                (start + 4 * rng.below(sizes.lock_bytes() / 4) as u32, 0, bit)
+            }
+            _ => (part.level_word, 0, *rng.pick(&[bit, 1 << (24 + level_bit)])),
+        };
+        self.tampered = Some(Tampered { address, nth, turned });
+    }
+}
+
+/// Answers requests from a board and its lists, with at most one Read's word changed.
+struct Transport {
+    board: Board,
+    lists: Hitches,
+    tampered: Option<Tampered>,
+    address: u32,
+    reads: u32,
+}
+
+impl Transport {
+    fn answer(&mut self, request: Request) -> Answer {
+        let answer = self.board.answer(request, &mut self.lists);
+        let Answer::Wire { ack: 1, word, parity: bit } = answer else {
+            return answer;
+        };
+        match request {
+            Request::Write { byte: 0x8B, word, .. } => (self.address, self.reads) = (word, 0),
+            Request::Read { byte: 0x9F } => self.reads += 1,
+            _ => {}
+        }
+        match &mut self.tampered {
+            Some(tampered) if tampered.address == self.address && self.reads == 2 && bit == parity(word) => {
+                // Only the Read's own word: what follows until the next TAR isn't it.
+                self.reads = 3;
+                match tampered.nth {
+                    0 => {
+                        let word = word ^ tampered.turned;
+                        self.tampered = None;
+                        Answer::Wire { ack: 1, word, parity: parity(word) }
+                    }
+                    _ => {
+                        tampered.nth -= 1;
+                        answer
+                    }
+                }
+            }
+            _ => answer,
+        }
+    }
+}
+
+/// Steps `rounds` sessions with both cores, refused steps between: every request, refusal and report
+/// must agree.
+pub fn sessions(core: &impl Core, seed: u64, rounds: usize) -> Counts {
+    let mut rng = Rng(seed);
+    let mut counts = Counts::new();
+    for round in 0..rounds {
+        let (part, macros) = SIZES[[0, 0, 0, 1, 0, 2, 0, 3][round % 8]];
+        let mut run = random_run(&mut rng, part, macros);
+        if rng.chance(3) {
+            run.lists = Hitches::calm(rng.draw());
+            run.board.ids = Ids::of(&run.header);
+            run.tamper(&mut rng);
+        }
+        let number = one_session(core, &mut rng, &run);
+        *counts.entry(number).or_default() += 1;
+    }
+    counts
+}
+
+/// Plays one run on both cores; gives the report's number, or the refusal's.
+pub fn one_session(core: &impl Core, rng: &mut Rng, run: &Run) -> u8 {
+    let Run { header, image, .. } = run;
+    let leave = !rng.chance(10);
+    let (mut ours, mut outcome) = session::start(header, image, leave);
+    let (mut theirs, got) = core.start(header, image, leave);
+    assert_eq!(got, outcome);
+    let (board, lists, tampered) = (run.board.clone(), run.lists.clone(), run.tampered);
+    let mut transport = Transport { board, lists, tampered, address: 0, reads: 0 };
+    loop {
+        let request = match outcome {
+            Outcome::Refused(number) => return number,
+            Outcome::Report(report) => {
+                refused(core, rng, &mut ours, &mut theirs, image);
+                return report.number;
+            }
+            Outcome::Request(request) => request,
+        };
+        if rng.chance(2_000) {
+            refused(core, rng, &mut ours, &mut theirs, image);
+        }
+        let answer = transport.answer(request);
+        outcome = ours.step(image, answer);
+        assert_eq!(core.step(&mut theirs, image, answer), outcome);
+    }
+}
+
+/// Steps that 12 or 14 may refuse, on copies, so that whatever they give the session stays; and the
+/// refused ones on the sessions themselves.
+fn refused<C: Core>(core: &C, rng: &mut Rng, ours: &mut Session, theirs: &mut C::Session, image: &[u8]) {
+    for _ in 0..4 {
+        let cut = if rng.bit() { image.len() } else { rng.below(image.len()) };
+        let wire = Answer::Wire { ack: rng.below(9) as u32, word: rng.word(), parity: rng.bit() };
+        let answer = if rng.bit() { wire } else { Answer::ResetDone };
+        let (mut copy, mut their_copy) = (*ours, theirs.clone());
+        let outcome = copy.step(&image[..cut], answer);
+        assert_eq!(core.step(&mut their_copy, &image[..cut], answer), outcome);
+        if let Outcome::Refused(_) = outcome {
+            (*ours, *theirs) = (copy, their_copy);
+        }
+    }
+}

@@ -1,0 +1,230 @@
+//! Whole sessions against a board, with demand 3's claims asserted on the way.
+
+use crate::board::{Board, CallOutcome, Fate, Line, LineEvent};
+use crate::counts::{acquisitions, bound, plan, Entry};
+use crate::flow::{self, Report};
+use crate::fnv::Fnv;
+use crate::image::Header;
+use crate::monitor::Monitor;
+use crate::parts::{PROTECTED, VIRGIN};
+use crate::rng::Rng;
+use crate::session::{start, Outcome, Session};
+use crate::wire::{Answer, Request};
+use std::collections::HashMap;
+
+/// The lists of one random run: a plan of events by place, and chances for the rest.
+#[derive(Clone, Debug)]
+pub struct Hitches {
+    pub rng: Rng,
+    /// By the transfer's place in the run.
+    pub line: HashMap<u64, LineEvent>,
+    /// By the call's place in the run.
+    pub calls: HashMap<u64, CallOutcome>,
+    /// One transfer in so many waits; 0 for none.
+    pub wait_one_in: usize,
+    /// Most WAITs in a row that chance gives.
+    pub most_waits: u32,
+    /// One call in so many is busy; 0 for none.
+    pub busy_one_in: usize,
+    pub most_busy: usize,
+    transfer: u64,
+    call: u64,
+    waits_left: u32,
+}
+
+impl Hitches {
+    pub fn calm(seed: u64) -> Hitches {
+        Hitches {
+            rng: Rng(seed),
+            line: HashMap::new(),
+            calls: HashMap::new(),
+            wait_one_in: 0,
+            most_waits: 16,
+            busy_one_in: 0,
+            most_busy: 20,
+            transfer: 0,
+            call: 0,
+            waits_left: 0,
+        }
+    }
+
+    /// Fills in what is free beside the event.
+    pub fn event(rng: &mut Rng, line: Line) -> LineEvent {
+        let silence = loop {
+            let ack = if rng.bit() { rng.below(8) as u32 } else { rng.word() };
+            if ![1, 2, 4].contains(&ack) {
+                break ack;
+            }
+        };
+        LineEvent { line, silence, word: rng.word(), parity: rng.bit(), elsewhere: rng.word() }
+    }
+
+    /// A failed call with anything that it may leave.
+    pub fn failure(rng: &mut Rng) -> CallOutcome {
+        let status = loop {
+            let status = rng.word();
+            if status >> 28 != 0xA {
+                break status;
+            }
+        };
+        let scramble = rng.bit().then(|| rng.draw());
+        CallOutcome { busy: rng.below(5) as u32, success: false, status, scramble, stores: rng.bit() }
+    }
+}
+
+impl Fate for Hitches {
+    fn line(&mut self) -> LineEvent {
+        self.transfer += 1;
+        let mut line = Line::Ok;
+        if self.waits_left > 0 {
+            self.waits_left -= 1;
+            line = Line::Wait;
+        } else if self.wait_one_in > 0 && self.rng.chance(self.wait_one_in) {
+            self.waits_left = self.rng.below(self.most_waits as usize) as u32;
+            line = Line::Wait;
+        }
+        let free = Hitches::event(&mut self.rng, line);
+        self.line.get(&(self.transfer - 1)).copied().unwrap_or(free)
+    }
+
+    fn call(&mut self) -> CallOutcome {
+        self.call += 1;
+        let mut outcome = CallOutcome::OK;
+        if self.busy_one_in > 0 && self.rng.chance(self.busy_one_in) {
+            outcome.busy = self.rng.below(self.most_busy + 1) as u32;
+        }
+        self.calls.get(&(self.call - 1)).copied().unwrap_or(outcome)
+    }
+}
+
+/// What a run came to.
+pub struct Played {
+    pub report: Report,
+    /// FNV-1a over all requests, as `hash_request` feeds them.
+    pub requests: u64,
+    pub monitor: Monitor,
+    pub board: Board,
+}
+
+/// A request's bytes in a checksum: kind (0 XRES, 1 line reset, 2 read, 3 write), request byte, and
+/// for a write the word, low byte first, and the parity bit.
+pub fn hash_request(sum: &mut Fnv, request: Request) {
+    match request {
+        Request::Xres => sum.byte(0),
+        Request::LineReset => sum.byte(1),
+        Request::Read { byte } => sum.bytes(&[2, byte]),
+        Request::Write { byte, word, parity } => {
+            sum.bytes(&[3, byte]);
+            sum.bytes(&word.to_le_bytes());
+            sum.byte(u8::from(parity));
+        }
+    }
+}
+
+/// Refused steps put in between: one request in so many, 0 for none.
+fn refused_steps(session: &mut Session, image: &[u8], request: Request, rng: &mut Rng) {
+    let before = *session;
+    let length = rng.below(image.len() + 50);
+    let other = if length == image.len() { vec![] } else { rng.bytes(length) };
+    let wire = Answer::Wire { ack: rng.word(), word: rng.word(), parity: rng.bit() };
+    let any = if rng.bit() { wire } else { Answer::ResetDone };
+    assert_eq!(session.step(&other, any), Outcome::Refused(12));
+    let wrong = if request.is_transfer() { Answer::ResetDone } else { wire };
+    assert_eq!(session.step(image, wrong), Outcome::Refused(14));
+    assert_eq!(*session, before);
+}
+
+/// Steps a session to its report; `transport` answers each transfer or reset. `refused` puts refused
+/// steps before one request in so many. `check` sees the session's traffic after every request.
+pub fn step_through(
+    header: &Header,
+    image: &[u8],
+    mut refused: Option<(&mut Rng, usize)>,
+    mut transport: impl FnMut(Request) -> Answer,
+) -> (Report, u64) {
+    let mut sum = Fnv::default();
+    let (mut session, mut outcome) = start(header, image, true);
+    loop {
+        let request = match outcome {
+            Outcome::Request(request) => request,
+            Outcome::Report(report) => {
+                after_report(&mut session, image, report);
+                return (report, sum.value());
+            }
+            Outcome::Refused(number) => panic!("refused with {number}"),
+        };
+        hash_request(&mut sum, request);
+        let answer = transport(request);
+        if let Some((rng, one_in)) = &mut refused {
+            if rng.chance(*one_in) {
+                refused_steps(&mut session, image, request, rng);
+            }
+        }
+        outcome = session.step(image, answer);
+    }
+}
+
+/// "a finished session that passes 13 and 12 repeats its report for any answer, without 14".
+fn after_report(session: &mut Session, image: &[u8], report: Report) {
+    for answer in [Answer::ResetDone, Answer::Wire { ack: 2, word: 0, parity: true }] {
+        assert_eq!(session.step(image, answer), Outcome::Report(report));
+    }
+    assert_eq!(session.step(&image[1..], Answer::ResetDone), Outcome::Refused(12));
+}
+
+/// Plays a session on a plain board and asserts demand 3. The board starts OPEN or PROTECTED.
+pub fn play(header: &Header, image: &[u8], board: &Board, fate: &Hitches) -> Played {
+    let entry = if board.stored == PROTECTED { Entry::Protected } else { Entry::Open };
+    let sizes = header.sizes().expect("a part of the table");
+    let mut monitor = Monitor::new(&sizes);
+    let (mut met, mut lists) = (board.clone(), fate.clone());
+    let mut rng = Rng(fate.rng.0 ^ 0x5EED);
+    let (report, requests) = step_through(header, image, Some((&mut rng, 5_000)), |request| {
+        monitor.hand_out(request);
+        let answer = met.answer(request, &mut lists);
+        monitor.observe(request, answer);
+        // "it isn't in VIRGIN after any such list"
+        assert_ne!(met.stored, VIRGIN);
+        // "A report comes within document 01's count of transfers and resets."
+        assert!(monitor.transfers <= bound(&sizes, entry));
+        assert!(monitor.xres <= acquisitions(entry) && monitor.line_resets <= 30 * acquisitions(entry));
+        answer
+    });
+    assert_eq!(met.malformed, 0);
+    // "The report's transfers are those handed out in the list."
+    assert_eq!(u64::from(report.transfers), monitor.transfers);
+    let right = board.ids.right_for(header);
+    // "It says done exactly when the board is the right part and nothing in document 01's list of
+    // mishaps has occurred."
+    assert_eq!(report.number == 0, right && monitor.mishap.is_none(), "{report:?} {:?}", monitor.mishap);
+    match (report.number, monitor.mishap) {
+        (0, _) => {
+            let (flash, locks) = image.split_at(sizes.flash());
+            assert!(met.flash == flash && met.locks == locks && met.stored == header.level);
+            assert_eq!(report.step, 9);
+            assert_eq!(monitor.transfers, plan(&sizes, entry) + monitor.delays());
+        }
+        (number, Some(mishap)) => assert_eq!(number, mishap),
+        (number, None) => assert!(!right && [16, 20].contains(&number)),
+    }
+    assert_same_as_flow(header, image, board, fate, report, requests);
+    Played { report, requests, monitor, board: met }
+}
+
+/// The waiting programme hands out the same requests and ends with the same report.
+fn assert_same_as_flow(
+    header: &Header,
+    image: &[u8],
+    board: &Board,
+    fate: &Hitches,
+    report: Report,
+    requests: u64,
+) {
+    let (mut board, mut lists) = (board.clone(), fate.clone());
+    let mut sum = Fnv::default();
+    let plain = flow::run(header, image, |request| {
+        hash_request(&mut sum, request);
+        board.answer(request, &mut lists)
+    });
+    assert_eq!((plain, sum.value()), (report, requests));
+}

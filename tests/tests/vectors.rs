@@ -1,0 +1,62 @@
+//! The committed vectors are those that the generator makes, and the tools agree with the writer.
+
+use reference::{cases_hex, cases_session, hex, parts::SIZES};
+use std::fs;
+use std::path::{Path, PathBuf};
+
+fn vectors(file: &str) -> PathBuf {
+    Path::new(env!("CARGO_MANIFEST_DIR")).join("vectors").join(file)
+}
+
+fn read(file: &str) -> Vec<u8> {
+    fs::read(vectors(file)).expect(file)
+}
+
+#[test]
+fn hex_cases_are_as_made() {
+    let cases = cases_hex::cases(&|file| read(&format!("tools/{file}")));
+    assert!(cases_hex::stdin(&cases) == read("hex/stdin"));
+    let lines: String = cases.iter().map(|case| cases_hex::outcome(case) + "\n").collect();
+    assert!(lines.as_bytes() == read("hex/stdout"));
+}
+
+#[test]
+fn session_cases_are_as_made() {
+    let cases = cases_session::cases();
+    assert!(cases_session::stdin(&cases).as_bytes() == read("session/stdin"));
+    let lines: String = cases.iter().map(|case| cases_session::outcome(case) + "\n").collect();
+    assert!(lines.as_bytes() == read("session/stdout"));
+    assert!(cases.iter().all(|case| case.overrides.len() <= 2 && case.length <= 131_200));
+}
+
+#[test]
+fn tools_write_what_we_write() {
+    for (part, macros) in SIZES {
+        for tool in ["srec_cat", "intelhex"] {
+            let text = read(&format!("tools/part{part}-m{macros}/{tool}-64-crlf.hex"));
+            let mut image = vec![0; reference::parts::Sizes::of(part, macros).unwrap().image()];
+            let (number, header) = hex::read(part, macros, &text, &mut image);
+            assert_eq!(number, 0);
+            let mut written = vec![0; text.len()];
+            assert_eq!(hex::write(&header, &image, &mut written), (0, text.len()));
+            assert!(written == text);
+        }
+    }
+}
+
+/// What the tools write unasked reads as the same image; types 2, 3 and 5 are refused.
+#[test]
+fn tools_defaults() {
+    let mut expected = vec![0; 16_416];
+    let (_, header) = hex::read(1, 1, &read("tools/part1-m1/srec_cat-64-crlf.hex"), &mut expected);
+    for tool in ["srec_cat", "intelhex", "objcopy"] {
+        let mut image = vec![0; 16_416];
+        let text = read(&format!("tools/part1-m1/{tool}-default.hex"));
+        assert_eq!(hex::read(1, 1, &text, &mut image), (0, header));
+        assert!(image == expected);
+        let text = read(&format!("tools/part1-m1/{tool}-start.hex"));
+        assert_eq!(hex::read(1, 1, &text, &mut image).0, 3);
+    }
+    let text = read("tools/part3-m2/objcopy-default.hex");
+    assert_eq!(hex::read(3, 2, &text, &mut vec![0; 131_200]).0, 3);
+}
