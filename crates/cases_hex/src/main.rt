@@ -1,4 +1,4 @@
-// Reads the cases of tests/vectors/hex on standard input and prints, for each, what hex::read gives (tests/vectors/README.md).
+// Reads cases of hex text on standard input and prints, for each, what hex::read gives (tests/vectors/README.md).
 ghost use mathlib.Core.Path.{_≡_};
 ghost use Prim.Native.Nat.{_≤_};
 ghost use lib.ListN.{length};
@@ -63,7 +63,7 @@ fn blank() -> [u8; 524288]
     [0; 524288]
 }
 
-// Reads a text into the first `room` bytes of a fresh buffer.
+// Reads a text into the first `room` bytes of a fresh buffer, and prints what that gives.
 fn print_case(part: u8, macros: u8, room: usize, text: &[u8])
     requires { ⌜ room ≤ 139264 ⌝ }
 {
@@ -73,12 +73,13 @@ fn print_case(part: u8, macros: u8, room: usize, text: &[u8])
     print_line(answer, digest);
 }
 
-// Reads a text of so many bytes, and the line feed after it.
+// Takes a text of so many bytes from standard input, and prints its line.
 fn take_case(part: u8, macros: u8, room: usize, length: usize)
     requires { ⌜ (room ≤ 139264) × (length ≤ 524288) ⌝ }
 {
     let mut text = blank();
     io::read_full(0, &mut text[..length]);
+    // The line feed: a number without digits.
     cases::read_number(0);
     print_case(part, macros, room, &text[..length]);
 }
