@@ -1,5 +1,5 @@
 //! The cases of hex text for the program crate `cases_hex`: every shape that is taken, every way
-//! to earn a number. vectors/hex/README.md says how they are framed.
+//! to earn a number. vectors/README.md says how they are framed.
 
 mod contents;
 mod lines;

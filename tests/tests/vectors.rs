@@ -2,22 +2,27 @@
 
 use reference::{cases_hex, cases_session, hex, parts::SIZES};
 use std::fs;
-use std::path::{Path, PathBuf};
+use std::path::Path;
 
-fn vectors(file: &str) -> PathBuf {
-    Path::new(env!("CARGO_MANIFEST_DIR")).join("vectors").join(file)
+fn here() -> &'static Path {
+    Path::new(env!("CARGO_MANIFEST_DIR"))
 }
 
 fn read(file: &str) -> Vec<u8> {
-    fs::read(vectors(file)).expect(file)
+    fs::read(here().join("vectors").join(file)).expect(file)
+}
+
+/// A file of the program crate that is run on these cases.
+fn program(file: &str) -> Vec<u8> {
+    fs::read(here().join("../crates").join(file)).expect(file)
 }
 
 #[test]
 fn hex_cases_are_as_made() {
     let cases = cases_hex::cases(&|file| read(&format!("tools/{file}")));
-    assert!(cases_hex::stdin(&cases) == read("hex/stdin"));
+    assert!(cases_hex::stdin(&cases) == program("cases_hex/stdin"));
     let lines: String = cases.iter().map(|case| cases_hex::outcome(case) + "\n").collect();
-    assert!(lines.as_bytes() == read("hex/stdout"));
+    assert!(lines.as_bytes() == program("cases_hex/stdout"));
 }
 
 #[test]

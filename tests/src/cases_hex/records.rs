@@ -71,6 +71,9 @@ impl Maker<'_> {
         let mut over = made[..68].to_vec();
         over.push(Line::new(0, DATA, &[0x5A; 33]));
         self.one("across the end of protection", 4, plain(&over));
+        let mut over = made[..70].to_vec();
+        over.push(Line::new(0, DATA, &[0x5A; 13]));
+        self.one("across the end of metadata", 4, plain(&over));
         let mut over = made[..72].to_vec();
         over.push(Line::new(0, DATA, &[1, 1]));
         self.one("across the end of the level", 4, plain(&over));
@@ -79,8 +82,9 @@ impl Maker<'_> {
         let made = lines(&texts::sections(&header, &image), || 240, || 0);
         let at = made.iter().position(|line| usize::from(line.address) + 240 > 0x1_0000).unwrap();
         let mut over = made[..at].to_vec();
-        over.push(Line::new(made[at].address, DATA, &[0x5A; 240]));
-        self.add("across the 64 KiB line", 3, 2, 4, plain(&over));
+        let past = 0x1_0001 - usize::from(made[at].address);
+        over.push(Line::new(made[at].address, DATA, &vec![0x5A; past]));
+        self.add("across the 64 KiB line by a byte", 3, 2, 4, plain(&over));
     }
 
     fn wrong_sections(&mut self) {
