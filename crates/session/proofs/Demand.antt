@@ -10,6 +10,7 @@ use lib.Dec.{eqb, leb, lit≤}
 use lib.ListN.{length}
 use Rattle.flow.proofs.Demand.{demand3-holds}
 use Rattle.flow.proofs.Passing.{table-facts}
+use Rattle.flow.proofs.Table.{facts}
 use Rattle.flow.specs.Claim as Flows
 use Rattle.flow.specs.Claim.{Passes, Startable, RightPart, NoError, Calm, entryOf, delaysIn}
 use Rattle.flow.specs.Monitor.{linkError}
@@ -28,9 +29,11 @@ use Rattle.image.specs.Checks.{versionFits, imageIdFits, levelFits, contentChec
 use Rattle.image.specs.Image.{Image, imageOf}
 use Rattle.image.specs.Refusals.{_unless_, firstRefusal}
 use Rattle.image.specs.declared.Header.{Header}
+use Rattle.parts.specs.Parts.{lookupOf}
 use Rattle.parts.specs.Sizes.{imageSize}
 use Rattle.parts.specs.declared.Geometry.{Geometry}
 use Rattle.parts.specs.declared.Lookup.{Lookup}
+use Rattle.parts.specs.declared.Lookup.the-variants.{Found}
 use Rattle.session.specs.Calls.{State, Steps, begun}
 use Rattle.session.specs.Claim.{most, Demand3, Demand3Holds}
 use Rattle.session.specs.Given.{startOf, startedOn, startRefused, wantsLeave, outcomeAt}
@@ -46,11 +49,11 @@ use Rattle.session.proofs.Places.{opening-in}
 use Rattle.session.proofs.Possibility.{both-true, whole}
 use Rattle.session.proofs.Stepping.{not-refused}
 
--- ---- what an unrefused start says
+-- ---- what an image that passes says
 
-module _ (g : Geometry) (h : Header) (bytes : List ℕ) (p : Passes g h bytes) where
+module _ (g : Geometry) (h : Header) (bytes : List ℕ) (found : lookupOf (h .part) (h .macros) ≡ Found g) (none : imageFault h bytes ≡ 0) where
   checked : firstRefusal ((12 unless eqb (length bytes) (imageSize g)) ∷ contentChecks g h bytes) ≡ 0
-  checked = ap (λ (x : Lookup). faultIn x h bytes) (sym (p .found)) ∙ p .checked
+  checked = ap (λ (x : Lookup). faultIn x h bytes) (sym found) ∙ none
 
   size : length bytes ≡ imageSize g
   size = eqb-true (length bytes) (imageSize g) ((passes 12 _ _ (lit≤ tt) checked) .0)
@@ -66,27 +69,31 @@ module _ (g : Geometry) (h : Header) (bytes : List ℕ) (p : Passes g h bytes) w
   -- the session that starting gives is possible
   pub first-possible : possibleIn g (firstFor h) ≡ true
   first-possible =
-      let room : 0 < movesIn g FromOpen = omega (arith, opening-in (imageOf g h bytes) (table-facts g h bytes p) FromOpen) in
+      let room : 0 < movesIn g FromOpen = omega (arith, opening-in (imageOf g h bytes) (facts (h .part) (h .macros) g found) FromOpen) in
       let stand : progressFits g FromOpen atStart ≡ true = both-true (both-true (both-true (lt-ltb 0 (movesIn g FromOpen) room) refl) refl) refl in
       whole g (firstFor h) (record { header = header; count = omega arith; stands = stand })
 
+-- ---- what an unrefused start says
+
+module _ (h : Header) (bytes : List ℕ) (none : imageFault h bytes ≡ 0) where
   -- what starting gives
   pub start-gives : (leave : Bool) → ((n : ℕ) → ¬ ((startOf h bytes leave) .outcome ≡ Refused n)) → startOf h bytes leave ≡ startedOn h
   unfolding startOf
   start-gives leave free = by (wantsLeave h leave) refl
     where
       is : startOf h bytes leave ≡ cond (wantsLeave h leave) (startRefused 15) (startedOn h)
-      is = simp (p .checked)
+      is = simp none
 
       by : (t : Bool) → wantsLeave h leave ≡ t → startOf h bytes leave ≡ startedOn h
       by true e = let q : startOf h bytes leave ≡ startRefused 15 = is ∙ simp e in absurd (free 15 (ap (λ (r : Given). r .outcome) q))
       by false e = is ∙ simp e
 
-  first-follows : (b : Target) (l : Lists) → Follows g h bytes (table-facts g h bytes p) (p .found) size (begun (startedOn h) b l) (started b l)
+module _ (g : Geometry) (h : Header) (bytes : List ℕ) (p : Passes g h bytes) where
+  first-follows : (b : Target) (l : Lists) → Follows g h bytes (table-facts g h bytes p) (p .found) (size g h bytes (p .found) (p .checked)) (begun (startedOn h) b l) (started b l)
   unfolding sequence opening acquire
   first-follows b l = record {
     header = refl;
-    can = first-possible;
+    can = first-possible g h bytes (p .found) (p .checked);
     session = refl;
     stands = refl;
     target = refl;
@@ -143,7 +150,7 @@ module _ (g : Geometry) (h : Header) (bytes : List ℕ) (p : Passes g h bytes) (
       let d = demand3-holds g h bytes p b may l k in
       omega (arith, count-run i k (started b l) refl, handed-more i (r .session) (r .traffic), d .transfers, most-from g (entryOf b))
 
-  claim : (s : State) → Follows g h bytes (table-facts g h bytes p) (p .found) (size g h bytes p) s run → Demand3 i b l n s
+  claim : (s : State) → Follows g h bytes (table-facts g h bytes p) (p .found) (size g h bytes (p .found) (p .checked)) s run → Demand3 i b l n s
   claim s f =
       let d = demand3-holds g h bytes p b may l n in
       let told : (r : Report) → s .stands ≡ Told r → run .session ≡ reported (r .number) (r .step) (r .transfers)
@@ -171,7 +178,7 @@ pub demand3 : Demand3Holds
 demand3 g h bytes leave p free b may l n s steps =
     let i = imageOf g h bytes in
     claim g h bytes p b may l n s
-    (follow g h bytes (table-facts g h bytes p) (p .found) (size g h bytes p) n (begun (startOf h bytes leave) b l) s (started b l)
-    (subst (λ (r : Given). Follows g h bytes (table-facts g h bytes p) (p .found) (size g h bytes p) (begun r b l) (started b l))
-    (sym (start-gives g h bytes p leave free)) (first-follows g h bytes p b l))
+    (follow g h bytes (table-facts g h bytes p) (p .found) (size g h bytes (p .found) (p .checked)) n (begun (startOf h bytes leave) b l) s (started b l)
+    (subst (λ (r : Given). Follows g h bytes (table-facts g h bytes p) (p .found) (size g h bytes (p .found) (p .checked)) (begun r b l) (started b l))
+    (sym (start-gives h bytes (p .checked) leave free)) (first-follows g h bytes p b l))
     (low g h bytes p b may l n) steps)

@@ -96,6 +96,9 @@ pub looked-up : (s : Session) (bytes : List ℕ) (a : Answer) (l : Lookup) → l
 unfolding stepWith
 looked-up s bytes a l e = ap (λ (k : Lookup). stepFor k s bytes a) e
 
+pub on-finished : (g : Geometry) (s : Session) (bytes : List ℕ) (a : Answer) → s .finished ≡ true → stepOn g s bytes a ≡ giving (imageOf g (s .header) bytes) s
+on-finished g s bytes a e = simp e
+
 module _ (g : Geometry) (s : Session) (bytes : List ℕ) (a : Answer) (goes : s .finished ≡ false) where
   pub on-fit : answers ((moveAt (imageOf g (s .header) bytes) (s .entry) (s .progress .at)) .request) a ≡ true
       → stepOn g s bytes a ≡ giving (imageOf g (s .header) bytes) (resumed g s (stepOf (imageOf g (s .header) bytes) (standOf s) a))
@@ -114,7 +117,7 @@ module _ (g : Geometry) (s : Session) (bytes : List ℕ) (a : Answer) (found : l
   step-running e f = unrefused ∙ on-fit g s bytes a e f
 
   pub step-finished : s .finished ≡ true → stepWith s bytes a ≡ giving (imageOf g (s .header) bytes) s
-  step-finished e = unrefused ∙ simp e
+  step-finished e = unrefused ∙ on-finished g s bytes a e
 
 -- ---- a refused step gives the session back
 

@@ -5,3 +5,4 @@ pub mod Ranges
 pub mod Given
 pub mod Calls
 pub mod Claim
+pub mod Kept
