@@ -4,13 +4,11 @@ use borrow.Author.Needs.{needs}
 use Rattle.hex.proofs.advanced.Statement.{statement}
 use Rattle.hex.proofs.advanced.Tie as tie
 
--- src/lib.rt:221:9
 returns : tie.Need-returns
 returns c =
     let a = c .before .before .before .before .args in
     advanced-next (a .g) (a .due) (a .count) _ (c .before .if1 .taken) (c .section-at .ensures)
 
--- src/lib.rt:214:1
 returns-2 : tie.Need-returns-2
 returns-2 c =
     let a = c .before .before .before .before .before .before .args in

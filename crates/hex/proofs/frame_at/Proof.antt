@@ -1,10 +1,8 @@
 -- The tests in the order of a line's form. Assumes nothing.
 use native.Mathlib.Omega.{arith}
-use mathlib.Core.Bool.{Bool, true, false}
-use mathlib.Core.Path.{_≡_, refl, sym, ap, _∙_}
-use Prim.Native.Nat.{ℕ, _+_}
+use mathlib.Core.Path.{refl, sym, ap, _∙_}
+use Prim.Native.Nat.{_+_}
 use borrow.Author.Tests.{not-true, not-false}
-use lib.ListN.{getD}
 use Rattle.text.specs.declared.Run.{Run}
 use Rattle.text.proofs.Positions.{good-run}
 use Rattle.hex.proofs.Frames.{bad-colon, bad-count, bad-run, bad-end, end-inside, framed}
@@ -12,14 +10,12 @@ use borrow.Author.Needs.{needs}
 use Rattle.hex.proofs.frame_at.Statement.{statement}
 use Rattle.hex.proofs.frame_at.Tie as tie
 
--- src/lib.rt:60:9
 returns-2 : tie.Need-returns-2
 returns-2 c =
     let a = c .before .before .before .before .before .before .before .before .before .args in
     let r = c .before .before .before .spell .ensures .0 in
     bad-count (a .text .now) (a .at) (omega arith) (a .row .now) (omega arith) (sym (ap (λ (x : Run). x .good) r) ∙ not-true _ (c .if2 .taken))
 
--- src/lib.rt:66:9
 returns-3 : tie.Need-returns-3
 returns-3 c =
     let a = c .before .before .before .before .before .before .before .before .before .before .before .before .before .before .before .args in
@@ -27,7 +23,6 @@ returns-3 c =
     let r = c .before .before .before .spell2 .ensures .0 in
     bad-run (a .text .now) (a .at) (omega arith) (a .row .now) (omega (arith, c .before .before .before .before .before .before .before .before .before .before .before .before .before .before .before .pre)) _ (s .ensures .1) (sym (ap (λ (x : Run). x .good) r) ∙ not-true _ (c .if3 .taken))
 
--- src/lib.rt:68:15
 add-end-2 : tie.Need-add-end-2
 add-end-2 c =
     let a = c .before .before .before .before .before .before .before .before .before .before .before .before .before .before .before .args in
@@ -35,20 +30,17 @@ add-end-2 c =
     let w = good-run (a .text .now) (a .at + 1) _ _ (sym (ap (λ (x : Run). x .good) r) ∙ not-false _ (c .if3 .left)) in
     omega (arith, w .within, c .before .before .before .before .before .before .before .before .before .before .before .before .before .before .before .fits)
 
--- src/lib.rt:71:9
 returns-4 : tie.Need-returns-4
 returns-4 c =
     let a = c .before .before .before .before .before .before .before .before .before .before .before .before .before .before .before .before .before .args in
     let s = c .before .before .before .before .before .before .before .before .before .before .before .spell in
     bad-end (a .text .now) (a .at) (omega arith) (a .row .now) (omega (arith, c .before .before .before .before .before .before .before .before .before .before .before .before .before .before .before .before .before .pre)) _ (s .ensures .1) (sym (c .before .line-end .ensures) ∙ c .if4 .taken)
 
--- src/lib.rt:77:15
 add-t17 : tie.Need-add-t17
 add-t17 c =
     let a = c .before .before .before .before .before .before .before .before .before .before .before .before .before .before .before .before .before .args in
     omega (arith, end-inside (a .text .now) _ _ (c .before .line-end .ensures) (c .if4 .left))
 
--- src/lib.rt:50:1
 returns-5 : tie.Need-returns-5
 returns-5 c =
     let a = c .before .before .before .before .before .before .before .before .before .before .before .before .before .before .before .before .before .args in

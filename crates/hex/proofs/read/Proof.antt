@@ -1,36 +1,29 @@
 -- 11, 12, then the image's part of the buffer. Assumes nothing.
 use native.Mathlib.Omega.{arith}
-use mathlib.Core.Path.{_≡_, refl, sym, ap, _∙_}
-use mathlib.Core.List.{List, _++_}
-use Prim.Native.Nat.{ℕ}
-use lib.ListN.{take, drop}
+use mathlib.Core.Path.{sym, _∙_}
 use lib.Seq.{length-take-le}
 use Rattle.hex.proofs.Readings.{no-part, no-room, in-room}
 use borrow.Author.Needs.{needs}
 use Rattle.hex.proofs.read.Statement.{statement}
 use Rattle.hex.proofs.read.Tie as tie
 
--- src/lib.rt:299:17
 returns : tie.Need-returns
 returns c =
     let a = c .before .before .before .before .before .before .before .before .before .args in
     let e = sym (c .before .before .before .before .before .before .find .ensures) ∙ c .before .before .before .before .found2 .given .1 in
     no-room (a .part) (a .macros) (a .text .now) (a .buffer .now) _ e _ (omega arith) (c .refusal2 .ensures)
 
--- src/lib.rt:301:13
 read-image-requires : tie.Need-read-image-requires
 read-image-requires c κs =
     let e = sym (c .before .before .before .before .before .before .find .ensures) ∙ c .before .before .before .before .found2 .given .1 in
     (e, length-take-le _ (c .before .before .before .before .before .before .before .before .before .args .buffer .now) (omega arith) ∙ c .before .before .image-size .ensures)
 
--- src/lib.rt:289:1
 returns-2 : tie.Need-returns-2
 returns-2 c =
     let a = c .before .before .before .before .before .before .before .args in
     let e = sym (c .before .before .before .before .find .ensures) ∙ c .before .before .found .given .1 in
     no-part (a .part) (a .macros) (a .text .now) (a .buffer .now) _ _ e (c .refusal .ensures)
 
--- src/lib.rt:289:1
 returns-3 : tie.Need-returns-3
 returns-3 c =
     let a = c .before .before .before .before .before .before .before .before .before .before .before .before .args in

@@ -1,20 +1,17 @@
 -- Refused and zeroed, or settled. Assumes nothing.
-use native.Mathlib.Omega.{arith}
-use mathlib.Core.Path.{_≡_, refl, sym, _∙_}
+use mathlib.Core.Path.{refl}
 use Rattle.hex.proofs.Readings.{refused, whole}
 use Rattle.hex.proofs.Sizes.{sized}
 use borrow.Author.Needs.{needs}
 use Rattle.hex.proofs.read_image.Statement.{statement}
 use Rattle.hex.proofs.read_image.Tie as tie
 
--- src/lib.rt:277:9
 scan-requires : tie.Need-scan-requires
 scan-requires c κs =
     let a = c .before .before .before .before .args in
     let p = c .before .before .before .before .pre in
     (sized (a .part) (a .macros) (a .g) (p .0), p .1, refl)
 
--- src/lib.rt:271:1
 returns : tie.Need-returns
 returns c =
     let a = c .before .before .before .before .before .before .before .before .before .before .before .before .before .before .before .before .args in
@@ -22,7 +19,6 @@ returns c =
     let s = c .before .before .before .before .before .before .before .before .before .before .before .scan in
     refused (a .g) (a .part) (a .macros) (a .text .now) (a .image .now) (p .1) _ _ _ _ _ _ _ (s .ensures) (c .before .before .before .before .before .before .scanned .given .1) (s .kept .1 .1 .0) (c .refusal .ensures) (c .before .before .before .clear .ensures)
 
--- src/lib.rt:271:1
 returns-2 : tie.Need-returns-2
 returns-2 c =
     let a = c .before .before .before .before .before .before .before .before .before .before .before .before .before .before .args in

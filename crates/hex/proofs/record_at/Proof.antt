@@ -5,20 +5,17 @@ use borrow.Author.Needs.{needs}
 use Rattle.hex.proofs.record_at.Statement.{statement}
 use Rattle.hex.proofs.record_at.Tie as tie
 
--- src/lib.rt:137:17
 returns : tie.Need-returns
 returns c =
     let a = c .before .before .before .before .before .before .before .before .before .before .args in
     let f = c .before .before .before .before .before .before .frame-at in
     frame-sum (a .text .now) (a .at) _ _ (f .ensures) _ _ _ (c .before .before .frame .given .1) (omega arith) (c .if1 .taken)
 
--- src/lib.rt:125:1
 returns-2 : tie.Need-returns-2
 returns-2 c =
     let a = c .before .before .before .before .before .before .before .before .args in
     frame-broken (a .text .now) (a .at) _ _ (c .before .before .before .before .frame-at .ensures) (c .enum-told .given .1)
 
--- src/lib.rt:125:1
 returns-3 : tie.Need-returns-3
 returns-3 c =
     let a = c .before .before .before .before .before .before .before .before .before .before .before .before .args in

@@ -14,7 +14,6 @@ Inv-loop g text image₀ header₀ flash row₀ at₀ upper₀ due₀ image head
 abbrev μ-loop : tie.MeasureT-loop
 μ-loop g text image₀ header₀ flash row₀ at₀ upper₀ due₀ image header row at upper due = length text - at
 
--- src/lib.rt:255:30
 returns : tie.Need-returns Inv-loop μ-loop
 returns c =
     let a = c .before .before .before .before .before .before .before .before .before .before .before .before .before .args in
@@ -22,7 +21,6 @@ returns c =
     let l = c .before .before .before .before .before .before .before .loop in
     here-stop (a .g) (p .0) (a .text .now) (a .image .now) (a .header .now) (l .inv .0) _ _ (c .before .before .before .before .turn-at .ensures) _ (c .before .turn .given .1)
 
--- src/lib.rt:256:27
 returns-2 : tie.Need-returns-2 Inv-loop μ-loop
 returns-2 c =
     let a = c .before .before .before .before .before .before .before .before .before .before .before .before .args in
@@ -30,7 +28,6 @@ returns-2 c =
     let l = c .before .before .before .before .before .before .loop in
     here-done (a .g) (p .0) (a .text .now) (a .image .now) (a .header .now) (l .inv .0) _ _ (c .before .before .before .turn-at .ensures) (c .enum-told .given .1)
 
--- src/lib.rt:251:5
 loop-less : tie.Need-loop-less Inv-loop μ-loop
 loop-less c =
     let a = c .before .before .before .before .before .before .before .before .before .before .before .before .before .args in
@@ -39,7 +36,6 @@ loop-less c =
     let m = moved-less (a .g) (p .0) (a .text .now) (a .image .now) (a .header .now) (l .inv .0) _ _ (c .before .before .before .before .turn-at .ensures) _ _ (c .before .turn2 .given .1) in
     omega (arith, m .0, m .1)
 
--- src/lib.rt:251:5
 loop-again : tie.Need-loop-again Inv-loop μ-loop
 loop-again c =
     let a = c .before .before .before .before .before .before .before .before .before .before .before .before .before .args in
@@ -47,7 +43,6 @@ loop-again c =
     let l = c .before .before .before .before .before .before .before .loop in
     (here-moved (a .g) (p .0) (a .text .now) (a .image .now) (a .header .now) (l .inv .0) _ _ (c .before .before .before .before .turn-at .ensures) _ _ (c .before .turn2 .given .1), c .before .before .before .before .turn-at .kept .1 .1 .1 .1 .0 ∙ l .inv .1)
 
--- src/lib.rt:263:17
 advanced-requires : tie.Need-advanced-requires Inv-loop μ-loop
 advanced-requires c κs =
     let a = c .before .before .before .before .before .before .before .before .before .before .before .before .before .before .before .before .before .before .before .before .before .args in
@@ -55,7 +50,6 @@ advanced-requires c κs =
     let l = c .before .before .before .before .before .before .before .before .before .before .before .before .before .before .before .loop in
     store-asks (a .g) (p .0) (a .text .now) (a .image .now) (a .header .now) (l .inv .0) _ _ (c .before .before .before .before .before .before .before .before .before .before .before .before .turn-at .ensures) _ _ (c .before .before .before .before .before .before .before .before .before .turn3 .given .1)
 
--- src/lib.rt:251:5
 loop-less-2 : tie.Need-loop-less-2 Inv-loop μ-loop
 loop-less-2 c =
     let a = c .before .before .before .before .before .before .before .before .before .before .before .before .before .before .before .before .before .before .before .before .before .before .args in
@@ -64,7 +58,6 @@ loop-less-2 c =
     let m = store-bounds (a .g) (p .0) (a .text .now) (a .image .now) (a .header .now) (l .inv .0) _ _ (c .before .before .before .before .before .before .before .before .before .before .before .before .before .turn-at .ensures) _ _ (c .before .before .before .before .before .before .before .before .before .before .turn3 .given .1) in
     omega (arith, m .0, m .1)
 
--- src/lib.rt:251:5
 loop-again-2 : tie.Need-loop-again-2 Inv-loop μ-loop
 loop-again-2 c =
     let a = c .before .before .before .before .before .before .before .before .before .before .before .before .before .before .before .before .before .before .before .before .before .before .args in

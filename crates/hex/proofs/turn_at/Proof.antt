@@ -5,7 +5,6 @@ use borrow.Author.Needs.{needs}
 use Rattle.hex.proofs.turn_at.Statement.{statement}
 use Rattle.hex.proofs.turn_at.Tie as tie
 
--- src/lib.rt:191:42
 data-turn-requires : tie.Need-data-turn-requires
 data-turn-requires c κs =
     let a = c .before .before .before .before .before .before .before .before .before .before .args in
@@ -13,26 +12,22 @@ data-turn-requires c κs =
     let b = found-bounds (a .text .now) (a .at) _ (a .upper) (a .due) _ _ (r .ensures) _ _ (c .before .found2 .given .1) in
     (c .before .before .before .before .before .before .before .before .before .before .pre .1, b .0, b .2)
 
--- src/lib.rt:178:1
 returns-2 : tie.Need-returns-2
 returns-2 c =
     let a = c .before .before .before .before .before .before .before .before .before .before .args in
     found-refused (a .text .now) (a .at) _ (a .upper) (a .due) _ _ (c .before .before .before .before .before .record-at .ensures) _ (c .before .found .given .1)
 
--- src/lib.rt:178:1
 returns-3 : tie.Need-returns-3
 returns-3 c =
     let a = c .before .before .before .before .before .before .before .before .before .before .before .args in
     rw (c .data-turn .ensures)
     (found-payload (a .text .now) (a .at) _ (a .upper) (a .due) _ _ (c .before .before .before .before .before .before .record-at .ensures) _ _ (c .before .before .found2 .given .1) (omega arith))
 
--- src/lib.rt:178:1
 returns-4 : tie.Need-returns-4
 returns-4 c =
     let a = c .before .before .before .before .before .before .before .before .before .before .args in
     found-extended (a .text .now) (a .at) _ (a .upper) (a .due) _ _ (c .before .before .before .before .before .record-at .ensures) _ (c .before .found3 .given .1)
 
--- src/lib.rt:178:1
 returns-5 : tie.Need-returns-5
 returns-5 c =
     let a = c .before .before .before .before .before .before .before .before .before .before .args in

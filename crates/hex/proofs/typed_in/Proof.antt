@@ -1,6 +1,5 @@
 -- Each arm's type decides the tests of `foundOf`. Assumes nothing.
 use native.Mathlib.Omega.{arith}
-use mathlib.Core.Logic.{inl, inr}
 use Rattle.hex.proofs.Types
 use borrow.Author.Needs.{needs}
 use Rattle.hex.proofs.typed_in.Statement.{statement}

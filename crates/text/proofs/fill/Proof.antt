@@ -5,7 +5,6 @@ use borrow.Author.Needs.{needs}
 use Rattle.text.proofs.fill.Statement.{statement}
 use Rattle.text.proofs.fill.Tie as tie
 
--- src/lib.rt:172:1
 returns : tie.Need-returns
 returns c =
     let a = c .before .before .before .before .before .before .before .before .before .args in
@@ -14,7 +13,6 @@ returns c =
       in-image (a .header .now) (a .due) (a .row .now) (a .from) (a .n) e .1,
     )
 
--- src/lib.rt:172:1
 returns-2 : tie.Need-returns-2
 returns-2 c =
     let a = c .before .before .before .before .before .before .before .before .before .args in

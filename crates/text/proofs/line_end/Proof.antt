@@ -1,14 +1,11 @@
 -- The tests in the order of `lineEnd`. Assumes nothing.
 use native.Mathlib.Omega.{arith}
-use mathlib.Core.Path.{_≡_}
-use Prim.Native.Nat.{_+_}
-use lib.ListN.{getD, List·getD-eq-default}
+use lib.ListN.{List·getD-eq-default}
 use Rattle.text.proofs.Ends.{end-past, end-lf, end-cr-lf, end-cr, end-none}
 use borrow.Author.Needs.{needs}
 use Rattle.text.proofs.line_end.Statement.{statement}
 use Rattle.text.proofs.line_end.Tie as tie
 
--- src/lib.rt:103:1
 returns-5 : tie.Need-returns-5
 returns-5 c =
     let a = c .before .before .before .before .before .before .args in

@@ -5,13 +5,11 @@ use borrow.Author.Needs.{needs}
 use Rattle.text.proofs.settle.Statement.{statement}
 use Rattle.text.proofs.settle.Tie as tie
 
--- src/lib.rt:230:9
 returns : tie.Need-returns
 returns c =
     let a = c .before .before .before .before .before .args in
     settle-taken (a .part) (a .macros) _ (a .image .now) _ _ (c .before .before .before .header-of .ensures) (c .before .check .ensures) (c .if1 .taken)
 
--- src/lib.rt:223:1
 returns-2 : tie.Need-returns-2
 returns-2 c =
     let a = c .before .before .before .before .before .before .before .before .before .before .args in

@@ -13,27 +13,23 @@ Inv-loop row₀ text p k table q₀ i₀ left₀ sum₀ row q i left sum = Spell
 abbrev μ-loop : tie.MeasureT-loop
 μ-loop row₀ text p k table q₀ i₀ left₀ sum₀ row q i left sum = left
 
--- src/lib.rt:67:13
 returns : tie.Need-returns Inv-loop μ-loop
 returns c =
     let l = c .before .before .before .before .before .before .before .before .loop in
     let nil = front-high _ (l .q) (l .left) _ _ (omega arith) (l .inv .inside) (c .before .before .before .before .digit .ensures) (c .before .digit2 .ensures) (c .if1 .taken) in
     (stops (l .inv) nil (omega arith), row-then (l .inv) nil)
 
--- src/lib.rt:70:13
 returns-2 : tie.Need-returns-2 Inv-loop μ-loop
 returns-2 c =
     let l = c .before .before .before .before .before .before .before .before .before .loop in
     let nil = front-low _ (l .q) (l .left) _ _ (omega arith) (l .inv .inside) (c .before .before .before .before .before .digit .ensures) (c .before .before .digit2 .ensures) (c .before .if1 .left) (c .if2 .taken) in
     (stops (l .inv) nil (omega arith), row-then (l .inv) nil)
 
--- src/lib.rt:63:5
 loop-again : tie.Need-loop-again Inv-loop μ-loop
 loop-again c =
     let l = c .before .before .before .before .before .before .before .before .before .loop in
     turn (l .inv) _ _ (c .before .before .before .before .before .digit .ensures) (c .before .before .digit2 .ensures) (omega arith) (c .before .if1 .left) (c .if2 .left)
 
--- src/lib.rt:53:1
 returns-3 : tie.Need-returns-3 Inv-loop μ-loop
 returns-3 c =
     let l = c .before .loop in

@@ -5,7 +5,6 @@ use borrow.Author.Needs.{needs}
 use Rattle.text.proofs.store_image.Statement.{statement}
 use Rattle.text.proofs.store_image.Tie as tie
 
--- src/lib.rt:158:1
 returns-3 : tie.Need-returns-3
 returns-3 c =
     let a = c .before .before .before .before .before .before .before .before .args in
