@@ -2,13 +2,13 @@
 use mathlib.Core.Bool.{Bool, true, false, false≢true, _&&_, cond}
 use mathlib.Core.List.{List, [], _∷_, _++_}
 use mathlib.Core.Path.{_≡_, refl, sym, ap, _∙_}
-use Prim.Native.Nat.{ℕ, _+_, _*_}
+use Prim.Native.Nat.{ℕ, _+_}
 use borrow.Author.Tests.{eqb-true}
 use lib.Dec.{eqb, leb}
 use lib.ListN.{length}
 use Rattle.hex.specs.Claims.{Takes, ReadingClaims}
-use Rattle.hex.specs.Records.{Record, BadRecord, lineRecord}
-use Rattle.hex.specs.Texts.{upperAfter, eventOf, events, outcomeOf, hexReading}
+use Rattle.hex.specs.Records.{lineRecord}
+use Rattle.hex.specs.Texts.{upperAfter, eventOf, events, outcomeOf}
 use Rattle.image.specs.Checks.{imageFault}
 use Rattle.image.specs.Sections.{sectionsOf, headerOf}
 use Rattle.image.specs.declared.Header.{Header}
@@ -21,7 +21,7 @@ use Rattle.parts.specs.declared.Lookup.{Lookup}
 use Rattle.parts.specs.declared.Lookup.the-variants.{Found, Refused}
 use Rattle.text.specs.Lines.{Line, Ended, Open, linesOf}
 use Rattle.text.specs.Placing.{Event, Bad, Other, Data, End, Outcome, Refusal, Stream, after, advance, place, gathered}
-use Rattle.text.specs.Reading.{Reading, Untouched, Cleared, Taken, checked, judged, readFor}
+use Rattle.text.specs.Reading.{Untouched, Cleared, Taken, judged, readFor}
 use Rattle.text.proofs.Lines.{AllEnded, lines-append, some-line}
 use Rattle.text.proofs.Placing.{place-length, place-followed, after-stream, no-outcome}
 

@@ -1,7 +1,7 @@
 -- The line at a position: the code's tests against the grammar. Assumes nothing.
 use mathlib.Core.Bool.{Bool, true, false, false≢true, cond}
 use mathlib.Core.List.{List, [], _∷_, _++_, append-assoc}
-use mathlib.Core.Logic.{_⊎_, inl, inr}
+use mathlib.Core.Logic.{inl, inr}
 use mathlib.Core.Path.{_≡_, refl, sym, ap, _∙_}
 use Prim.Native.Nat.{ℕ, suc, _+_, _*_, _≤_, _<_}
 use native.Mathlib.Omega.{arith}
@@ -9,7 +9,7 @@ use borrow.Author.Tests.{eqb-true, eq-eqb}
 use lib.Dec.{eqb}
 use lib.ListN.{length, getD, take, drop, length-drop, length-append, take-append-drop}
 use lib.Seq.{drop-drop, drop-cons, sets, length-sets, length-take-le, take-at}
-use Rattle.hex.specs.Records.{Record, BadRecord, recordOf, ofSpelt, ofBody, lineRecord}
+use Rattle.hex.specs.Records.{BadRecord, recordOf, ofSpelt, ofBody, lineRecord}
 use Rattle.hex.specs.Steps.{LineAt, LineTo, Spelled}
 use Rattle.image.specs.Words.{total}
 use Rattle.text.specs.Digits.{Spelt, Unreadable, Spells, spelt}
@@ -17,7 +17,7 @@ use Rattle.text.specs.Lines.{Line, Ended, Open, linesOf, withoutCR}
 use Rattle.text.specs.Spelling.{front, pairsAt, hasPairs, runOf, rowAfter, lineEnd}
 use Rattle.text.specs.declared.Run.{Run}
 use Rattle.text.proofs.Ends.{has-room}
-use Rattle.text.proofs.Lines.{Digits, begins, some-line, bare, spelt-length, spelt-front, lines-cut, digits-no-lf, no-lf-append, digits-bare, cr-bare, AllPairs, run-all}
+use Rattle.text.proofs.Lines.{begins, some-line, bare, spelt-length, spelt-front, lines-cut, digits-no-lf, no-lf-append, digits-bare, cr-bare, AllPairs, run-all}
 use Rattle.text.proofs.Positions.{head-at, tail-at, drop-more, drop-at, lf-at, cr-at, ended, first-same, first-one, row-front, row-first, Good, good-run}
 use Rattle.text.proofs.Spelling.{ran}
 

@@ -1,13 +1,13 @@
 -- From the scanned text to the answer and the buffer. Assumes nothing.
 use mathlib.Core.Bool.{Bool, true, false, cond}
-use mathlib.Core.List.{List, [], _∷_, _++_, append-nil, append-assoc}
+use mathlib.Core.List.{List, [], _++_, append-nil}
 use mathlib.Core.Path.{_≡_, refl, sym, ap, _∙_}
 use Prim.Native.Nat.{ℕ, _+_, _≤_, _<_}
 use native.Mathlib.Nat.{le-refl}
 use native.Mathlib.Omega.{arith}
 use borrow.Author.Tests.{le-leb, lt-leb}
-use lib.Dec.{eqb, leb}
-use lib.ListN.{length, take, drop, replicate}
+use lib.Dec.{eqb}
+use lib.ListN.{length, take, drop}
 use lib.Seq.{drop-length, length-take-le}
 use Rattle.hex.specs.Steps.{Filled, ScannedAs}
 use Rattle.hex.specs.Texts.{events, outcomeOf, hexReading}
@@ -20,12 +20,11 @@ use Rattle.image.specs.declared.Home.the-variants.{InImage, InHeader}
 use Rattle.parts.specs.Parts.{lookupOf}
 use Rattle.parts.specs.Sizes.{imageSize}
 use Rattle.parts.specs.declared.Geometry.{Geometry}
-use Rattle.parts.specs.declared.Lookup.{Lookup}
 use Rattle.parts.specs.declared.Lookup.the-variants.{Found, Refused}
 use Rattle.text.specs.Lines.{linesOf}
 use Rattle.text.specs.Placing.{Outcome, Refusal, Stream, gathered}
-use Rattle.text.specs.Reading.{Reading, Untouched, Cleared, Taken, checked, judged, readFor, noHeader, answerOf, bufferAfter}
-use Rattle.text.specs.Storing.{cleared, settled, laid}
+use Rattle.text.specs.Reading.{Reading, Untouched, Cleared, Taken, checked, judged, noHeader, answerOf, bufferAfter}
+use Rattle.text.specs.Storing.{cleared, settled}
 use Rattle.text.specs.declared.ReadAnswer.{ReadAnswer}
 use Rattle.text.proofs.Placing.{place-length, laid-image, laid-header, image-length}
 

@@ -2,13 +2,13 @@
 use mathlib.Core.Bool.{Bool, true, false, cond}
 use mathlib.Core.List.{List, [], _∷_, _++_, append-assoc}
 use mathlib.Core.Path.{_≡_, refl, sym, ap, _∙_}
-use Prim.Native.Nat.{ℕ, zero, suc, _+_, _-_, _≤_, _<_}
+use Prim.Native.Nat.{ℕ, _+_, _-_, _≤_, _<_}
 use native.Mathlib.Omega.{arith}
-use borrow.Author.Tests.{eqb-true, eqb-false, eq-eqb, ne-eqb}
+use borrow.Author.Tests.{eqb-false, eq-eqb, ne-eqb}
 use lib.Dec.{eqb, lit≤, lit<}
-use lib.ListN.{length, getD, take, drop}
+use lib.ListN.{length, getD, drop}
 use lib.Seq.{sets, length-sets}
-use Rattle.hex.specs.Steps.{outcomeAt, dues, dueList, TurnAt, Sized, advancedOf, Filled, ScannedAs}
+use Rattle.hex.specs.Steps.{outcomeAt, dues, dueList, TurnAt, Sized, advancedOf, ScannedAs}
 use Rattle.hex.specs.Texts.{outcomeOf}
 use Rattle.hex.specs.declared.Due.{Due}
 use Rattle.hex.specs.declared.Scanned.the-variants.{Bad, Whole}

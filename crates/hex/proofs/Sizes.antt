@@ -1,12 +1,12 @@
 -- The sizes of a part in the table, and the sections that they give. Assumes nothing.
 use mathlib.Core.Bool.{Bool, true, false, false≢true, _&&_, cond}
-use mathlib.Core.List.{List, [], _∷_}
-use mathlib.Core.Path.{_≡_, refl, sym, ap, _∙_}
-use Prim.Native.Nat.{ℕ, zero, suc, _+_, _-_, _*_, _/_, _≤_, _<_}
+use mathlib.Core.List.{[]}
+use mathlib.Core.Path.{_≡_, refl, sym}
+use Prim.Native.Nat.{ℕ, zero, suc, _+_, _-_, _≤_, _<_}
 use native.Mathlib.Omega.{arith}
-use borrow.Author.Tests.{eqb-true, leb-true, ne-eqb}
+use borrow.Author.Tests.{leb-true, ne-eqb}
 use lib.Dec.{eqb, leb}
-use lib.ListN.{length, getD, drop, drop-of-length-le}
+use lib.ListN.{getD, drop, drop-of-length-le}
 use Rattle.hex.specs.Steps.{Sized, dues}
 use Rattle.image.specs.Sections.{sectionsOf, noSection}
 use Rattle.image.specs.declared.Home.the-variants.{InImage, InHeader}

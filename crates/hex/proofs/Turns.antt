@@ -1,23 +1,22 @@
 -- What the record at a position does to the outcome. Assumes nothing.
 use mathlib.Core.Bool.{Bool, true, false, _&&_, cond}
 use mathlib.Core.List.{List, [], _∷_}
-use mathlib.Core.Path.{_≡_, refl, sym, ap, _∙_}
+use mathlib.Core.Path.{_≡_, refl, ap, _∙_}
 use Prim.Native.Nat.{ℕ, suc, _+_, _*_, _≤_, _<_}
 use native.Mathlib.Omega.{arith}
 use borrow.Author.Tests.{eqb-true, eqb-false, leb-true}
 use lib.Dec.{eqb, leb}
-use lib.ListN.{length, getD, take, drop, drop-of-length-le}
+use lib.ListN.{length, getD, drop, drop-of-length-le}
 use lib.Seq.{drop-cons}
-use Rattle.hex.specs.Records.{Record, BadRecord, DataRecord, ExtendedAddress, EndRecord, lineRecord}
+use Rattle.hex.specs.Records.{Record, BadRecord, DataRecord, ExtendedAddress, EndRecord}
 use Rattle.hex.specs.Steps.{LineAt, LineTo, FoundAt, outcomeAt, dues, dataTurn, endTurn, TurnAt}
 use Rattle.hex.specs.Texts.{upperAfter, eventOf, events}
 use Rattle.hex.specs.declared.Found.{Found}
 use Rattle.hex.specs.declared.Found.the-variants.{Refused, Payload, Extended, Ended}
-use Rattle.hex.specs.declared.Turn.{Turn}
 use Rattle.hex.specs.declared.Turn.the-variants.{Stop, Done, Moved, Store}
 use Rattle.image.specs.declared.Section.{Section}
 use Rattle.text.specs.Lines.{Line, linesOf}
-use Rattle.text.specs.Placing.{Event, Data, Outcome, Refusal, Stream, place, after, advance}
+use Rattle.text.specs.Placing.{Event, Data, Refusal, Stream, place}
 use Rattle.text.proofs.Lines.{some-line}
 use Rattle.hex.proofs.Bodies.{payloadIn, payload-length}
 

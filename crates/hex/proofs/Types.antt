@@ -1,10 +1,7 @@
 -- Laws of the records by type, and of the turns that they lead to. Assumes nothing.
-use mathlib.Core.Bool.{Bool, true, false}
-use mathlib.Core.List.{List, [], _∷_}
-use mathlib.Core.Path.{_≡_, refl, sym, ap, _∙_}
+use mathlib.Core.Path.{_≡_}
 use Prim.Native.Nat.{ℕ, _+_, _*_, _≤_, _<_}
 use borrow.Author.Tests.{le-leb, lt-leb, eq-eqb, ne-eqb}
-use lib.Dec.{eqb, leb}
 use Rattle.hex.specs.Steps.{foundOf, dataTurn, endTurn}
 use Rattle.hex.specs.declared.Found.the-variants.{Refused, Payload, Extended, Ended}
 use Rattle.hex.specs.declared.Turn.the-variants.{Stop, Done, Store}

@@ -1,14 +1,12 @@
 -- Laws of line ends, and of pairs that have no room. Assumes nothing.
-use mathlib.Core.Bool.{Bool, true, false, _&&_}
-use mathlib.Core.List.{List, [], _∷_}
-use mathlib.Core.Path.{_≡_, refl, sym, ap, _∙_}
+use mathlib.Core.Bool.{false}
+use mathlib.Core.List.{List}
+use mathlib.Core.Path.{_≡_}
 use Prim.Native.Nat.{ℕ, _+_, _*_, _≤_, _<_}
 use borrow.Author.Tests.{le-leb, lt-leb, ne-eqb}
-use lib.Dec.{eqb, leb}
 use lib.ListN.{length, getD, List·getD-eq-default}
 use lib.Seq.{sets}
-use Rattle.text.specs.Spelling.{front, pairsAt, hasPairs, runOf, rowAfter, lineEnd}
-use Rattle.text.specs.declared.Run.{Run}
+use Rattle.text.specs.Spelling.{front, pairsAt, runOf, rowAfter, lineEnd}
 use Rattle.text.proofs.Spelling.{ran}
 
 module _ (s : List ℕ) (e : ℕ) where

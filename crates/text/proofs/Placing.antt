@@ -2,20 +2,20 @@
 use mathlib.Core.Bool.{Bool, true, false, false≢true, _&&_, cond}
 use mathlib.Core.List.{List, [], _∷_, _++_, append-nil, append-assoc}
 use mathlib.Core.Path.{_≡_, refl, sym, ap, _∙_}
-use Prim.Native.Nat.{ℕ, zero, suc, _+_, _-_, _≤_, _<_}
+use Prim.Native.Nat.{ℕ, _+_, _-_, _≤_}
 use native.Mathlib.Nat.{le-refl}
 use native.Mathlib.Omega.{arith}
-use borrow.Author.Tests.{eqb-true, eqb-false, leb-true, ne-eqb, eq-eqb}
+use borrow.Author.Tests.{eqb-true, leb-true}
 use lib.Dec.{eqb, leb}
 use lib.ListN.{length, take, drop, length-append, length-drop}
-use lib.Seq.{sets, sets-eq, drop-length, take-at, drop-at, drop-drop, take-append-add, drop-append-add, length-take-le}
+use lib.Seq.{sets, sets-eq, drop-length, take-at, drop-at, take-append-add, drop-append-add, length-take-le}
 use Rattle.image.specs.Sections.{sectionsOf}
 use Rattle.image.specs.declared.Home.{Home}
 use Rattle.image.specs.declared.Home.the-variants.{InImage, InHeader}
 use Rattle.image.specs.declared.Section.{Section}
 use Rattle.parts.specs.Sizes.{flashSize, lockTotal, imageSize}
 use Rattle.parts.specs.declared.Geometry.{Geometry}
-use Rattle.text.specs.Placing.{Event, Bad, Other, Data, End, Outcome, Refusal, Stream, after, fits, restOf, advance, place, sameHome, gathered, overall}
+use Rattle.text.specs.Placing.{Event, Bad, Other, Data, End, Outcome, Refusal, Stream, after, restOf, advance, place, sameHome, gathered, overall}
 use Rattle.text.specs.Storing.{storedAt, storedIn, laid}
 use Rattle.text.proofs.Storing.{sets-past, sets-append, stored}
 

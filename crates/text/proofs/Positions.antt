@@ -3,15 +3,14 @@ use mathlib.Core.Bool.{Bool, true, false, false≢true, _&&_, cond}
 use mathlib.Core.List.{List, [], _∷_, _++_}
 use mathlib.Core.Logic.{_⊎_, inl, inr}
 use mathlib.Core.Path.{_≡_, refl, sym, ap, _∙_}
-use Prim.Native.Nat.{ℕ, zero, suc, _+_, _-_, _*_, _≤_, _<_}
-use native.Mathlib.Decide.{decLt}
+use Prim.Native.Nat.{ℕ, suc, _+_, _-_, _*_, _≤_, _<_}
 use native.Mathlib.Omega.{arith}
-use borrow.Author.Tests.{eqb-true, eqb-false, ltb-true, ltb-false, lt-ltb, leb-true}
+use borrow.Author.Tests.{eqb-true, ltb-true, ltb-false, leb-true}
 use lib.Dec.{eqb, leb, ltb}
-use lib.ListN.{length, getD, take, drop, List·getD-eq-default, take-append-drop}
+use lib.ListN.{length, getD, take, drop, List·getD-eq-default}
 use lib.Seq.{getD-drop, drop-drop, drop-cons, sets, sets-eq, take-at}
 use Rattle.text.specs.Digits.{digitOf, isDigit}
-use Rattle.text.specs.Spelling.{front, pairsAt, hasPairs, runOf, rowAfter, lineEnd}
+use Rattle.text.specs.Spelling.{front, pairsAt, runOf, lineEnd}
 use Rattle.text.proofs.Spelling.{pairs-turn, ran}
 
 pub head-at : (s : List ℕ) (p x : ℕ) (t : List ℕ) → drop p s ≡ x ∷ t → getD s p 0 ≡ x

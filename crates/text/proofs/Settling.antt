@@ -1,18 +1,16 @@
 -- Laws of the checks after reading. Assumes nothing.
-use mathlib.Core.List.{List, [], _∷_, _++_, append-nil}
-use mathlib.Core.Path.{_≡_, refl, sym, ap, _∙_}
-use Prim.Native.Nat.{ℕ, _≤_}
+use mathlib.Core.List.{List, _++_, append-nil}
+use mathlib.Core.Path.{_≡_, sym, ap, _∙_}
+use Prim.Native.Nat.{ℕ}
 use native.Mathlib.Nat.{le-refl}
 use borrow.Author.Tests.{ne-eqb, le-leb}
-use lib.Dec.{eqb, leb}
-use lib.ListN.{length, drop, replicate}
+use lib.ListN.{length}
 use lib.Seq.{drop-length}
 use Rattle.image.specs.Checks.{imageFault}
 use Rattle.image.specs.Sections.{headerOf}
 use Rattle.image.specs.declared.Header.{Header}
-use Rattle.text.specs.Reading.{Reading, Taken, Cleared, noHeader, answerOf, bufferAfter}
+use Rattle.text.specs.Reading.{Taken, Cleared, noHeader, answerOf, bufferAfter}
 use Rattle.text.specs.Storing.{cleared, settled}
-use Rattle.text.specs.declared.ReadAnswer.{ReadAnswer}
 
 module _ (part macros : ℕ) (header image : List ℕ) where
   taken : imageFault (headerOf part macros header) image ≡ 0 → settled part macros header image ≡ Taken (headerOf part macros header) image

@@ -1,16 +1,16 @@
 -- Laws of digit pairs at a position of a text. Assumes nothing.
-use mathlib.Core.Bool.{Bool, true, false, _&&_, cond}
+use mathlib.Core.Bool.{true, false}
 use mathlib.Core.List.{List, [], _∷_}
 use mathlib.Core.Path.{_≡_, refl, sym, ap, _∙_}
 use Prim.Native.Nat.{ℕ, zero, suc, _+_, _-_, _*_, _≤_, _<_}
 use native.Mathlib.Omega.{arith}
 use native.Mathlib.Nat.{add-zero}
 use borrow.Author.Tests.{lt-ltb, le-ltb, eq-eqb, ne-eqb}
-use lib.Dec.{ltb, eqb}
+use lib.Dec.{eqb}
 use lib.ListN.{length, getD, take, drop, set, length-set}
 use lib.Seq.{sets, drop-cons}
 use Rattle.image.specs.Words.{total}
-use Rattle.text.specs.Digits.{digitOf, isDigit}
+use Rattle.text.specs.Digits.{digitOf}
 use Rattle.text.specs.Spelling.{digitsFrom, front, pairsAt}
 use Rattle.text.specs.declared.Run.{Run}
 
