@@ -1,0 +1,121 @@
+// What the programs that print cases share: numbers of standard input, a digest of bytes, capital hex digits (tests/vectors/README.md).
+// No contract can say what is read or written.
+ghost use mathlib.Core.Path.{_≡_};
+ghost use Prim.Native.Nat.{_*_, _%_, _^_, _≤_};
+ghost use Rattle.cases.specs.Fnv.{fnvStep, fnv};
+
+// A number of standard input; `ended` where the input ended before the byte after its last digit.
+pub struct Number {
+    pub ended: bool,
+    pub value: u32,
+}
+
+// The value of the next byte of standard input: 0 to 9, 10 for a byte that is no digit, 11 at the end.
+fn digit() -> u32
+    ensures { λ r. ⌜ r ≤ 11 ⌝ }
+{
+    let mut one = [0u8; 1];
+    let got = libc::read(0, &mut one);
+    if got < 1 {
+        return 11;
+    }
+    let c = one[0];
+    if c < 48 {
+        return 10;
+    }
+    if 57 < c {
+        return 10;
+    }
+    (c - 48) as u32
+}
+
+// A digit more, and `most` where that is more than `most`.
+fn grown(value: u32, digit: u32, most: u32) -> u32
+    ensures { λ r. ⌜ r ≤ most ⌝ }
+{
+    let next = 10 * (value as u64) + (digit as u64);
+    if next < most as u64 {
+        next as u32
+    } else {
+        most
+    }
+}
+
+// The next number of standard input, with the byte after it; at most `most`.
+pub fn read_number(most: u32) -> Number
+    ensures { λ r. ⌜ r .value ≤ most ⌝ }
+{
+    let mut value: u32 = 0;
+    let mut left: u32 = 20;
+    while 0 < left {
+        let d = digit();
+        if 9 < d {
+            return Number {
+                ended: d == 11,
+                value,
+            };
+        }
+        value = grown(value, d, most);
+        left -= 1;
+    }
+    Number {
+        ended: false,
+        value,
+    }
+}
+
+// x times 2^40 + 435, modulo 2^64.
+fn scaled(x: u64) -> u64
+    ensures { λ r. ⌜ r ≡ x * 1099511628211 % 2 ^ 64 ⌝ }
+{
+    let low = x % 4294967296 * 435;
+    let high = x / 4294967296 * 435 % 4294967296 * 4294967296;
+    let top = x % 16777216 * 1099511627776;
+    let sum = std::num::wrapping_add_u64(low, high);
+    std::num::wrapping_add_u64(sum, top)
+}
+
+// The digest after a byte more.
+pub fn mixed(h: u64, b: u8) -> u64
+    ensures { λ r. ⌜ r ≡ fnvStep h b ⌝ }
+{
+    scaled(h ^ (b as u64))
+}
+
+// The FNV-1a digest of bytes.
+pub fn digest(bytes: &[u8]) -> u64
+    ensures { λ r. ⌜ r ≡ fnv (now (bytes .entry)) ⌝ }
+{
+    let mut h: u64 = 14695981039346656037;
+    let mut i: usize = 0;
+    while i < bytes.len() {
+        h = mixed(h, bytes[i]);
+        i += 1;
+    }
+    h
+}
+
+// Writes a byte.
+pub fn print_byte(b: u8) {
+    let one = [b];
+    io::write_all(1, &one);
+}
+
+fn capital(c: u8) -> u8 {
+    if c < 97 { c } else { c - 32 }
+}
+
+fn print_capitals(text: &[u8]) {
+    let mut i: usize = 0;
+    while i < text.len() {
+        print_byte(capital(text[i]));
+        i += 1;
+    }
+}
+
+// Writes n in capital hex digits, at least `width` of them.
+pub fn print_hex(n: u64, width: usize) {
+    let mut text = [0u8; 16];
+    let k = io::hex(n, width, &mut text);
+    print_capitals(&text[..k]);
+}
