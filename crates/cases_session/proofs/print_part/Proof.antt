@@ -1,0 +1,23 @@
+-- The part lent has the length asked for. Assumes nothing.
+use mathlib.Core.Path.{sym}
+use borrow.Author.Needs.{needs}
+use lib.Seq.{length-take-le}
+use Rattle.cases_session.proofs.print_part.Statement.{statement}
+use Rattle.cases_session.proofs.print_part.Tie as tie
+
+slice-aggregate-print-case : tie.Need-slice-aggregate-print-case
+slice-aggregate-print-case c =
+    let f = c .before .before .before .args in
+    sym (length-take-le (f .size) (f .image .now) (c .before .if1 .taken))
+
+print-case-requires : tie.Need-print-case-requires
+print-case-requires c κs = search needs
+
+returns : tie.Need-returns
+returns c = search needs
+
+returns-2 : tie.Need-returns-2
+returns-2 c = search needs
+
+pub print-part-spec : {M : Type 1} → statement M
+print-part-spec = tie.close (tie.spec slice-aggregate-print-case print-case-requires returns returns-2)
