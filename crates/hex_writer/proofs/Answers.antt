@@ -1,10 +1,10 @@
 -- Laws of what writing gives. Assumes nothing.
 use mathlib.Core.List.{List}
-use mathlib.Core.Path.{_≡_, refl, sym, ap, _∙_}
+use mathlib.Core.Path.{_≡_, sym, ap, _∙_}
 use Prim.Native.Nat.{ℕ, _+_, _≤_, _<_}
 use native.Mathlib.Omega.{arith}
 use borrow.Author.Tests.{eq-eqb, ne-eqb, lt-leb}
-use lib.ListN.{length, drop}
+use lib.ListN.{length}
 use lib.Seq.{sets, sets-eq}
 use Rattle.hex.specs.Written.{textOf, textLength}
 use Rattle.hex_writer.specs.Writing.{Writing, Unwritten, Written, writeChecks, writeFor, writing, answerTo, leftBy, writeOf, textAfter}

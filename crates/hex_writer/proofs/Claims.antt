@@ -1,22 +1,22 @@
 -- The claims on writing hold. Assumes nothing.
-use mathlib.Core.List.{List, [], _∷_, _++_, append-nil}
+use mathlib.Core.List.{List}
 use mathlib.Core.Path.{_≡_, refl, sym, ap, _∙_, subst}
-use Prim.Native.Nat.{ℕ, _+_, _*_, _≤_, _<_}
+use Prim.Native.Nat.{ℕ, _+_, _≤_}
 use native.Mathlib.Nat.{le-refl}
 use native.Mathlib.Omega.{arith}
-use lib.ListN.{length, getD, take, drop, length-append, length-take, length-drop}
+use lib.ListN.{length, take, drop, length-append, length-take, length-drop}
 use lib.Seq.{take-append-seam, length-take-le}
 use Rattle.hex.specs.Claims.{Takes}
 use Rattle.hex.specs.Texts.{events, hexReading}
 use Rattle.hex.specs.Written.{textOf, textLength}
 use Rattle.hex_writer.specs.Claims.{Typed, Writes, textIn, ReadAgain, WrittenAgain, WritingClaims}
-use Rattle.hex_writer.specs.Writing.{Writing, Unwritten, Written, writing, answerTo, leftBy, writeOf, textAfter}
+use Rattle.hex_writer.specs.Writing.{Writing, Unwritten, Written, writing, answerTo, writeOf}
 use Rattle.hex_writer.proofs.Data.{data-bytes}
 use Rattle.hex_writer.proofs.Lengths.{text-length}
 use Rattle.hex_writer.proofs.RoundTrip as trip
 use Rattle.hex_writer.proofs.Entries.{longest}
-use Rattle.hex_writer.proofs.Taken.{TakenFrom, taken-from, one-image}
-use Rattle.hex_writer.proofs.Written.{WrittenFrom, written-from, writes, some-number}
+use Rattle.hex_writer.proofs.Taken.{taken-from, one-image}
+use Rattle.hex_writer.proofs.Written.{written-from, writes, some-number}
 use Rattle.image.specs.Sections.{sectionsOf, headerOf}
 use Rattle.image.specs.declared.Header.{Header}
 use Rattle.image.specs.declared.Home.the-variants.{InImage, InHeader}
@@ -25,7 +25,7 @@ use Rattle.parts.specs.Sizes.{flashSize, lockTotal, imageSize}
 use Rattle.parts.specs.declared.Geometry.{Geometry}
 use Rattle.parts.specs.declared.Lookup.the-variants.{Found}
 use Rattle.text.proofs.Capitals.{AllBytes, all-bytes, bytes-take, bytes-drop}
-use Rattle.text.proofs.Pieces.{dataOf, place-data, gathered-bytes}
+use Rattle.text.proofs.Pieces.{place-data, gathered-bytes}
 use Rattle.text.proofs.Placing.{place-length, image-length}
 use Rattle.text.specs.Lines.{linesOf}
 use Rattle.text.specs.Placing.{gathered, overall}

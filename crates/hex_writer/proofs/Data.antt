@@ -1,6 +1,6 @@
 -- The data of a text are bytes. Assumes nothing.
 use mathlib.Core.Bool.{Bool, true, false, _&&_, cond}
-use mathlib.Core.List.{List, [], _∷_, _++_}
+use mathlib.Core.List.{List, [], _∷_}
 use mathlib.Core.Path.{_≡_, refl}
 use Prim.Native.Nat.{ℕ, _+_, _*_, _%_}
 use lib.Dec.{eqb, leb}
@@ -12,7 +12,7 @@ use Rattle.text.proofs.Capitals.{AllBytes, bytes-spelt, bytes-append, bytes-tak
 use Rattle.text.proofs.Pieces.{dataOf}
 use Rattle.text.specs.Digits.{Spelt, Unreadable, Spells, spelt}
 use Rattle.text.specs.Lines.{Line, Ended, Open, withoutCR}
-use Rattle.text.specs.Placing.{Event, Bad, Other, Data, End}
+use Rattle.text.specs.Placing.{Event, Bad, Data}
 
 -- a record whose payload, if it has one, is bytes
 abbrev Fine : Record → Type 0

@@ -1,15 +1,15 @@
 -- The length of a text. Assumes nothing.
 use mathlib.Core.List.{List, [], _∷_, _++_}
-use mathlib.Core.Path.{_≡_, refl, sym, ap, _∙_}
+use mathlib.Core.Path.{_≡_, refl, ap, _∙_}
 use mathlib.Core.Bool.{Bool, true, false}
 use Prim.Native.Nat.{ℕ, zero, suc, _+_, _-_, _*_, _/_, _%_, _≤_, _<_}
 use native.Mathlib.Omega.{arith}
 use borrow.Author.Tests.{eqb-true, eqb-false}
 use lib.Dec.{eqb}
 use lib.ListN.{length, getD, take, drop, length-append, length-take, length-drop}
-use Rattle.hex.specs.Written.{dataLine, extendedLine, newUpper, lowOf, upperOf, linesFrom, uppersIn, textOf, textLength}
+use Rattle.hex.specs.Written.{dataLine, newUpper, lowOf, upperOf, linesFrom, textOf, textLength}
 use Rattle.hex_writer.specs.Lines.{upperPast, linesLength, placeAfter}
-use Rattle.hex_writer.specs.Sized.{Sound, Sized, Laid}
+use Rattle.hex_writer.specs.Sized.{Sized, Laid}
 use Rattle.hex_writer.proofs.Lines.{data-length, extended-length, upper-same, upper-new, lines-append}
 use Rattle.hex_writer.proofs.Whole.{laid-at, text-lines, text-room}
 use Rattle.image.specs.Sections.{sectionsOf, noSection, sectionBytes, homeOf}

@@ -1,14 +1,14 @@
 -- Written lines read back as the records that they were written for. Assumes nothing.
-use mathlib.Core.Bool.{Bool, true, false, cond}
+use mathlib.Core.Bool.{Bool, true, false}
 use mathlib.Core.List.{List, [], _∷_, _++_, append-assoc}
 use mathlib.Core.Path.{_≡_, refl, sym, ap, _∙_, subst}
 use Prim.Native.Nat.{ℕ, zero, suc, _+_, _-_, _*_, _/_, _%_, _≤_, _<_}
 use native.Mathlib.Omega.{arith}
 use borrow.Author.Tests.{eq-eqb, le-leb, eqb-true, eqb-false}
 use lib.Dec.{eqb}
-use lib.ListN.{length, getD, take, drop, length-append, length-take, length-drop}
+use lib.ListN.{length, drop, length-append, length-take, length-drop}
 use lib.Seq.{take-at}
-use Rattle.hex.specs.Records.{Record, DataRecord, ExtendedAddress, EndRecord, typed, recordOf, ofSpelt, ofBody, lineRecord}
+use Rattle.hex.specs.Records.{Record, DataRecord, ExtendedAddress, typed, recordOf, ofSpelt, ofBody, lineRecord}
 use Rattle.hex.specs.Texts.{upperAfter, eventOf, events}
 use Rattle.hex.specs.Written.{sumByte, lineText, dataLine, extendedLine, endLine, newUpper, upperOf, lowOf, linesFrom, writtenText}
 use Rattle.hex_writer.proofs.Pairs.{total-append}
@@ -18,8 +18,8 @@ use Rattle.text.proofs.Capitals.{AllBytes, bytes-append, bytes-take, bytes-drop
 use Rattle.text.proofs.Lines.{lines-cut, digits-no-lf, no-lf-append, cr-bare}
 use Rattle.text.proofs.Pieces.{Says}
 use Rattle.text.specs.Digits.{pairsOf, digitOf, spelt, withByte}
-use Rattle.text.specs.Lines.{Line, Ended, linesOf, onto, withoutCR}
-use Rattle.text.specs.Placing.{Event, Other, Data, End, Piece, cut}
+use Rattle.text.specs.Lines.{Ended, linesOf, onto, withoutCR}
+use Rattle.text.specs.Placing.{Other, Data, End, Piece, cut}
 
 abbrev withSum : List ℕ → List ℕ
 withSum bs = bs ++ (sumByte bs ∷ [])

@@ -1,16 +1,15 @@
 -- A written text reads back. Assumes nothing.
-use mathlib.Core.Bool.{Bool, true, false, cond}
+use mathlib.Core.Bool.{Bool, cond}
 use mathlib.Core.List.{List, [], _∷_, _++_, append-nil}
 use mathlib.Core.Path.{_≡_, refl, sym, ap, _∙_}
-use Prim.Native.Nat.{ℕ, zero, suc, _+_, _-_, _*_, _/_, _%_, _≤_, _<_}
+use Prim.Native.Nat.{ℕ, _+_, _*_, _/_, _%_, _≤_, _<_}
 use native.Mathlib.Omega.{arith}
 use borrow.Author.Tests.{le-leb}
-use lib.Dec.{leb}
 use lib.ListN.{length, getD, take, drop, length-append, length-drop, take-append-drop}
 use lib.Seq.{take-all, take-at, getD-at, drop-drop}
 use Rattle.hex.specs.Claims.{Takes}
-use Rattle.hex.specs.Texts.{outcomeOf, hexReading}
-use Rattle.hex.specs.Written.{textOf, writtenText}
+use Rattle.hex.specs.Texts.{outcomeOf}
+use Rattle.hex.specs.Written.{textOf}
 use Rattle.hex_writer.specs.Claims.{Typed}
 use Rattle.hex_writer.specs.Sized.{Sized}
 use Rattle.hex_writer.proofs.Lengths.{size-at}
@@ -18,7 +17,7 @@ use Rattle.hex_writer.proofs.ReadBack.{AllNeat, neat-append, cut-neat, 
 use Rattle.hex_writer.proofs.Entries.{sound}
 use Rattle.image.proofs.Sections.{headerWith}
 use Rattle.image.specs.Checks.{imageFault}
-use Rattle.image.specs.Sections.{sectionsOf, sectionBytes, homeOf, headerBytes, headerOf}
+use Rattle.image.specs.Sections.{sectionsOf, sectionBytes, headerBytes, headerOf}
 use Rattle.image.specs.declared.Header.{Header}
 use Rattle.image.specs.declared.Home.the-variants.{InImage, InHeader}
 use Rattle.image.specs.declared.Section.{Section}
@@ -28,9 +27,9 @@ use Rattle.parts.specs.declared.Geometry.{Geometry}
 use Rattle.parts.specs.declared.Lookup.{Lookup}
 use Rattle.parts.specs.declared.Lookup.the-variants.{Found}
 use Rattle.text.proofs.Capitals.{AllBytes, bytes-all, bytes-append, bytes-take, bytes-drop}
-use Rattle.text.proofs.Pieces.{Filled, joined, placed, filtered, gathered-joined}
-use Rattle.text.specs.Placing.{Outcome, Stream, pieces, piecesIn, cut, gathered}
-use Rattle.text.specs.Reading.{Reading, Untouched, Taken, checked, judged, readFor}
+use Rattle.text.proofs.Pieces.{Filled, joined, placed, gathered-joined}
+use Rattle.text.specs.Placing.{Stream, pieces, piecesIn, cut, gathered}
+use Rattle.text.specs.Reading.{Untouched, judged, readFor}
 
 -- sections whose pieces are neat
 abbrev Sharp : (Section → List ℕ) → List Section → Type 0

@@ -1,8 +1,8 @@
 -- Laws of the pieces of a section, and of the sections. Assumes nothing.
 use mathlib.Core.Bool.{Bool, true, false}
-use mathlib.Core.List.{List, [], _∷_, _++_}
+use mathlib.Core.List.{List, [], _++_}
 use mathlib.Core.Path.{_≡_, refl, sym, ap, _∙_}
-use Prim.Native.Nat.{ℕ, min, zero, suc, _+_, _-_, _*_, _/_, _%_, _≤_, _<_}
+use Prim.Native.Nat.{ℕ, min, zero, suc, _+_, _-_, _*_, _/_, _≤_, _<_}
 use native.Mathlib.Omega.{arith}
 use borrow.Author.Tests.{leb-true, leb-false}
 use lib.Dec.{leb}
@@ -10,7 +10,7 @@ use lib.ListN.{length, take, drop, length-drop, length-take, drop-of-length-le}
 use lib.Seq.{sets, take-all, drop-drop}
 use Rattle.hex.specs.Written.{linesFrom}
 use Rattle.hex_writer.specs.Lines.{onePiece, placeAfter}
-use Rattle.hex_writer.specs.Sized.{Sound, Sized, Laid}
+use Rattle.hex_writer.specs.Sized.{Laid}
 use Rattle.hex_writer.specs.declared.Place.{Place}
 use Rattle.hex_writer.proofs.Lines as lines
 use Rattle.image.specs.Sections.{homeOf, sectionBytes, headerBytes}

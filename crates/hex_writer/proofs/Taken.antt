@@ -1,12 +1,12 @@
 -- What a text that is taken was. Assumes nothing.
 use mathlib.Core.Bool.{Bool, true, false, false≢true, _&&_, _||_, not, cond}
-use mathlib.Core.List.{List, [], _∷_, _++_}
+use mathlib.Core.List.{List}
 use mathlib.Core.Path.{_≡_, refl, sym, ap, _∙_}
-use Prim.Native.Nat.{ℕ, zero, suc, _+_, _-_, _*_, _≤_, _<_}
+use Prim.Native.Nat.{ℕ, _+_}
 use native.Mathlib.Omega.{arith}
 use borrow.Author.Tests.{eqb-true, eq-eqb}
 use lib.Dec.{eqb, leb}
-use lib.ListN.{length, getD, take, drop}
+use lib.ListN.{length}
 use Rattle.hex.specs.Claims.{Takes}
 use Rattle.hex.specs.Texts.{events, outcomeOf}
 use Rattle.image.specs.Checks.{imageFault}
@@ -19,11 +19,11 @@ use Rattle.parts.specs.Sizes.{flashSize, lockTotal, imageSize, rowsOf}
 use Rattle.parts.specs.declared.Geometry.{Geometry}
 use Rattle.parts.specs.declared.Lookup.{Lookup}
 use Rattle.parts.specs.declared.Lookup.the-variants.{Found, Refused}
-use Rattle.text.proofs.Pieces.{dataOf, place-data}
+use Rattle.text.proofs.Pieces.{place-data}
 use Rattle.text.proofs.Placing.{place-length}
 use Rattle.text.specs.Lines.{linesOf}
 use Rattle.text.specs.Placing.{Outcome, Refusal, Stream, gathered, overall}
-use Rattle.text.specs.Reading.{Reading, Untouched, Cleared, Taken, checked, judged, readFor}
+use Rattle.text.specs.Reading.{Untouched, Cleared, Taken, judged, readFor}
 
 pub record TakenFrom (part macros : ℕ) (text : List ℕ) (room : ℕ) (h : Header) (bytes : List ℕ) : Type 0 where
   pub g : Geometry

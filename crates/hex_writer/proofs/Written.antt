@@ -1,15 +1,15 @@
 -- What an image that is written was. Assumes nothing.
 use mathlib.Core.Bool.{Bool, true, false, false≢true, cond}
-use mathlib.Core.List.{List, [], _∷_, _++_}
+use mathlib.Core.List.{List, _∷_}
 use mathlib.Core.Path.{_≡_, refl, sym, ap, _∙_}
-use Prim.Native.Nat.{ℕ, _≤_, _<_}
+use Prim.Native.Nat.{ℕ, _≤_}
 use native.Mathlib.Omega.{arith}
-use borrow.Author.Tests.{eq-eqb, ne-eqb, le-leb, eqb-true, eqb-false, leb-true}
+use borrow.Author.Tests.{eq-eqb, le-leb, eqb-true, eqb-false, leb-true}
 use lib.Dec.{eqb, leb}
 use lib.ListN.{length}
 use Rattle.hex.specs.Written.{textOf, textLength}
 use Rattle.hex_writer.specs.Claims.{Writes}
-use Rattle.hex_writer.specs.Writing.{Writing, Unwritten, Written, writeChecks, unlessRefused, writeFor, writing}
+use Rattle.hex_writer.specs.Writing.{Unwritten, Written, writeChecks, unlessRefused, writeFor, writing}
 use Rattle.hex_writer.proofs.Entries.{refused-eleven}
 use Rattle.image.proofs.Checks.{looked}
 use Rattle.image.proofs.Refusals.{passed, failed}

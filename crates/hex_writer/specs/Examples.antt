@@ -1,7 +1,6 @@
 -- Lines of document 01 and READINGS 34, as they are written.
-use mathlib.Core.List.{List, [], _∷_}
+use mathlib.Core.List.{[], _∷_}
 use mathlib.Core.Path.{_≡_}
-use Prim.Native.Nat.{ℕ}
 use Rattle.hex.specs.Written.{lineText, extendedLine, endLine}
 
 pub record LineExamples : Type 0 where

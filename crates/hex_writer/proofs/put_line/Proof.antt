@@ -1,7 +1,6 @@
 -- The line's parts, one after the other. Assumes nothing.
-use mathlib.Core.Path.{_≡_, sym, _∙_, ap}
-use Prim.Native.Nat.{ℕ}
-use lib.ListN.{length, length-set}
+use mathlib.Core.Path.{sym, _∙_}
+use lib.ListN.{length-set}
 use Rattle.hex_writer.proofs.Pairs.{line-put, sum-is}
 use native.Mathlib.Omega.{arith}
 use borrow.Author.Needs.{needs}

@@ -1,6 +1,5 @@
 -- The first record, the sections, the end record. Assumes nothing.
 use mathlib.Core.Path.{ap}
-use Prim.Native.Nat.{ℕ}
 use native.Mathlib.Omega.{arith}
 use borrow.Author.Needs.{needs}
 use Rattle.hex_writer.specs.declared.Place.{Place}

@@ -1,5 +1,4 @@
 -- The upper half stays, or a type 4 record is put. Assumes nothing.
-use native.Mathlib.Omega.{arith}
 use borrow.Author.Needs.{needs}
 use Rattle.hex_writer.proofs.Lines.{upper-stays, upper-room, upper-put}
 use Rattle.hex_writer.proofs.put_upper.Statement.{statement}
