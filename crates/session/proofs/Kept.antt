@@ -137,7 +137,7 @@ kept s bytes a h = by (lookupOf (s .header .part) (s .header .macros)) refl
     by (Found g) e =
         let same = (right-step s bytes a) .header in
         let found : lookupOf ((stepWith s bytes a) .session .header .part) ((stepWith s bytes a) .session .header .macros) ≡ Found g
-            = ap (λ (k : Header). lookupOf (k .part) (k .macros)) same ∙ e in
+        = ap (λ (k : Header). lookupOf (k .part) (k .macros)) same ∙ e in
         possible-by ((stepWith s bytes a) .session) found ∙ kept-step g s bytes a e h
 
 within : (s : Session) (bytes : List ℕ) (a : Answer) (g : Geometry) (r : Report) → lookupOf (s .header .part) (s .header .macros) ≡ Found g
