@@ -247,7 +247,7 @@ fn write(b: Board, memory: &mut [u8], byte: u8, w: u32) -> Met {
 }
 
 // The board meets a request.
-pub fn meet(b: Board, memory: &mut [u8], packet: Packet) -> Met {
+pub(crate) fn meet(b: Board, memory: &mut [u8], packet: Packet) -> Met {
     match packet {
         Packet::Xres => Met {
             board: calls::reset(b),

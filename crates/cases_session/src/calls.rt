@@ -56,7 +56,7 @@ fn chip_of(g: Geometry, h: Header, privileged: u32) -> Chip {
 }
 
 // A blank board with the image's IDs.
-pub fn blank(g: Geometry, h: Header, stored: u32, privileged: u32) -> Board {
+pub(crate) fn blank(g: Geometry, h: Header, stored: u32, privileged: u32) -> Board {
     let chip = chip_of(g, h, privileged);
     Board {
         chip: chip,
@@ -151,7 +151,7 @@ fn add_up(b: Board, memory: &[u8]) -> Board {
 }
 
 // A running call succeeds.
-pub fn succeed(b: Board, memory: &mut [u8]) -> Board {
+pub(crate) fn succeed(b: Board, memory: &mut [u8]) -> Board {
     let c = b.chip;
     let command = b.sysreq % 2147483648;
     match command {
@@ -178,7 +178,7 @@ pub fn succeed(b: Board, memory: &mut [u8]) -> Board {
 }
 
 // XRES puts the stored level in effect, clears SYSREQ and drops a running call as failed.
-pub fn reset(b: Board) -> Board {
+pub(crate) fn reset(b: Board) -> Board {
     let mut after = b;
     after.sysarg = if b.running { 0xF0000001 } else { b.sysarg };
     after.in_effect = b.stored;

@@ -8,7 +8,7 @@ pub const LATCH: u32 = 131200;
 
 pub const PARAMS: u32 = 131328;
 
-pub fn wide(b: u8) -> u32
+pub(crate) fn wide(b: u8) -> u32
     ensures { λ r. ⌜ r ≡ b ⌝ ∗ ⌜ r < 256 ⌝ }
 {
     b as u32
@@ -25,7 +25,7 @@ fn put(memory: &mut [u8], at: usize, b: u8) {
 }
 
 // Copies bytes of the memory; the places do not overlap.
-pub fn copy(memory: &mut [u8], from: u32, to: u32, count: u32) {
+pub(crate) fn copy(memory: &mut [u8], from: u32, to: u32, count: u32) {
     let mut i: u32 = 0;
     while i < count {
         let b = byte_at(memory, (from as usize) + (i as usize));
@@ -35,7 +35,7 @@ pub fn copy(memory: &mut [u8], from: u32, to: u32, count: u32) {
 }
 
 // Zeroes flash and locks.
-pub fn erase(memory: &mut [u8]) {
+pub(crate) fn erase(memory: &mut [u8]) {
     let mut i: u32 = 0;
     while i < LATCH {
         put(memory, i as usize, 0);
@@ -44,7 +44,7 @@ pub fn erase(memory: &mut [u8]) {
 }
 
 // All flash bytes together, and a first addend, modulo 2^32.
-pub fn flash_sum(memory: &[u8], first: u32) -> u32 {
+pub(crate) fn flash_sum(memory: &[u8], first: u32) -> u32 {
     let mut sum = first;
     let mut i: u32 = 0;
     while i < LOCKS {
@@ -54,7 +54,7 @@ pub fn flash_sum(memory: &[u8], first: u32) -> u32 {
     sum
 }
 
-pub fn put_word(memory: &mut [u8], at: u32, w: u32) {
+pub(crate) fn put_word(memory: &mut [u8], at: u32, w: u32) {
     let first = at as usize;
     put(memory, first, (w % 256) as u8);
     put(memory, first + 1, (w / 256 % 256) as u8);
