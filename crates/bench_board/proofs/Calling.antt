@@ -1,0 +1,140 @@
+-- What calls do, over plain variables. Assumes nothing.
+use mathlib.Core.Bool.{Bool, true, false, _&&_, _||_, cond}
+use mathlib.Core.List.{List}
+use mathlib.Core.Path.{_≡_, refl, sym, ap, _∙_}
+use Prim.Native.Nat.{ℕ, _+_, _*_, _/_, _%_, _<_}
+use native.Mathlib.Omega.{arith}
+use borrow.Author.Tests.{eq-eqb, ne-eqb}
+use lib.Dec.{eqb}
+use lib.ListN.{getD, take, drop}
+use Rattle.bench_board.specs.Meets.{ended, Makes, MakesOf, Effects, Fails, Succeeds, Protects, Answers, Resets, Alters}
+use Rattle.bench_board.specs.Board.{Buffers, Left, residueOf, runningOf, siliconOf, memoryOf, targetOf}
+use Rattle.bench_board.specs.Acts.{after}
+use Rattle.bench_board.specs.declared.Act.{Act}
+use Rattle.bench_board.specs.declared.Running.{Running}
+use Rattle.bench_board.specs.declared.Running.the-variants.{Idle, Busy}
+use Rattle.bench_board.specs.declared.Act.the-variants.{Keep, Leave, Erase, FillLatch, ProgramRow, WriteLocks}
+use Rattle.bench_board.specs.declared.CallOutcome.{CallOutcome}
+use Rattle.bench_board.specs.declared.Effect.{Effect}
+use Rattle.bench_board.specs.declared.Next.{Next}
+use Rattle.bench_board.specs.declared.Registers.{Registers}
+use Rattle.bench_board.specs.declared.Silicon.{Silicon}
+use Rattle.flow.specs.Calls.{dropped, reset, bytesIn, levelSent, macroSent, failedArg, listAt, effectOf, sysargAfter, sysreqAfter, leftBy, finish}
+use Rattle.flow.specs.Target.{Memory, Target, idle, setReset}
+use Rattle.image.specs.Words.{total}
+use Rattle.parts.specs.Sizes.{rowBytes, rowsPerMacro, locksIn}
+use Rattle.parts.specs.declared.Geometry.{Geometry}
+
+pub low-four : (n : ℕ) → n < 16 → n % 16 ≡ n
+low-four n h = omega arith
+
+abbrev quiet : ℕ → Bool
+quiet c = eqb c 0 || eqb c 0x0B || eqb c 0x15
+
+-- a failed call
+module _ (r : Registers) (o : CallOutcome) (c arg : ℕ) (a : arg ≡ failedArg (o .sysarg)) where
+  pub failed-quiet : quiet c ≡ true → Fails o c r (ended r (r .stored) arg 0 Keep)
+  unfolding finish leftBy
+  failed-quiet q g x b = rw (q, a)
+
+  pub failed-left : quiet c ≡ false → (l : ℕ) → l ≡ cond (o .«new_level» && eqb c 0x0D && eqb (macroSent (r .sysarg)) 0) (levelSent (r .sysarg)) (r .stored % 16)
+      → l < 16 → Fails o c r (ended r l arg 0 Leave)
+  unfolding finish leftBy
+  failed-left q l e h g x b = rw (q, a, low-four l h, e)
+
+-- call 0x0D
+module _ (g : Geometry) (r : Registers) where
+  pub reopened : (eqb (r .effect) 2 && eqb (levelSent (r .sysarg)) 1) ≡ true → Protects g r (record { act = Erase; stored = 1 })
+  unfolding effectOf
+  reopened t ps x b e = (rw t, refl)
+
+  pub protected : (eqb (r .effect) 2 && eqb (levelSent (r .sysarg)) 1) ≡ false → (s : ℕ)
+      → s ≡ cond (eqb (macroSent (r .sysarg)) 0) (levelSent (r .sysarg)) (r .stored % 16)
+      → Protects g r (record { act = WriteLocks (macroSent (r .sysarg) * (rowsPerMacro g / 8)) (rowsPerMacro g / 8); stored = s })
+  unfolding effectOf locksIn
+  protected t s e ps x b f = (rw (t, e, low (eqb (macroSent (r .sysarg)) 0)), refl)
+    where
+      low : (z : Bool) → cond z (levelSent (r .sysarg)) (r .stored % 16) % 16 ≡ cond z (levelSent (r .sysarg)) (r .stored % 16)
+      low true = omega arith
+      low false = omega arith
+
+-- a successful call's effect, by its number
+module _ (g : Geometry) (r : Registers) (ps : List ℕ) (c : ℕ) where
+  pub erasing : c ≡ 0x0A → Effects g r ps c (record { act = Erase; stored = r .stored })
+  unfolding effectOf
+  erasing e x b p = (rw e, refl)
+
+  pub filling : c ≡ 4 → (n : ℕ)
+      → take n (bytesIn (drop 2 ps)) ≡ take (getD (listAt (r .sysarg) ps) 1 0 + 1) (bytesIn (drop 2 (listAt (r .sysarg) ps)))
+      → Effects g r ps c (record { act = FillLatch n; stored = r .stored })
+  unfolding effectOf
+  filling e n f x b p = (rw (e, p, f), refl)
+
+  pub programming : c ≡ 6 → (w : ℕ) → w ≡ getD (listAt (r .sysarg) ps) 0 0
+      → Effects g r ps c (record { act = ProgramRow (w / 65536 * rowBytes g); stored = r .stored })
+  unfolding effectOf
+  programming e w f x b p = (rw (e, p, f), refl)
+
+  pub protecting : c ≡ 0x0D → (t : Effect) → Protects g r t → Effects g r ps c t
+  protecting e t f x b p = rw e (f ps x b p)
+
+  pub idling : ¬ (c ≡ 0x0A) → ¬ (c ≡ 4) → ¬ (c ≡ 6) → ¬ (c ≡ 0x0D) → Effects g r ps c (record { act = Keep; stored = r .stored })
+  unfolding effectOf
+  idling n1 n2 n3 n4 x b p = (rw (ne-eqb _ _ n1, ne-eqb _ _ n2, ne-eqb _ _ n3, ne-eqb _ _ n4), refl)
+
+-- SYSARG after a success
+module _ (c : ℕ) (s : Silicon) (fs : List ℕ) where
+  pub ids-told : c ≡ 0 → Answers c s fs (0xA0000000 + s .revision * 65536 + s .high * 256 + s .low)
+  unfolding sysargAfter
+  ids-told e m f = rw e
+
+  pub sum-told : c ≡ 0x0B → (t : ℕ) → t ≡ total fs % 268435456
+      → Answers c s fs (0xA0000000 + (s .«privileged_sum» % 268435456 + t) % 268435456)
+  unfolding sysargAfter
+  sum-told e t g m f = rw (e, g, f) (ap (λ (n : ℕ). 0xA0000000 + n) (omega arith))
+
+  pub mark-told : ¬ (c ≡ 0) → ¬ (c ≡ 0x0B) → Answers c s fs 0xA0000000
+  unfolding sysargAfter
+  mark-told n m x f = rw (ne-eqb _ _ n, ne-eqb _ _ m)
+
+-- a successful call: the target with this memory, these PARAMS, SYSARG and SYSREQ
+abbrev endedWith : Registers → Memory → List ℕ → (sysarg sysreq : ℕ) → Target
+endedWith r m ps a q = record {
+  silicon = siliconOf (r .silicon);
+  memory = m;
+  effect = r .effect;
+  params = ps;
+  sysarg = a;
+  sysreq = q;
+  testMode = r .«test_mode»;
+  tar = r .tar;
+  posted = r .posted;
+  running = idle;
+}
+
+pub succeeding : (g : Geometry) (r : Registers) (fs ps : List ℕ) (c arg req : ℕ) (e : Effect) → Effects g r ps c e → Answers c (r .silicon) fs arg
+    → req ≡ sysreqAfter c (siliconOf (r .silicon)) (r .effect)
+    → Succeeds g fs ps c r (ended r (e .stored) arg req (e .act))
+unfolding finish
+succeeding g r fs ps c arg req e f a q o x b h k =
+    let w = f x b k in
+    ap (λ (m : Memory). endedWith r m ((after x (e .act) b) .params) arg req) (w .0)
+    ∙ ap (λ (l : List ℕ). endedWith r (effectOf g c (r .effect) (r .sysarg) (listAt (r .sysarg) (b .params)) (memoryOf b (r .stored % 16))) l arg req) (w .1)
+    ∙ rw (a (memoryOf b (r .stored % 16)) h, q)
+
+-- XRES
+abbrev droppedFor : Geometry → Left → Registers → Buffers → Running → Target
+droppedFor g x r b k = setReset (dropped g (runningOf x k) (targetOf x r b))
+
+pub reset-idle : (r : Registers) (m : Next) → r .running ≡ Idle → Alters (record { registers = r; act = Keep }) m setReset → Resets r m
+unfolding reset
+reset-idle r m e a g x b =
+    ap (λ (t : Act). targetOf x (m .registers) (after x t b)) (a .0) ∙ a .1 x b ∙ ap (λ (k : Running). droppedFor g x r b k) (sym e)
+
+pub reset-busy : (r : Registers) (o : CallOutcome) (c : ℕ) (n m : Next) → r .running ≡ Busy o c → Fails o c r n → Alters n m setReset → Resets r m
+unfolding reset
+reset-busy r o c n m e f a g x b =
+    ap (λ (t : Act). targetOf x (m .registers) (after x t b)) (a .0)
+    ∙ a .1 x (after x (n .act) b)
+    ∙ ap setReset (f g x b)
+    ∙ ap (λ (k : Running). droppedFor g x r b k) (sym e)

@@ -1,0 +1,5 @@
+pub mod Laying
+pub mod Acting
+pub mod Mapping
+pub mod Lining
+pub mod Calling

@@ -1,0 +1,19 @@
+use mathlib.Core.Path.{_≡_, refl, sym, ap, _∙_}
+use Rattle.bench_board.proofs.Calling.{reset-idle, reset-busy}
+use borrow.Author.Tests.{eq-eqb, ne-eqb}
+use borrow.Author.Needs.{needs}
+use Rattle.bench_board.proofs.calls.xres.Statement.{statement}
+use Rattle.bench_board.proofs.calls.xres.Tie as tie
+
+pub xres-spec : {M : Type 1} → statement M
+xres-spec =
+    tie.close
+    (tie.spec
+    (λ c. search needs)
+    (λ c κs. search needs)
+    (λ c. search needs)
+    (λ c κs. search needs)
+    (λ c κs. search needs)
+    (λ c. reset-idle (c .before .before .before .args .r) (c .cleared .result) (c .before .enum-told .given .1) (c .cleared .ensures))
+    (λ c. let k = c .before .before .before in
+    reset-busy (k .before .before .args .r) _ _ (c .before .fail .result) (c .cleared2 .result) (k .running .given .1) (c .before .fail .ensures) (c .cleared2 .ensures)))

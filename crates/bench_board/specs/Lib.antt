@@ -1,0 +1,3 @@
+pub mod Board
+pub mod Acts
+pub mod Meets

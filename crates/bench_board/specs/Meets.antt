@@ -1,0 +1,134 @@
+-- What each function promises, in the words of flow's definitions. Assumes nothing.
+use mathlib.Core.Bool.{true, false, cond}
+use mathlib.Core.List.{List, [], _∷_}
+use mathlib.Core.Path.{_≡_}
+use Prim.Native.Nat.{ℕ, _%_}
+use Rattle.bench_board.specs.Acts.{after}
+use Rattle.bench_board.specs.Board.{Buffers, Left, residueOf, siliconOf, outcomeOf, eventOf, memoryOf, targetOf}
+use Rattle.bench_board.specs.declared.Act.{Act}
+use Rattle.bench_board.specs.declared.CallOutcome.{CallOutcome}
+use Rattle.bench_board.specs.declared.Decision.{Decision}
+use Rattle.bench_board.specs.declared.Effect.{Effect}
+use Rattle.bench_board.specs.declared.LineEvent.{LineEvent}
+use Rattle.bench_board.specs.declared.Met.{Met}
+use Rattle.bench_board.specs.declared.Decoded.{Decoded}
+use Rattle.bench_board.specs.declared.Decoded.the-variants.{Known, Unknown}
+use Rattle.bench_board.specs.declared.Next.{Next}
+use Rattle.bench_board.specs.declared.Registers.{Registers}
+use Rattle.bench_board.specs.declared.Silicon.{Silicon}
+use Rattle.bench_board.specs.declared.Running.the-variants.{Idle}
+use Rattle.bench_board.specs.declared.Spot.{Spot}
+use Rattle.bench_board.specs.declared.Spot.the-variants.{InFlash, InLocks, InParams, AtLevel, AtSysreq, AtSysarg, AtTestMode, Elsewhere}
+use Rattle.flow.specs.Calls.{effectOf, listAt, sysargAfter, finish, reset}
+use Rattle.flow.specs.Exchange as Flow
+use Rattle.flow.specs.Exchange.{known, unknown}
+use Rattle.flow.specs.Map.{Place, inFlash, inLocks, inParams, atLevel, atSysreq, atSysarg, atTestMode, elsewhere}
+use Rattle.flow.specs.Target.{Lists, Memory, Target}
+use Rattle.flow.specs.declared.Answer.{Answer}
+use Rattle.parts.specs.declared.Geometry.{Geometry}
+
+-- flow's case for each of the code's
+abbrev pub decodedOf : Decoded → Flow.Decoded
+decodedOf (Known q) = known q
+decodedOf Unknown = unknown
+
+abbrev pub placeOf : Spot → Place
+placeOf (InFlash a) = inFlash a
+placeOf (InLocks a) = inLocks a
+placeOf (InParams k) = inParams k
+placeOf AtLevel = atLevel
+placeOf AtSysreq = atSysreq
+placeOf AtSysarg = atSysarg
+placeOf AtTestMode = atTestMode
+placeOf Elsewhere = elsewhere
+
+-- the registers at a call's end
+abbrev pub ended : Registers → (stored sysarg sysreq : ℕ) → Act → Next
+ended r l a q t = record {
+  registers = record {
+    silicon = r .silicon;
+    stored = l;
+    effect = r .effect;
+    sysarg = a;
+    sysreq = q;
+    «test_mode» = r .«test_mode»;
+    tar = r .tar;
+    posted = r .posted;
+    running = Idle;
+  };
+  act = t;
+}
+
+-- registers and memory after are the target that f makes of the one before, whatever is lent
+abbrev pub Makes : Registers → Next → (Left → Target → Target) → Type 0
+Makes r n f = (x : Left) (b : Buffers) → targetOf x (n .registers) (after x (n .act) b) ≡ f x (targetOf x r b)
+
+-- the same, if flash and PARAMS are these
+abbrev pub MakesOf : (flash params : List ℕ) → Registers → Next → (Left → Target → Target) → Type 0
+MakesOf fs ps r n f =
+    (x : Left) (b : Buffers) → b .flash ≡ fs → b .params ≡ ps → targetOf x (n .registers) (after x (n .act) b) ≡ f x (targetOf x r b)
+
+-- the same, if flash, locks and PARAMS are these
+abbrev pub MakesIn : (flash locks params : List ℕ) → Registers → Next → (Left → Target → Target) → Type 0
+MakesIn fs ks ps r n f =
+    (x : Left) (b : Buffers) → b .flash ≡ fs → b .locks ≡ ks → b .params ≡ ps
+    → targetOf x (n .registers) (after x (n .act) b) ≡ f x (targetOf x r b)
+
+-- a successful call's effect on the memory; PARAMS stay
+abbrev pub Effects : Geometry → Registers → (params : List ℕ) → (c : ℕ) → Effect → Type 0
+Effects g r ps c e =
+    (x : Left) (b : Buffers) → b .params ≡ ps
+    → (memoryOf (after x (e .act) b) (e .stored % 16) ≡ effectOf g c (r .effect) (r .sysarg) (listAt (r .sysarg) (b .params)) (memoryOf b (r .stored % 16)))
+    × ((after x (e .act) b) .params ≡ b .params)
+
+-- a call that fails, or succeeds
+abbrev pub Fails : CallOutcome → (c : ℕ) → Registers → Next → Type 0
+Fails o c r n = (g : Geometry) → Makes r n (λ x t. finish g false (residueOf x o) c t)
+
+abbrev pub Succeeds : Geometry → (flash params : List ℕ) → (c : ℕ) → Registers → Next → Type 0
+Succeeds g fs ps c r n = (o : CallOutcome) → MakesOf fs ps r n (λ x t. finish g true (residueOf x o) c t)
+
+abbrev pub Protects : Geometry → Registers → Effect → Type 0
+Protects g r e = (params : List ℕ) → Effects g r params 0x0D e
+
+-- the word in SYSARG after a successful call, by the flash
+abbrev pub Answers : (c : ℕ) → Silicon → (flash : List ℕ) → (word : ℕ) → Type 0
+Answers c s fs w = (m : Memory) → m .flash ≡ fs → w ≡ sysargAfter c (siliconOf s) m
+
+-- XRES
+abbrev pub Resets : Registers → Next → Type 0
+Resets r n = (g : Geometry) → Makes r n (λ x t. reset g t)
+
+-- the registers alone alter, as f alters the target
+abbrev pub Alters : Next → Next → (Target → Target) → Type 0
+Alters n m f = (m .act ≡ n .act) × ((x : Left) (b : Buffers) → targetOf x (m .registers) b ≡ f (targetOf x (n .registers) b))
+
+-- the lists of one event and one outcome, and what is left of them
+abbrev pub listsOf : Left → LineEvent → CallOutcome → Lists
+listsOf x e o = record { line = eventOf e ∷ []; calls = outcomeOf x o ∷ [] }
+
+-- what a decision comes to
+abbrev pub metBy : Left → LineEvent → CallOutcome → Decision → Buffers → Flow.Met
+metBy x e o d b = record {
+  target = targetOf x (d .next .registers) (after x (d .next .act) b);
+  answer = d .answer;
+  lists = record {
+    line = cond (d .«line_used») [] (eventOf e ∷ []);
+    calls = cond (d .«call_used») [] (outcomeOf x o ∷ []);
+  };
+}
+
+abbrev pub Decides : (flash locks params : List ℕ) → Registers → LineEvent → CallOutcome → Decision → (Lists → Target → Flow.Met) → Type 0
+Decides fs ks ps r e o d f =
+    (x : Left) (b : Buffers) → b .flash ≡ fs → b .locks ≡ ks → b .params ≡ ps → metBy x e o d b ≡ f (listsOf x e o) (targetOf x r b)
+
+-- what a call of `meet` gave, with the buffers as it left them
+abbrev pub metOf : Left → LineEvent → CallOutcome → Met → Buffers → Flow.Met
+metOf x e o m b = record {
+  target = targetOf x (m .registers) b;
+  answer = m .answer;
+  lists = record {
+    line = cond (m .«line_used») [] (eventOf e ∷ []);
+    calls = cond (m .«call_used») [] (outcomeOf x o ∷ []);
+  };
+}

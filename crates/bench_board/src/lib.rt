@@ -1,0 +1,128 @@
+// The plain board of document 01 as code: registers by value, memory lent, one call for each request.
+ghost use mathlib.Core.Path.{_≡_};
+
+mod calls;
+mod lines;
+mod map;
+mod memory;
+
+use flow::Answer;
+use flow::Packet;
+use flow::Reply;
+use flow::Request;
+use parts::Geometry;
+
+// What nothing alters: the IDs, and S.
+pub struct Silicon {
+    pub idcode: u32,
+    pub high: u8,
+    pub low: u8,
+    pub revision: u8,
+    pub family: u8,
+    pub privileged_sum: u32,
+}
+
+// How a call will go: the reads of SYSREQ that post it busy, then success or failure; what a failure leaves in SYSARG, and
+// whether a failed 0x0D stores the level sent.
+pub struct CallOutcome {
+    pub busy_reads: u32,
+    pub succeeds: bool,
+    pub sysarg: u32,
+    pub new_level: bool,
+}
+
+// A call under way, with its number.
+pub enum Running {
+    Idle,
+    Busy(CallOutcome, u8),
+}
+
+// What becomes of a transfer; a silence may hide one that was carried out.
+pub enum Fate {
+    Clean,
+    Waits,
+    Faults,
+    Garbles,
+    Silent(bool),
+}
+
+// A transfer's fate, with what is free in its answer, and the word that is elsewhere.
+pub struct LineEvent {
+    pub fate: Fate,
+    pub junk: Reply,
+    pub other: u32,
+}
+
+pub struct Registers {
+    pub silicon: Silicon,
+    pub stored: u8,
+    pub effect: u8,
+    pub sysarg: u32,
+    pub sysreq: u32,
+    pub test_mode: u32,
+    pub tar: u32,
+    pub posted: u32,
+    pub running: Running,
+}
+
+// What a request does to the lent memory.
+enum Act {
+    Keep,
+    // A word of PARAMS.
+    PutWord(usize, u32),
+    // What a failed call leaves.
+    Leave,
+    Erase,
+    // So many bytes of the list, from the latch's byte 0 on.
+    FillLatch(usize),
+    // The latch, from this byte of the flash on.
+    ProgramRow(usize),
+    // So many bytes of the latch, from this byte of the locks on.
+    WriteLocks(usize, usize),
+}
+
+// The registers after a request, and what it does to the memory.
+struct Next {
+    registers: Registers,
+    act: Act,
+}
+
+// What a successful call does to the memory, and the level stored after it.
+struct Effect {
+    act: Act,
+    stored: u8,
+}
+
+// A packet that the board knows, or none.
+enum Decoded {
+    Known(Request),
+    Unknown,
+}
+
+// What is at an address, with the offset there.
+enum Spot {
+    InFlash(usize),
+    InLocks(usize),
+    InParams(usize),
+    AtLevel,
+    AtSysreq,
+    AtSysarg,
+    AtTestMode,
+    Elsewhere,
+}
+
+// How a packet is met, before the memory is written.
+struct Decision {
+    next: Next,
+    answer: Answer,
+    line_used: bool,
+    call_used: bool,
+}
+
+// How a packet was met: the registers after it, the answer, and whether the event and the outcome were used.
+pub struct Met {
+    pub registers: Registers,
+    pub answer: Answer,
+    pub line_used: bool,
+    pub call_used: bool,
+}
