@@ -3,3 +3,4 @@ pub mod Acting
 pub mod Mapping
 pub mod Lining
 pub mod Calling
+pub mod Wording

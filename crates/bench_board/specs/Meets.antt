@@ -6,6 +6,7 @@ use Prim.Native.Nat.{ℕ, _%_}
 use Rattle.bench_board.specs.Acts.{after}
 use Rattle.bench_board.specs.Board.{Buffers, Left, residueOf, siliconOf, outcomeOf, eventOf, memoryOf, targetOf}
 use Rattle.bench_board.specs.declared.Act.{Act}
+use Rattle.bench_board.specs.declared.Act.the-variants.{Keep}
 use Rattle.bench_board.specs.declared.CallOutcome.{CallOutcome}
 use Rattle.bench_board.specs.declared.Decision.{Decision}
 use Rattle.bench_board.specs.declared.Effect.{Effect}
@@ -16,6 +17,7 @@ use Rattle.bench_board.specs.declared.Decoded.the-variants.{Known, Unkno
 use Rattle.bench_board.specs.declared.Next.{Next}
 use Rattle.bench_board.specs.declared.Registers.{Registers}
 use Rattle.bench_board.specs.declared.Silicon.{Silicon}
+use Rattle.bench_board.specs.declared.Running.{Running}
 use Rattle.bench_board.specs.declared.Running.the-variants.{Idle}
 use Rattle.bench_board.specs.declared.Spot.{Spot}
 use Rattle.bench_board.specs.declared.Spot.the-variants.{InFlash, InLocks, InParams, AtLevel, AtSysreq, AtSysarg, AtTestMode, Elsewhere}
@@ -102,6 +104,24 @@ Resets r n = (g : Geometry) → Makes r n (λ x t. reset g t)
 -- the registers alone alter, as f alters the target
 abbrev pub Alters : Next → Next → (Target → Target) → Type 0
 Alters n m f = (m .act ≡ n .act) × ((x : Left) (b : Buffers) → targetOf x (m .registers) b ≡ f (targetOf x (n .registers) b))
+
+-- the memory is left as it is
+abbrev pub keeping : Registers → Next
+keeping r = record { registers = r; act = Keep }
+
+-- the registers with another SYSREQ and this under way
+abbrev pub asking : (sysreq : ℕ) → (posted : ℕ) → Running → Registers → Registers
+asking w p k r = record {
+  silicon = r .silicon;
+  stored = r .stored;
+  effect = r .effect;
+  sysarg = r .sysarg;
+  sysreq = w;
+  «test_mode» = r .«test_mode»;
+  tar = r .tar;
+  posted = p;
+  running = k;
+}
 
 -- the lists of one event and one outcome, and what is left of them
 abbrev pub listsOf : Left → LineEvent → CallOutcome → Lists

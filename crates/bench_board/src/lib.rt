@@ -5,6 +5,7 @@ mod calls;
 mod lines;
 mod map;
 mod memory;
+mod words;
 
 use flow::Answer;
 use flow::Packet;

@@ -1,0 +1,121 @@
+-- What a DRW read posts and a DRW write alters, over plain variables. Assumes nothing.
+use mathlib.Core.Bool.{Bool, true, false, cond}
+use mathlib.Core.List.{List, [], _∷_}
+use mathlib.Core.Path.{_≡_, refl, sym, ap, _∙_}
+use Prim.Native.Nat.{ℕ, zero, suc, _+_, _*_, _-_, _/_, _%_, _≤_, _<_}
+use native.Mathlib.Omega.{arith}
+use borrow.Author.Tests.{le-leb, lt-leb, eq-eqb, ne-eqb}
+use lib.Dec.{eqb}
+use lib.ListN.{getD}
+use Rattle.bench_board.specs.Acts.{after}
+use Rattle.bench_board.specs.Board.{Buffers, Left, residueOf, outcomeOf, runningOf, targetOf}
+use Rattle.bench_board.specs.Meets.{placeOf, keeping, asking, Makes, MakesOf, MakesIn, Alters}
+use Rattle.bench_board.specs.declared.Act.{Act}
+use Rattle.bench_board.specs.declared.Act.the-variants.{PutWord}
+use Rattle.bench_board.specs.declared.CallOutcome.{CallOutcome}
+use Rattle.bench_board.specs.declared.Next.{Next}
+use Rattle.bench_board.specs.declared.Registers.{Registers}
+use Rattle.bench_board.specs.declared.Running.{Running}
+use Rattle.bench_board.specs.declared.Running.the-variants.{Idle, Busy}
+use Rattle.bench_board.specs.declared.Spot.{Spot}
+use Rattle.bench_board.specs.declared.Spot.the-variants.{InFlash, InLocks, InParams, AtLevel, AtSysreq, AtSysarg, AtTestMode, Elsewhere}
+use Rattle.flow.specs.Calls.{finish}
+use Rattle.flow.specs.Exchange.{levelWord, tick, fetch, isCall, begin, store}
+use Rattle.flow.specs.Target.{Target, busy, setPosted, setSysarg, setTestMode}
+use Rattle.image.specs.Words.{wordAt}
+use Rattle.parts.specs.declared.Geometry.{Geometry}
+
+-- an outcome with n busy reads left
+abbrev leftOf : ℕ → CallOutcome → CallOutcome
+leftOf n o = record { «busy_reads» = n; succeeds = o .succeeds; sysarg = o .sysarg; «new_level» = o .«new_level» }
+
+-- a read of SYSREQ with a call under way
+module _ (g : Geometry) (fs ps : List ℕ) (r : Registers) (other : ℕ) (o : CallOutcome) (c : ℕ) where
+  pub ended-there : (n m : Next) → o .«busy_reads» ≡ 0 → MakesOf fs ps r n (λ x t. finish g (o .succeeds) (residueOf x o) c t)
+      → Alters n m (λ t. setPosted (n .registers .sysreq) t) → MakesOf fs ps r m (λ x t. tick g other (runningOf x (Busy o c)) t)
+  ended-there n m e f a x b hf hp =
+      ap (λ (t : Act). targetOf x (m .registers) (after x t b)) (a .0)
+      ∙ a .1 x (after x (n .act) b)
+      ∙ ap (λ (t : Target). setPosted (t .sysreq) t) (f x b hf hp)
+      ∙ sym (ap (λ (k : ℕ). tick g other (busy k (o .succeeds) (residueOf x o) c) (targetOf x r b)) e)
+
+  pub still-busy : ¬ (o .«busy_reads» ≡ 0)
+      → MakesOf fs ps r (keeping (asking (r .sysreq) (2147483648 + other % 2147483648) (Busy (leftOf (o .«busy_reads» - 1) o) c) r))
+        (λ x t. tick g other (runningOf x (Busy o c)) t)
+  still-busy n x b hf hp =
+      let e : o .«busy_reads» ≡ suc (o .«busy_reads» - 1) = omega arith in
+      sym (ap (λ (k : ℕ). tick g other (busy k (o .succeeds) (residueOf x o) c) (targetOf x r b)) e)
+
+module _ (g : Geometry) (fs ps : List ℕ) (r : Registers) (other : ℕ) (n : Next) where
+  pub tick-idle : r .running ≡ Idle → Makes r n (λ x t. setPosted (r .sysreq) t) → MakesOf fs ps r n (λ x t. tick g other (t .running) t)
+  tick-idle e m x b hf hp = m x b ∙ sym (ap (λ (k : Running). tick g other (runningOf x k) (targetOf x r b)) e)
+
+  pub tick-running : (o : CallOutcome) (c : ℕ) → r .running ≡ Busy o c → MakesOf fs ps r n (λ x t. tick g other (runningOf x (Busy o c)) t)
+      → MakesOf fs ps r n (λ x t. tick g other (t .running) t)
+  tick-running o c e m x b hf hp = m x b hf hp ∙ sym (ap (λ (k : Running). tick g other (runningOf x k) (targetOf x r b)) e)
+
+-- the word at TAR, posted
+module _ (g : Geometry) (fs ks ps : List ℕ) (r : Registers) (other : ℕ) (n : Next) (spot : Spot) where
+  abbrev Read : Type 0
+  Read = MakesIn fs ks ps r n (λ x t. fetch g other (placeOf spot) t)
+
+  pub read-flash : (a w : ℕ) → spot ≡ InFlash a → w ≡ wordAt fs a → Makes r n (λ x t. setPosted w t) → Read
+  read-flash a w e v m x b hf hk hp = m x b ∙ rw (e, v, hf)
+
+  pub read-locks : (a w : ℕ) → spot ≡ InLocks a → w ≡ wordAt ks a → Makes r n (λ x t. setPosted w t) → Read
+  read-locks a w e v m x b hf hk hp = m x b ∙ rw (e, v, hk)
+
+  pub read-params : (a w : ℕ) → spot ≡ InParams a → w ≡ getD ps a 0 → Makes r n (λ x t. setPosted w t) → Read
+  read-params a w e v m x b hf hk hp = m x b ∙ rw (e, v, hp)
+
+  pub read-level : (w : ℕ) → spot ≡ AtLevel → w ≡ levelWord (r .stored % 16) other → Makes r n (λ x t. setPosted w t) → Read
+  read-level w e v m x b hf hk hp = m x b ∙ rw (e, v)
+
+  pub read-sysreq : spot ≡ AtSysreq → MakesOf fs ps r n (λ x t. tick g other (t .running) t) → Read
+  read-sysreq e m x b hf hk hp = m x b hf hp ∙ rw e
+
+  pub read-sysarg : spot ≡ AtSysarg → Makes r n (λ x t. setPosted (r .sysarg) t) → Read
+  read-sysarg e m x b hf hk hp = m x b ∙ rw e
+
+  pub read-test-mode : spot ≡ AtTestMode → Makes r n (λ x t. setPosted (r .«test_mode») t) → Read
+  read-test-mode e m x b hf hk hp = m x b ∙ rw e
+
+  pub read-elsewhere : spot ≡ Elsewhere → Makes r n (λ x t. setPosted other t) → Read
+  read-elsewhere e m x b hf hk hp = m x b ∙ rw e
+
+-- a write of SYSREQ
+module _ (r : Registers) (w : ℕ) (o : CallOutcome) where
+  pub call-begun : 2147483648 ≤ w → Makes r (keeping (asking w (r .posted) (Busy o (w % 256)) r)) (λ x t. begin (isCall w) w (outcomeOf x o) t)
+  call-begun h x b = rw (le-leb 2147483648 w h)
+
+  pub sysreq-written : w < 2147483648 → Makes r (keeping (asking w (r .posted) (r .running) r)) (λ x t. begin (isCall w) w (outcomeOf x o) t)
+  sysreq-written h x b = rw (lt-leb 2147483648 w h)
+
+-- a word written at TAR
+module _ (r : Registers) (w : ℕ) (o : CallOutcome) (spot : Spot) where
+  abbrev Written : Next → Type 0
+  Written n = Makes r n (λ x t. store w (outcomeOf x o) (placeOf spot) t)
+
+  pub write-flash : (a : ℕ) → spot ≡ InFlash a → Written (keeping r)
+  write-flash a e x b = rw e
+
+  pub write-locks : (a : ℕ) → spot ≡ InLocks a → Written (keeping r)
+  write-locks a e x b = rw e
+
+  pub write-params : (k : ℕ) → spot ≡ InParams k → Written (record { registers = r; act = PutWord k w })
+  write-params k e x b = rw e
+
+  pub write-level : spot ≡ AtLevel → Written (keeping r)
+  write-level e x b = rw e
+
+  pub write-sysreq : (n : Next) → spot ≡ AtSysreq → Makes r n (λ x t. begin (isCall w) w (outcomeOf x o) t) → Written n
+  write-sysreq n e m x b = m x b ∙ rw e
+
+  pub write-sysarg : (n : Next) → spot ≡ AtSysarg → Makes r n (λ x t. setSysarg w t) → Written n
+  write-sysarg n e m x b = m x b ∙ rw e
+
+  pub write-test-mode : (n : Next) → spot ≡ AtTestMode → Makes r n (λ x t. setTestMode w t) → Written n
+  write-test-mode n e m x b = m x b ∙ rw e
+
+  pub write-elsewhere : spot ≡ Elsewhere → Written (keeping r)
+  write-elsewhere e x b = rw e

@@ -1,0 +1,79 @@
+use mathlib.Core.Path.{_≡_, refl, sym, ap, _∙_}
+use borrow.Author.Tests.{eq-eqb, ne-eqb}
+use borrow.Author.Needs.{needs}
+use Rattle.bench_board.proofs.Wording.{read-flash, read-locks, read-params, read-level, read-sysreq, read-sysarg, read-test-mode, read-elsewhere}
+use Rattle.bench_board.proofs.words.read_word.Statement.{statement}
+use Rattle.bench_board.proofs.words.read_word.Tie as tie
+
+returns : tie.Need-returns
+returns c =
+    let a = c .before .before .before .before .before .before .before .before .args in
+    read-flash (a .g) (a .flash .now) (a .locks .now) (a .params .now) (a .r) (a .other) (c .post .result) (a .spot) _ _ (c .before .before .before .spot .given .1) (c .before .word-at .ensures) (c .post .ensures)
+
+returns-2 : tie.Need-returns-2
+returns-2 c =
+    let a = c .before .before .before .before .before .before .before .before .args in
+    read-locks (a .g) (a .flash .now) (a .locks .now) (a .params .now) (a .r) (a .other) (c .post2 .result) (a .spot) _ _ (c .before .before .before .spot2 .given .1) (c .before .word-at2 .ensures) (c .post2 .ensures)
+
+returns-3 : tie.Need-returns-3
+returns-3 c =
+    let a = c .before .before .before .before .before .before .before .before .args in
+    read-params (a .g) (a .flash .now) (a .locks .now) (a .params .now) (a .r) (a .other) (c .post3 .result) (a .spot) _ _ (c .before .before .before .spot3 .given .1) (c .before .word-of .ensures) (c .post3 .ensures)
+
+returns-4 : tie.Need-returns-4
+returns-4 c =
+    let a = c .before .before .before .before .before .before .before .args in
+    read-level (a .g) (a .flash .now) (a .locks .now) (a .params .now) (a .r) (a .other) (c .post4 .result) (a .spot) _ (c .before .before .enum-told .given .1) (c .before .level-word .ensures) (c .post4 .ensures)
+
+returns-5 : tie.Need-returns-5
+returns-5 c =
+    let a = c .before .before .before .before .before .before .args in
+    read-sysreq (a .g) (a .flash .now) (a .locks .now) (a .params .now) (a .r) (a .other) (c .read-sysreq .result) (a .spot) (c .before .enum-told2 .given .1) (c .read-sysreq .ensures)
+
+returns-6 : tie.Need-returns-6
+returns-6 c =
+    let a = c .before .before .before .before .before .before .args in
+    read-sysarg (a .g) (a .flash .now) (a .locks .now) (a .params .now) (a .r) (a .other) (c .post5 .result) (a .spot) (c .before .enum-told3 .given .1) (c .post5 .ensures)
+
+returns-7 : tie.Need-returns-7
+returns-7 c =
+    let a = c .before .before .before .before .before .before .args in
+    read-test-mode (a .g) (a .flash .now) (a .locks .now) (a .params .now) (a .r) (a .other) (c .post6 .result) (a .spot) (c .before .enum-told4 .given .1) (c .post6 .ensures)
+
+returns-8 : tie.Need-returns-8
+returns-8 c =
+    let a = c .before .before .before .before .before .before .args in
+    read-elsewhere (a .g) (a .flash .now) (a .locks .now) (a .params .now) (a .r) (a .other) (c .post7 .result) (a .spot) (c .before .enum-told5 .given .1) (c .post7 .ensures)
+
+pub read-word-spec : {M : Type 1} → statement M
+read-word-spec =
+    tie.close
+    (tie.spec
+    (λ c. search needs)
+    (λ c κs. search needs)
+    (λ c κs. search needs)
+    (λ c. search needs)
+    (λ c κs. search needs)
+    (λ c κs. search needs)
+    (λ c. search needs)
+    (λ c κs. search needs)
+    (λ c κs. search needs)
+    (λ c. search needs)
+    (λ c κs. search needs)
+    (λ c κs. search needs)
+    (λ c. search needs)
+    (λ c κs. search needs)
+    (λ c. search needs)
+    (λ c κs. search needs)
+    (λ c. search needs)
+    (λ c κs. search needs)
+    (λ c. search needs)
+    (λ c κs. search needs)
+    returns
+    returns-2
+    returns-3
+    returns-4
+    returns-5
+    returns-6
+    returns-7
+    returns-8)

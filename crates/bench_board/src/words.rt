@@ -1,0 +1,172 @@
+// What a DRW read posts and a DRW write alters, by the word at TAR (document 01, 'The plain board').
+ghost use mathlib.Core.Path.{_≡_};
+ghost use mathlib.Core.Bool.{cond};
+ghost use Prim.Native.Nat.{_%_, _-_, _<_};
+ghost use lib.Dec.{eqb};
+ghost use Rattle.bench_board.specs.Board.{outcomeOf, runningOf};
+ghost use Rattle.bench_board.specs.Meets.{placeOf, keeping, asking, Makes, MakesOf, MakesIn, Alters};
+ghost use Rattle.flow.specs.Exchange.{levelWord, tick, fetch, isCall, begin, store};
+ghost use Rattle.flow.specs.Target.{setPosted, setSysarg, setTestMode};
+use crate::Act;
+use crate::CallOutcome;
+use crate::Next;
+use crate::Registers;
+use crate::Running;
+use crate::Spot;
+use crate::calls;
+use crate::memory;
+use parts::Geometry;
+
+// The memory is left as it is.
+pub(crate) fn keep(r: Registers) -> Next
+    ensures { λ n. ⌜ n ≡ keeping r ⌝ }
+{
+    Next { registers: r, act: Act::Keep }
+}
+
+// A word posted.
+fn post(r: Registers, w: u32) -> Next
+    ensures { λ n. ⌜ Makes r n (λ x t. setPosted w t) ⌝ }
+{
+    let mut s = r;
+    s.posted = w;
+    keep(s)
+}
+
+// What SYSREQ holds, posted.
+fn post_sysreq(n: Next) -> Next
+    ensures { λ m. ⌜ Alters n m (λ t. setPosted (n .registers .sysreq) t) ⌝ }
+{
+    let mut s = n.registers;
+    let act = n.act;
+    s.posted = s.sysreq;
+    Next { registers: s, act: act }
+}
+
+// The stored level with 0 and 1 exchanged.
+fn shown_level(stored: u8) -> u32
+    ensures { λ w. ⌜ w ≡ cond (eqb (stored % 16) 0) 1 (cond (eqb (stored % 16) 1) 0 (stored % 16)) ⌝ ∗ ⌜ w < 16 ⌝ }
+{
+    let level = stored % 16;
+    if level == 0 {
+        return 1;
+    }
+    if level == 1 {
+        return 0;
+    }
+    level as u32
+}
+
+// The stored level as step 8 reads it; the other bits are any.
+fn level_word(stored: u8, other: u32) -> u32
+    ensures { λ w. ⌜ w ≡ levelWord (stored % 16) other ⌝ }
+{
+    other / 268435456 * 268435456 + shown_level(stored) * 16777216 + other % 16777216
+}
+
+// Another SYSREQ, another posted word, and what is under way.
+fn ask(r: Registers, sysreq: u32, posted: u32, running: Running) -> Next
+    ensures { λ n. ⌜ n ≡ keeping (asking sysreq posted running r) ⌝ }
+{
+    let silicon = r.silicon;
+    keep(Registers {
+        silicon: silicon,
+        stored: r.stored,
+        effect: r.effect,
+        sysarg: r.sysarg,
+        sysreq: sysreq,
+        test_mode: r.test_mode,
+        tar: r.tar,
+        posted: posted,
+        running: running,
+    })
+}
+
+// An outcome with one busy read less.
+fn one_less(o: CallOutcome) -> CallOutcome
+    ensures { λ p. ⌜ p ≡ record { «busy_reads» = o .«busy_reads» - 1; succeeds = o .succeeds; sysarg = o .sysarg; «new_level» = o .«new_level» } ⌝ }
+{
+    let mut p = o;
+    p.busy_reads = if 0 < o.busy_reads { o.busy_reads - 1 } else { 0 };
+    p
+}
+
+// A read of SYSREQ while a call is under way: busy, or the call takes effect there.
+fn tick_busy(g: Geometry, r: Registers, flash: &[u8], params: &[u32], other: u32, o: CallOutcome, c: u8) -> Next
+    ensures { λ n. ⌜ MakesOf (now (flash .entry)) (now (params .entry)) r n (λ x t. tick g other (runningOf x (Running.Busy o c)) t) ⌝ }
+{
+    if o.busy_reads == 0 {
+        return post_sysreq(calls::complete(g, r, flash, params, o, c));
+    }
+    ask(r, r.sysreq, 2147483648 + other % 2147483648, Running::Busy(one_less(o), c))
+}
+
+// A read of SYSREQ.
+fn read_sysreq(g: Geometry, r: Registers, flash: &[u8], params: &[u32], other: u32) -> Next
+    ensures { λ n. ⌜ MakesOf (now (flash .entry)) (now (params .entry)) r n (λ x t. tick g other (t .running) t) ⌝ }
+{
+    let running = r.running;
+    match running {
+        Running::Idle => post(r, r.sysreq),
+        Running::Busy(o, c) => tick_busy(g, r, flash, params, other, o, c),
+    }
+}
+
+// A DRW read posts the word at TAR.
+pub(crate) fn read_word(g: Geometry, r: Registers, flash: &[u8], locks: &[u8], params: &[u32], other: u32, spot: Spot) -> Next
+    ensures { λ n. ⌜ MakesIn (now (flash .entry)) (now (locks .entry)) (now (params .entry)) r n (λ x t. fetch g other (placeOf spot) t) ⌝ }
+{
+    match spot {
+        Spot::InFlash(a) => post(r, image::word_at(flash, a)),
+        Spot::InLocks(a) => post(r, image::word_at(locks, a)),
+        Spot::InParams(k) => post(r, memory::word_of(params, k)),
+        Spot::AtLevel => post(r, level_word(r.stored, other)),
+        Spot::AtSysreq => read_sysreq(g, r, flash, params, other),
+        Spot::AtSysarg => post(r, r.sysarg),
+        Spot::AtTestMode => post(r, r.test_mode),
+        Spot::Elsewhere => post(r, other),
+    }
+}
+
+// A write of SYSREQ; bit 31 starts a call.
+fn write_sysreq(r: Registers, w: u32, o: CallOutcome) -> Next
+    ensures { λ n. ⌜ Makes r n (λ x t. begin (isCall w) w (outcomeOf x o) t) ⌝ }
+{
+    if 2147483648 <= w {
+        return ask(r, w, r.posted, Running::Busy(o, (w % 256) as u8));
+    }
+    let running = r.running;
+    ask(r, w, r.posted, running)
+}
+
+fn write_sysarg(r: Registers, w: u32) -> Next
+    ensures { λ n. ⌜ Makes r n (λ x t. setSysarg w t) ⌝ }
+{
+    let mut s = r;
+    s.sysarg = w;
+    keep(s)
+}
+
+fn write_test_mode(r: Registers, w: u32) -> Next
+    ensures { λ n. ⌜ Makes r n (λ x t. setTestMode w t) ⌝ }
+{
+    let mut s = r;
+    s.test_mode = w;
+    keep(s)
+}
+
+// A DRW write: registers and PARAMS take it, all else does not.
+pub(crate) fn write_word(r: Registers, w: u32, o: CallOutcome, spot: Spot) -> Next
+    ensures { λ n. ⌜ Makes r n (λ x t. store w (outcomeOf x o) (placeOf spot) t) ⌝ }
+{
+    match spot {
+        Spot::InFlash(_) => keep(r),
+        Spot::InLocks(_) => keep(r),
+        Spot::InParams(k) => Next { registers: r, act: Act::PutWord(k, w) },
+        Spot::AtLevel => keep(r),
+        Spot::AtSysreq => write_sysreq(r, w, o),
+        Spot::AtSysarg => write_sysarg(r, w),
+        Spot::AtTestMode => write_test_mode(r, w),
+        Spot::Elsewhere => keep(r),
+    }
+}
