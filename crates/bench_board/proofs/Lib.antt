@@ -4,3 +4,4 @@ pub mod Mapping
 pub mod Lining
 pub mod Calling
 pub mod Wording
+pub mod Meeting

@@ -41,7 +41,7 @@ module _ (g : Geometry) (fs ps : List ℕ) (r : Registers) (other : ℕ) (o : Ca
 
   pub still-busy : ¬ (o .«busy_reads» ≡ 0)
       → MakesOf fs ps r (keeping (asking (r .sysreq) (2147483648 + other % 2147483648) (Busy (leftOf (o .«busy_reads» - 1) o) c) r))
-        (λ x t. tick g other (runningOf x (Busy o c)) t)
+      (λ x t. tick g other (runningOf x (Busy o c)) t)
   still-busy n x b hf hp =
       let e : o .«busy_reads» ≡ suc (o .«busy_reads» - 1) = omega arith in
       sym (ap (λ (k : ℕ). tick g other (busy k (o .succeeds) (residueOf x o) c) (targetOf x r b)) e)

@@ -1,10 +1,10 @@
 -- What each function promises, in the words of flow's definitions. Assumes nothing.
-use mathlib.Core.Bool.{true, false, cond}
+use mathlib.Core.Bool.{Bool, true, false, cond}
 use mathlib.Core.List.{List, [], _∷_}
 use mathlib.Core.Path.{_≡_}
 use Prim.Native.Nat.{ℕ, _%_}
 use Rattle.bench_board.specs.Acts.{after}
-use Rattle.bench_board.specs.Board.{Buffers, Left, residueOf, siliconOf, outcomeOf, eventOf, memoryOf, targetOf}
+use Rattle.bench_board.specs.Board.{Buffers, Left, residueOf, siliconOf, outcomeOf, fateOf, eventOf, memoryOf, targetOf}
 use Rattle.bench_board.specs.declared.Act.{Act}
 use Rattle.bench_board.specs.declared.Act.the-variants.{Keep}
 use Rattle.bench_board.specs.declared.CallOutcome.{CallOutcome}
@@ -23,10 +23,12 @@ use Rattle.bench_board.specs.declared.Spot.{Spot}
 use Rattle.bench_board.specs.declared.Spot.the-variants.{InFlash, InLocks, InParams, AtLevel, AtSysreq, AtSysarg, AtTestMode, Elsewhere}
 use Rattle.flow.specs.Calls.{effectOf, listAt, sysargAfter, finish, reset}
 use Rattle.flow.specs.Exchange as Flow
-use Rattle.flow.specs.Exchange.{known, unknown}
-use Rattle.flow.specs.Map.{Place, inFlash, inLocks, inParams, atLevel, atSysreq, atSysarg, atTestMode, elsewhere}
+use Rattle.flow.specs.Exchange.{known, unknown, carry, gives, callsOn, dead, silence, replyTo}
+use Rattle.flow.specs.Map.{Place, inFlash, inLocks, inParams, atLevel, atSysreq, atSysarg, atTestMode, elsewhere, place}
+use Rattle.flow.specs.Packets.{isRead}
 use Rattle.flow.specs.Target.{Lists, Memory, Target}
-use Rattle.flow.specs.declared.Answer.{Answer}
+use Rattle.flow.specs.declared.Reply.{Reply}
+use Rattle.flow.specs.declared.Request.{Request}
 use Rattle.parts.specs.declared.Geometry.{Geometry}
 
 -- flow's case for each of the code's
@@ -141,6 +143,24 @@ metBy x e o d b = record {
 abbrev pub Decides : (flash locks params : List ℕ) → Registers → LineEvent → CallOutcome → Decision → (Lists → Target → Flow.Met) → Type 0
 Decides fs ks ps r e o d f =
     (x : Left) (b : Buffers) → b .flash ≡ fs → b .locks ≡ ks → b .params ≡ ps → metBy x e o d b ≡ f (listsOf x e o) (targetOf x r b)
+
+-- a request carried out where TAR points
+abbrev pub Carries : Geometry → (flash locks params : List ℕ) → Request → (other : ℕ) → CallOutcome → Spot → Registers → Next → Type 0
+Carries g fs ks ps q w o p r n = placeOf p ≡ place g (r .tar) → MakesIn fs ks ps r n (λ x t. carry g q w (outcomeOf x o) t)
+
+-- the word that a read gives
+abbrev pub Gives : Request → Registers → (word : ℕ) → Type 0
+Gives q r w = (x : Left) (b : Buffers) → w ≡ gives q (targetOf x r b)
+
+-- whether a call takes its entry
+abbrev pub Calls : Request → Spot → Bool → Type 0
+Calls q p s = (g : Geometry) (t : Target) → placeOf p ≡ place g (t .tar) → s ≡ callsOn g q t
+
+-- the answer to a transfer, barred or not
+abbrev pub Replies : Request → LineEvent → (bars : Bool) → Registers → Reply → Type 0
+Replies q e bars r a =
+    (x : Left) (b : Buffers)
+    → a ≡ cond (dead (targetOf x r b)) (silence (e .junk)) (replyTo (fateOf (e .fate)) bars (isRead q) (gives q (targetOf x r b)) (e .junk))
 
 -- what a call of `meet` gave, with the buffers as it left them
 abbrev pub metOf : Left → LineEvent → CallOutcome → Met → Buffers → Flow.Met

@@ -153,9 +153,15 @@ fn protect(g: Geometry, r: Registers) -> Effect
     let p = g.part;
     let n = (p.rows_per_macro / 8) as usize;
     if reopens(r.effect, l) {
-        return Effect { act: Act::Erase, stored: 1 };
+        return Effect {
+            act: Act::Erase,
+            stored: 1,
+        };
     }
-    Effect { act: Act::WriteLocks((m as usize) * n, n), stored: level_after(m, l, r.stored % 16) }
+    Effect {
+        act: Act::WriteLocks((m as usize) * n, n),
+        stored: level_after(m, l, r.stored % 16),
+    }
 }
 
 // What a successful call does to the memory.
@@ -164,19 +170,31 @@ fn effect_of(g: Geometry, r: Registers, params: &[u32], c: u8) -> Effect
 {
     let p = g.part;
     if c == 0x0A {
-        return Effect { act: Act::Erase, stored: r.stored };
+        return Effect {
+            act: Act::Erase,
+            stored: r.stored,
+        };
     }
     if c == 4 {
-        return Effect { act: Act::FillLatch(latch_count(r.sysarg, params)), stored: r.stored };
+        return Effect {
+            act: Act::FillLatch(latch_count(r.sysarg, params)),
+            stored: r.stored,
+        };
     }
     if c == 6 {
         let row = (list_word(r.sysarg, params, 0) / 65536) as usize;
-        return Effect { act: Act::ProgramRow(row * (p.row_bytes as usize)), stored: r.stored };
+        return Effect {
+            act: Act::ProgramRow(row * (p.row_bytes as usize)),
+            stored: r.stored,
+        };
     }
     if c == 0x0D {
         return protect(g, r);
     }
-    Effect { act: Act::Keep, stored: r.stored }
+    Effect {
+        act: Act::Keep,
+        stored: r.stored,
+    }
 }
 
 // The IDs as step 2 reads them in SYSARG.
@@ -221,7 +239,14 @@ fn succeed(g: Geometry, r: Registers, flash: &[u8], params: &[u32], c: u8) -> Ne
 }
 
 // A call's end.
-pub(crate) fn complete(g: Geometry, r: Registers, flash: &[u8], params: &[u32], o: CallOutcome, c: u8) -> Next
+pub(crate) fn complete(
+    g: Geometry,
+    r: Registers,
+    flash: &[u8],
+    params: &[u32],
+    o: CallOutcome,
+    c: u8,
+) -> Next
     ensures { λ n. ⌜ MakesOf (now (flash .entry)) (now (params .entry)) r n (λ x t. finish g (o .succeeds) (residueOf x o) c t) ⌝ }
 {
     if o.succeeds {
@@ -259,7 +284,10 @@ pub(crate) fn xres(r: Registers) -> Next
 {
     let running = r.running;
     match running {
-        Running::Idle => cleared(Next { registers: r, act: Act::Keep }),
+        Running::Idle => cleared(Next {
+            registers: r,
+            act: Act::Keep,
+        }),
         Running::Busy(o, c) => cleared(fail(r, o, c)),
     }
 }

@@ -1,10 +1,15 @@
 // The plain board of document 01 as code: registers by value, memory lent, one call for each request.
 ghost use mathlib.Core.Path.{_≡_};
+ghost use Rattle.bench_board.specs.Board.{lent, left, targetOf};
+ghost use Rattle.bench_board.specs.Meets.{Decides, listsOf, metOf};
+ghost use Rattle.flow.specs.Exchange.{known, meetOn};
+ghost use Rattle.flow.specs.Exchange as Flow;
 
 mod calls;
 mod lines;
 mod map;
 mod memory;
+mod transfers;
 mod words;
 
 use flow::Answer;
@@ -126,4 +131,105 @@ pub struct Met {
     pub answer: Answer,
     pub line_used: bool,
     pub call_used: bool,
+}
+
+// How a known request is met.
+fn meet_request(
+    g: Geometry,
+    r: Registers,
+    flash: &[u8],
+    locks: &[u8],
+    params: &[u32],
+    q: Request,
+    e: LineEvent,
+    o: CallOutcome,
+) -> Decision
+    ensures { λ d. ⌜ Decides (now (flash .entry)) (now (locks .entry)) (now (params .entry)) r e o d (λ l t. meetOn g (known q) l t) ⌝ }
+{
+    match q {
+        Request::Xres => Decision {
+            next: calls::xres(r),
+            answer: Answer::ResetDone,
+            line_used: false,
+            call_used: false,
+        },
+        Request::LineReset => Decision {
+            next: words::keep(r),
+            answer: Answer::ResetDone,
+            line_used: false,
+            call_used: false,
+        },
+        Request::ReadIdcode => transfers::transfer(g, r, flash, locks, params, q, e, o),
+        Request::ReadDrw => transfers::transfer(g, r, flash, locks, params, q, e, o),
+        Request::WriteTar(_) => transfers::transfer(g, r, flash, locks, params, q, e, o),
+        Request::WriteDrw(_) => transfers::transfer(g, r, flash, locks, params, q, e, o),
+        Request::WriteSetup(_, _) => transfers::transfer(g, r, flash, locks, params, q, e, o),
+    }
+}
+
+// How a packet is met; one that is no request is met by silence.
+fn decide(
+    g: Geometry,
+    r: Registers,
+    flash: &[u8],
+    locks: &[u8],
+    params: &[u32],
+    p: Packet,
+    e: LineEvent,
+    o: CallOutcome,
+) -> Decision
+    ensures { λ d. ⌜ Decides (now (flash .entry)) (now (locks .entry)) (now (params .entry)) r e o d (λ l t. Flow.meet g p l t) ⌝ }
+{
+    let junk = e.junk;
+    let d = lines::request_in(p);
+    match d {
+        Decoded::Known(q) => meet_request(g, r, flash, locks, params, q, e, o),
+        Decoded::Unknown => Decision {
+            next: words::keep(r),
+            answer: Answer::Transferred(lines::be_silent(junk)),
+            line_used: true,
+            call_used: false,
+        },
+    }
+}
+
+// The board meets a packet. Flash, locks and latch are lent as bytes, PARAMS as words, of any sizes; what a failed call leaves
+// is lent beside them, as long as the call is under way.
+pub fn meet(
+    g: Geometry,
+    r: Registers,
+    flash: &mut [u8],
+    locks: &mut [u8],
+    latch: &mut [u8],
+    params: &mut [u32],
+    left_flash: &[u8],
+    left_locks: &[u8],
+    left_latch: &[u8],
+    p: Packet,
+    e: LineEvent,
+    o: CallOutcome,
+) -> Met
+    ensures { λ m. ⌜ metOf (left (now («left_flash» .entry)) (now («left_locks» .entry)) (now («left_latch» .entry))) e o m (lent (now (flash .exit)) (now (locks .exit)) (now (latch .exit)) (now (params .exit))) ≡ Flow.meet g p (listsOf (left (now («left_flash» .entry)) (now («left_locks» .entry)) (now («left_latch» .entry))) e o) (targetOf (left (now («left_flash» .entry)) (now («left_locks» .entry)) (now («left_latch» .entry))) r (lent (now (flash .entry)) (now (locks .entry)) (now (latch .entry)) (now (params .entry)))) ⌝ }
+{
+    let d = decide(g, r, flash, locks, params, p, e, o);
+    let n = d.next;
+    let registers = n.registers;
+    let act = n.act;
+    let answer = d.answer;
+    memory::perform(
+        act,
+        flash,
+        locks,
+        latch,
+        params,
+        left_flash,
+        left_locks,
+        left_latch,
+    );
+    Met {
+        registers: registers,
+        answer: answer,
+        line_used: d.line_used,
+        call_used: d.call_used,
+    }
 }

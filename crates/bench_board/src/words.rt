@@ -21,7 +21,10 @@ use parts::Geometry;
 pub(crate) fn keep(r: Registers) -> Next
     ensures { λ n. ⌜ n ≡ keeping r ⌝ }
 {
-    Next { registers: r, act: Act::Keep }
+    Next {
+        registers: r,
+        act: Act::Keep,
+    }
 }
 
 // A word posted.
@@ -40,7 +43,10 @@ fn post_sysreq(n: Next) -> Next
     let mut s = n.registers;
     let act = n.act;
     s.posted = s.sysreq;
-    Next { registers: s, act: act }
+    Next {
+        registers: s,
+        act: act,
+    }
 }
 
 // The stored level with 0 and 1 exchanged.
@@ -87,18 +93,35 @@ fn one_less(o: CallOutcome) -> CallOutcome
     ensures { λ p. ⌜ p ≡ record { «busy_reads» = o .«busy_reads» - 1; succeeds = o .succeeds; sysarg = o .sysarg; «new_level» = o .«new_level» } ⌝ }
 {
     let mut p = o;
-    p.busy_reads = if 0 < o.busy_reads { o.busy_reads - 1 } else { 0 };
+    p.busy_reads = if 0 < o.busy_reads {
+        o.busy_reads - 1
+    } else {
+        0
+    };
     p
 }
 
 // A read of SYSREQ while a call is under way: busy, or the call takes effect there.
-fn tick_busy(g: Geometry, r: Registers, flash: &[u8], params: &[u32], other: u32, o: CallOutcome, c: u8) -> Next
+fn tick_busy(
+    g: Geometry,
+    r: Registers,
+    flash: &[u8],
+    params: &[u32],
+    other: u32,
+    o: CallOutcome,
+    c: u8,
+) -> Next
     ensures { λ n. ⌜ MakesOf (now (flash .entry)) (now (params .entry)) r n (λ x t. tick g other (runningOf x (Running.Busy o c)) t) ⌝ }
 {
     if o.busy_reads == 0 {
         return post_sysreq(calls::complete(g, r, flash, params, o, c));
     }
-    ask(r, r.sysreq, 2147483648 + other % 2147483648, Running::Busy(one_less(o), c))
+    ask(
+        r,
+        r.sysreq,
+        2147483648 + other % 2147483648,
+        Running::Busy(one_less(o), c),
+    )
 }
 
 // A read of SYSREQ.
@@ -113,7 +136,15 @@ fn read_sysreq(g: Geometry, r: Registers, flash: &[u8], params: &[u32], other: u
 }
 
 // A DRW read posts the word at TAR.
-pub(crate) fn read_word(g: Geometry, r: Registers, flash: &[u8], locks: &[u8], params: &[u32], other: u32, spot: Spot) -> Next
+pub(crate) fn read_word(
+    g: Geometry,
+    r: Registers,
+    flash: &[u8],
+    locks: &[u8],
+    params: &[u32],
+    other: u32,
+    spot: Spot,
+) -> Next
     ensures { λ n. ⌜ MakesIn (now (flash .entry)) (now (locks .entry)) (now (params .entry)) r n (λ x t. fetch g other (placeOf spot) t) ⌝ }
 {
     match spot {
@@ -162,7 +193,10 @@ pub(crate) fn write_word(r: Registers, w: u32, o: CallOutcome, spot: Spot) -> Ne
     match spot {
         Spot::InFlash(_) => keep(r),
         Spot::InLocks(_) => keep(r),
-        Spot::InParams(k) => Next { registers: r, act: Act::PutWord(k, w) },
+        Spot::InParams(k) => Next {
+            registers: r,
+            act: Act::PutWord(k, w),
+        },
         Spot::AtLevel => keep(r),
         Spot::AtSysreq => write_sysreq(r, w, o),
         Spot::AtSysarg => write_sysarg(r, w),

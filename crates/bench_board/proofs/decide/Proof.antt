@@ -1,0 +1,33 @@
+use mathlib.Core.Path.{_≡_, refl, sym, ap, _∙_}
+use borrow.Author.Tests.{eq-eqb, ne-eqb}
+use borrow.Author.Needs.{needs}
+use Rattle.bench_board.proofs.Meeting.{decoded-as, meet-unknown}
+use Rattle.bench_board.specs.Meets.{decodedOf}
+use Rattle.bench_board.specs.declared.Decoded.{Decoded}
+use Rattle.bench_board.proofs.decide.Statement.{statement}
+use Rattle.bench_board.proofs.decide.Tie as tie
+
+returns : tie.Need-returns
+returns c =
+    let a = c .before .before .before .before .before .before .before .before .before .args in
+    let h = sym (ap (λ (t : Decoded). decodedOf t) (c .before .before .d .given .1)) ∙ c .before .before .before .before .request-in .ensures in
+    decoded-as (a .g) (a .flash .now) (a .locks .now) (a .params .now) (a .p) (a .e) (a .o) (a .r) (c .meet-request .result) _ h (c .meet-request .ensures)
+
+returns-2 : tie.Need-returns-2
+returns-2 c =
+    let a = c .before .before .before .before .before .before .before .before .before .args in
+    let h = sym (ap (λ (t : Decoded). decodedOf t) (c .before .before .enum-told .given .1)) ∙ c .before .before .before .before .request-in .ensures in
+    rw (c .before .keep .ensures) (meet-unknown (a .g) (a .flash .now) (a .locks .now) (a .params .now) (a .p) (a .e) (a .o) (a .r) (c .be-silent .result) h (c .be-silent .ensures))
+
+pub decide-spec : {M : Type 1} → statement M
+decide-spec =
+    tie.close
+    (tie.spec
+    (λ c κs. search needs)
+    (λ c. search needs)
+    (λ c κs. search needs)
+    (λ c. search needs)
+    (λ c κs. search needs)
+    (λ c κs. search needs)
+    returns
+    returns-2)

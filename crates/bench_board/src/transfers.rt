@@ -1,0 +1,229 @@
+// How the board meets a transfer: whether it is carried out, and its answer (document 01, 'The plain board').
+ghost use mathlib.Core.Bool.{_&&_, not};
+ghost use mathlib.Core.Path.{_≡_};
+ghost use lib.Dec.{eqb};
+ghost use Rattle.bench_board.specs.Board.{eventOf, fateOf};
+ghost use Rattle.bench_board.specs.Meets.{placeOf, Makes, Decides, Carries, Gives, Calls, Replies};
+ghost use Rattle.flow.specs.Exchange.{carriedOut, guarded, isCall, isSysreq, overDrw, transferred};
+ghost use Rattle.flow.specs.Packets.{isRead};
+ghost use Rattle.flow.specs.Target.{setTar};
+use crate::CallOutcome;
+use crate::Decision;
+use crate::Fate;
+use crate::LineEvent;
+use crate::Next;
+use crate::Registers;
+use crate::Spot;
+use crate::lines;
+use crate::map;
+use crate::words;
+use flow::Answer;
+use flow::Reply;
+use flow::Request;
+use parts::Geometry;
+
+fn write_tar(r: Registers, a: u32) -> Next
+    ensures { λ n. ⌜ Makes r n (λ x t. setTar a t) ⌝ }
+{
+    let mut s = r;
+    s.tar = a;
+    words::keep(s)
+}
+
+// A request carried out.
+fn carry_out(
+    g: Geometry,
+    r: Registers,
+    flash: &[u8],
+    locks: &[u8],
+    params: &[u32],
+    q: Request,
+    other: u32,
+    o: CallOutcome,
+    spot: Spot,
+) -> Next
+    ensures { λ n. ⌜ Carries g (now (flash .entry)) (now (locks .entry)) (now (params .entry)) q other o spot r n ⌝ }
+{
+    match q {
+        Request::Xres => words::keep(r),
+        Request::LineReset => words::keep(r),
+        Request::ReadIdcode => words::keep(r),
+        Request::ReadDrw => words::read_word(g, r, flash, locks, params, other, spot),
+        Request::WriteTar(a) => write_tar(r, a),
+        Request::WriteDrw(w) => words::write_word(r, w, o, spot),
+        Request::WriteSetup(_, _) => words::keep(r),
+    }
+}
+
+// The word that a read gives.
+fn given_word(r: Registers, q: Request) -> u32
+    ensures { λ w. ⌜ Gives q r w ⌝ }
+{
+    let s = r.silicon;
+    match q {
+        Request::Xres => 0,
+        Request::LineReset => 0,
+        Request::ReadIdcode => s.idcode,
+        Request::ReadDrw => r.posted,
+        Request::WriteTar(_) => 0,
+        Request::WriteDrw(_) => 0,
+        Request::WriteSetup(_, _) => 0,
+    }
+}
+
+fn is_read(q: Request) -> bool
+    ensures { λ t. ⌜ t ≡ isRead q ⌝ }
+{
+    match q {
+        Request::Xres => false,
+        Request::LineReset => false,
+        Request::ReadIdcode => true,
+        Request::ReadDrw => true,
+        Request::WriteTar(_) => false,
+        Request::WriteDrw(_) => false,
+        Request::WriteSetup(_, _) => false,
+    }
+}
+
+fn is_drw(q: Request) -> bool
+    ensures { λ t. ⌜ t ≡ overDrw q ⌝ }
+{
+    match q {
+        Request::Xres => false,
+        Request::LineReset => false,
+        Request::ReadIdcode => false,
+        Request::ReadDrw => true,
+        Request::WriteTar(_) => false,
+        Request::WriteDrw(_) => true,
+        Request::WriteSetup(_, _) => false,
+    }
+}
+
+// Flash and PARAMS are shut while PROTECTED is in effect.
+fn is_guarded(spot: Spot) -> bool
+    ensures { λ t. ⌜ t ≡ guarded (placeOf spot) ⌝ }
+{
+    match spot {
+        Spot::InFlash(_) => true,
+        Spot::InLocks(_) => false,
+        Spot::InParams(_) => true,
+        Spot::AtLevel => false,
+        Spot::AtSysreq => false,
+        Spot::AtSysarg => false,
+        Spot::AtTestMode => false,
+        Spot::Elsewhere => false,
+    }
+}
+
+// Whether PROTECTED in effect answers FAULT.
+fn bars(effect: u8, q: Request, spot: Spot) -> bool
+    ensures { λ t. ⌜ t ≡ (eqb effect 2 && overDrw q && guarded (placeOf spot)) ⌝ }
+{
+    if effect != 2 {
+        return false;
+    }
+    if is_drw(q) {
+        return is_guarded(spot);
+    }
+    false
+}
+
+fn at_sysreq(spot: Spot) -> bool
+    ensures { λ t. ⌜ t ≡ isSysreq (placeOf spot) ⌝ }
+{
+    match spot {
+        Spot::InFlash(_) => false,
+        Spot::InLocks(_) => false,
+        Spot::InParams(_) => false,
+        Spot::AtLevel => false,
+        Spot::AtSysreq => true,
+        Spot::AtSysarg => false,
+        Spot::AtTestMode => false,
+        Spot::Elsewhere => false,
+    }
+}
+
+// Whether a word written starts a call.
+fn is_call(w: u32, spot: Spot) -> bool
+    ensures { λ t. ⌜ t ≡ (isCall w && isSysreq (placeOf spot)) ⌝ }
+{
+    if 2147483648 <= w {
+        return at_sysreq(spot);
+    }
+    false
+}
+
+// Whether a request carried out starts a call.
+fn starts_call(q: Request, spot: Spot) -> bool
+    ensures { λ t. ⌜ Calls q spot t ⌝ }
+{
+    match q {
+        Request::Xres => false,
+        Request::LineReset => false,
+        Request::ReadIdcode => false,
+        Request::ReadDrw => false,
+        Request::WriteTar(_) => false,
+        Request::WriteDrw(w) => is_call(w, spot),
+        Request::WriteSetup(_, _) => false,
+    }
+}
+
+// The answer to a transfer.
+fn answer(r: Registers, q: Request, e: LineEvent, barred: bool) -> Reply
+    ensures { λ a. ⌜ Replies q e barred r a ⌝ }
+{
+    let junk = e.junk;
+    let fate = e.fate;
+    if r.effect == 4 {
+        return lines::be_silent(junk);
+    }
+    lines::reply_to(fate, barred, is_read(q), given_word(r, q), junk)
+}
+
+// Whether a transfer is carried out: the board is not KILLed, the place not shut, and the line lets it through.
+fn goes_through(effect: u8, barred: bool, fate: Fate) -> bool
+    ensures { λ t. ⌜ t ≡ (not (eqb effect 4) && not barred && carriedOut (fateOf fate)) ⌝ }
+{
+    if effect == 4 {
+        return false;
+    }
+    if barred {
+        return false;
+    }
+    lines::lets_through(fate)
+}
+
+// A transfer, met.
+pub(crate) fn transfer(
+    g: Geometry,
+    r: Registers,
+    flash: &[u8],
+    locks: &[u8],
+    params: &[u32],
+    q: Request,
+    e: LineEvent,
+    o: CallOutcome,
+) -> Decision
+    ensures { λ d. ⌜ Decides (now (flash .entry)) (now (locks .entry)) (now (params .entry)) r e o d (λ l t. transferred g q (eventOf e) l t) ⌝ }
+{
+    let spot = map::spot_of(g, r.tar);
+    let barred = bars(r.effect, q, spot);
+    let fate = e.fate;
+    let reply = answer(r, q, e, barred);
+    if goes_through(r.effect, barred, fate) {
+        let n = carry_out(g, r, flash, locks, params, q, e.other, o, spot);
+        let starts = starts_call(q, spot);
+        return Decision {
+            next: n,
+            answer: Answer::Transferred(reply),
+            line_used: true,
+            call_used: starts,
+        };
+    }
+    Decision {
+        next: words::keep(r),
+        answer: Answer::Transferred(reply),
+        line_used: true,
+        call_used: false,
+    }
+}
