@@ -10,4 +10,3 @@ pub mod Judge
 pub mod Session
 pub mod Run
 pub mod Claim
-pub mod Examples

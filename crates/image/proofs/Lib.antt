@@ -2,4 +2,3 @@ pub mod Words
 pub mod Checks
 pub mod Refusals
 pub mod Sections
-pub mod Examples

@@ -3,4 +3,3 @@ pub mod Image
 pub mod Refusals
 pub mod Checks
 pub mod Sections
-pub mod Examples
