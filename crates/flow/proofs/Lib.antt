@@ -4,6 +4,8 @@ pub mod Counting
 pub mod Examples
 pub mod Reaches
 pub mod Hearing
+pub mod Moves
+pub mod Machine
 pub mod Transfer
 pub mod Access
 pub mod Polling

@@ -1,18 +1,16 @@
 -- What the code's step comes to is the flow's step; and the bounds of a geometry of the table. Assumes nothing.
 use mathlib.Core.Bool.{Bool, true, false, _&&_, cond}
 use mathlib.Core.List.{List, []}
-use mathlib.Core.Path.{_≡_, refl, sym, ap, _∙_}
-use Prim.Native.Nat.{ℕ, suc, _+_, _<_, _^_}
+use mathlib.Core.Path.{_≡_, refl, ap, _∙_}
+use Prim.Native.Nat.{ℕ, suc, _<_, _^_}
 use native.Mathlib.Numerals.{add-one}
 use native.Mathlib.Omega.{arith}
 use borrow.Author.Tests.{ltb-true}
 use lib.Dec.{ltb}
-use Rattle.flow.specs.Judge.{judge}
 use Rattle.flow.specs.Monitor.{isReset, isAttempt}
 use Rattle.flow.specs.Packets.{Verdict, okay, again, broken, verdict}
-use Rattle.flow.specs.Plan.{plan, loops, acquisitions, mostTraffic}
-use Rattle.flow.specs.Session.{running, reported, moveAt, heardBy, stepOf}
-use Rattle.flow.specs.Session as Flow
+use Rattle.flow.specs.Plan.{plan, loops, mostTraffic}
+use Rattle.flow.specs.Session.{running, moveAt, heardBy, stepOf}
 use Rattle.flow.specs.declared.Answer.{Answer}
 use Rattle.flow.specs.declared.Entry.{Entry}
 use Rattle.flow.specs.declared.Entry.the-variants.{FromOpen, FromProtected}
@@ -25,7 +23,7 @@ use Rattle.parts.specs.Parts.{partTable, lookupOf}
 use Rattle.parts.specs.Sizes.{rowsOf, locksIn}
 use Rattle.parts.specs.declared.Geometry.{Geometry}
 use Rattle.parts.specs.declared.Lookup.the-variants.{Found}
-use Rattle.session.specs.Nexts.{nextOf, nextBy, resetNext, standAfter, actOn}
+use Rattle.session.specs.Nexts.{nextBy, resetNext, standAfter, actOn}
 use Rattle.session.specs.Possible.{movesIn, possibleIn}
 use Rattle.session.specs.Ranges.{InRange}
 use Rattle.session.specs.Sessions.{standOf, mostOf}

@@ -1,19 +1,18 @@
 -- 13 is closed under steps: what an answer makes of a possible session is possible, also of one that nobody's start gave.
 -- Assumes nothing.
-use mathlib.Core.Bool.{Bool, true, false, false≢true, _&&_, _||_, cond}
-use mathlib.Core.List.{List}
+use mathlib.Core.Bool.{Bool, true, false, false≢true, cond}
 use mathlib.Core.Path.{_≡_, refl, sym, ap, _∙_}
-use Prim.Native.Nat.{ℕ, zero, suc, _+_, _*_, _-_, _/_, _%_, _≤_, _<_}
+use Prim.Native.Nat.{ℕ, suc, _-_, _≤_, _<_}
 use native.Mathlib.Omega.{arith}
-use borrow.Author.Tests.{lt-ltb, le-leb, eq-eqb, ne-eqb, ltb-true, leb-true}
-use lib.Dec.{eqb, leb, ltb, lit≤}
+use borrow.Author.Tests.{le-leb, eq-eqb, ne-eqb, ltb-true}
+use lib.Dec.{eqb, ltb, lit≤}
 use lib.ListN.{length}
 use Rattle.flow.proofs.Table.{Facts}
 use Rattle.flow.specs.Judge.{Judged, go, pollAgain, enter, report, judge, goIf, polled, entryBy, free, testBitSet, succeeded, idsFit, levelIn, storedIn, sumsFit}
 use Rattle.flow.specs.Monitor.{isReset, isAttempt}
 use Rattle.flow.specs.Packets.{Verdict, okay, again, broken, heard, verdict, isRead, replyIn}
-use Rattle.flow.specs.Sequence.{opening, endMove}
-use Rattle.flow.specs.Session.{running, reported, moveAt, settled, tryAgain, waitAgain, heardBy, act, stepOf}
+use Rattle.flow.specs.Sequence.{opening}
+use Rattle.flow.specs.Session.{running, reported, moveAt, settled, tryAgain, waitAgain, heardBy, stepOf}
 use Rattle.flow.specs.Session as Flow
 use Rattle.flow.specs.declared.Answer.{Answer}
 use Rattle.flow.specs.declared.Entry.{Entry}
@@ -24,8 +23,8 @@ use Rattle.flow.specs.declared.Purpose.the-variants.{Sent, Idcode, TestBit, Pol
 use Rattle.flow.specs.declared.Request.{Request}
 use Rattle.image.specs.Image.{Image}
 use Rattle.session.specs.Possible.{movesIn, reportFits}
-use Rattle.session.proofs.Moves.{Proper, Reports}
-use Rattle.session.proofs.Places.{lastMove, has-next, opening-in, proper-at}
+use Rattle.flow.proofs.Moves.{Proper, Reports, proper-at}
+use Rattle.session.proofs.Places.{has-next, opening-in}
 use Rattle.wire.specs.Wire.{parity, ackOf}
 use Rattle.wire.specs.declared.Ack.{Ack}
 use Rattle.wire.specs.declared.Ack.the-variants.{Okay, Wait, Fault, Silence}
@@ -90,8 +89,8 @@ unfolding verdict
 line-verdict q r = line-heard (isRead q) (ackOf ((replyIn r) .ack)) ((replyIn r) .word) ((replyIn r) .parity)
 
 module _ (i : Image) (f : Facts (i .geometry)) (y : Entry) (n : ℕ) (inside : n < movesIn (i .geometry) y) where
-  p-at : Proper (n < length (opening i)) (moveAt i y n)
-  p-at = proper-at i f y n inside
+  p-at : Proper (suc n ≡ length (opening i)) (moveAt i y n)
+  p-at = proper-at i y n
 
   -- where a judged word leads, for the purpose of the move
   Allowed : Judged → (step : ℕ) → Type 0
@@ -112,7 +111,7 @@ module _ (i : Image) (f : Facts (i .geometry)) (y : Entry) (n : ℕ) (inside : n
     allow-poll false true e nx = ltb-true (suc p) 10000 e
     allow-poll false false e nx = numbered 18 s (lit≤ tt, lit≤ tt) low high
 
-    allow-entry : (l : ℕ) (b c : Bool) → eqb l 1 ≡ b → eqb l 2 ≡ c → n < length (opening i) → Allowed (entryBy l p k) s
+    allow-entry : (l : ℕ) (b c : Bool) → eqb l 1 ≡ b → eqb l 2 ≡ c → suc n ≡ length (opening i) → Allowed (entryBy l p k) s
     unfolding Allowed
     allow-entry l true c d e o = rw d (omega (arith, opening-in i f FromOpen), small)
     allow-entry l false true d e o = rw (d, e) (omega (arith, opening-in i f FromProtected), small)
@@ -126,7 +125,7 @@ module _ (i : Image) (f : Facts (i .geometry)) (y : Entry) (n : ℕ) (inside : n
     unfolding Allowed
     allow-report x h = numbered x s h low high
 
-    allowed : (u : Purpose) (w : ℕ) → Reports (n < length (opening i)) u s → (isLast u ≡ false → suc n < movesIn (i .geometry) y)
+    allowed : (u : Purpose) (w : ℕ) → Reports (suc n ≡ length (opening i)) u s → (isLast u ≡ false → suc n < movesIn (i .geometry) y)
         → Allowed (judge i u p k w) s
     unfolding judge Allowed
     allowed Sent w r nx = (nx refl, small)

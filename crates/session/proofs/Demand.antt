@@ -1,23 +1,20 @@
 -- Demand 3 over calls, from demand 3 on the definitions. Assumes nothing.
-use mathlib.Core.Bool.{Bool, true, false, false≢true, _&&_, cond}
+use mathlib.Core.Bool.{Bool, true, false, cond}
 use mathlib.Core.List.{List, _∷_}
-use mathlib.Core.Logic.{_⊎_, _↔_}
 use mathlib.Core.Path.{_≡_, refl, sym, ap, subst, _∙_}
-use Prim.Native.Nat.{ℕ, zero, suc, _+_, _*_, _≤_, _<_}
+use Prim.Native.Nat.{ℕ, zero, suc, _≤_, _<_}
 use native.Mathlib.Omega.{arith}
-use borrow.Author.Tests.{eq-eqb, eqb-true, lt-ltb}
-use lib.Dec.{eqb, leb, lit≤}
+use borrow.Author.Tests.{eqb-true, lt-ltb}
+use lib.Dec.{eqb, lit≤}
 use lib.ListN.{length}
 use Rattle.flow.proofs.Demand.{demand3-holds}
 use Rattle.flow.proofs.Passing.{table-facts}
 use Rattle.flow.proofs.Table.{facts}
-use Rattle.flow.specs.Claim as Flows
-use Rattle.flow.specs.Claim.{Passes, Startable, RightPart, NoError, Calm, entryOf, delaysIn}
-use Rattle.flow.specs.Monitor.{linkError}
-use Rattle.flow.specs.Plan.{Traffic, counting, plan, loops, acquisitions, fromProtected, mostTraffic}
-use Rattle.flow.specs.Run.{Run, advance, after, started, handedOutBy, handedOut}
+use Rattle.flow.specs.Claim.{Passes, Startable, entryOf}
+use Rattle.flow.specs.Plan.{Traffic, counting, plan, loops, mostTraffic}
+use Rattle.flow.specs.Run.{Run, advance, after, started, handedOutBy}
 use Rattle.flow.specs.Sequence.{sequence, opening, acquire}
-use Rattle.flow.specs.Session.{running, reported, moveAt, firstSession}
+use Rattle.flow.specs.Session.{running, reported, moveAt}
 use Rattle.flow.specs.Session as Flow
 use Rattle.flow.specs.Target.{Target, Lists}
 use Rattle.flow.specs.declared.Entry.{Entry}
@@ -34,14 +31,13 @@ use Rattle.parts.specs.Sizes.{imageSize}
 use Rattle.parts.specs.declared.Geometry.{Geometry}
 use Rattle.parts.specs.declared.Lookup.{Lookup}
 use Rattle.parts.specs.declared.Lookup.the-variants.{Found}
-use Rattle.session.specs.Calls.{State, Steps, begun}
-use Rattle.session.specs.Claim.{most, Demand3, Demand3Holds}
+use Rattle.session.specs.Calls.{State, begun}
+use Rattle.session.specs.Claim.{Demand3, Demand3Holds}
 use Rattle.session.specs.Given.{startOf, startedOn, startRefused, wantsLeave, outcomeAt}
 use Rattle.session.specs.Possible.{headerFits, movesIn, progressFits, possibleIn}
-use Rattle.session.specs.Sessions.{standOf, mostOf, atStart, firstFor}
+use Rattle.session.specs.Sessions.{mostOf, atStart, firstFor}
 use Rattle.session.specs.declared.Given.{Given}
-use Rattle.session.specs.declared.Outcome.{Outcome}
-use Rattle.session.specs.declared.Outcome.the-variants.{Refused, Ask, Told}
+use Rattle.session.specs.declared.Outcome.the-variants.{Refused, Told}
 use Rattle.session.specs.declared.Report.{Report}
 use Rattle.session.proofs.Counted.{countIn, count-step}
 use Rattle.session.proofs.Following.{Follows, follow}

@@ -26,7 +26,7 @@ use Rattle.session.specs.Possible.{possibleIn, possibleFor, possible}
 use Rattle.session.specs.Sessions.{standOf, mostOf, firstFor, resumed}
 use Rattle.session.specs.declared.Given.{Given}
 use Rattle.session.specs.declared.Outcome.{Outcome}
-use Rattle.session.specs.declared.Outcome.the-variants.{Refused, Ask, Told}
+use Rattle.session.specs.declared.Outcome.the-variants.{Refused, Told}
 use Rattle.session.specs.declared.Report.{Report}
 use Rattle.session.specs.declared.Session.{Session}
 use Rattle.session.proofs.Counted.{countIn}

@@ -1,23 +1,21 @@
 -- A possible session as facts; the session that starting gives and what a step makes of a possible one are possible. Assumes nothing.
 use mathlib.Core.Bool.{Bool, true, false, _&&_, cond}
 use mathlib.Core.List.{List}
-use mathlib.Core.Path.{_≡_, refl, sym, ap, _∙_}
-use Prim.Native.Nat.{ℕ, suc, _+_, _*_, _≤_, _<_, min}
+use mathlib.Core.Path.{_≡_, refl}
+use Prim.Native.Nat.{ℕ, _≤_}
 use native.Mathlib.Omega.{arith}
-use borrow.Author.Tests.{lt-ltb, le-leb, ltb-true, leb-true, eqb-true}
-use lib.Dec.{eqb, leb, ltb, lit≤}
+use borrow.Author.Tests.{lt-ltb, le-leb, ltb-true, leb-true}
+use lib.Dec.{leb, ltb}
 use Rattle.flow.proofs.Table.{Facts}
-use Rattle.flow.specs.Plan.{plan, acquisitions}
-use Rattle.flow.specs.Session.{running, reported, stepOf, firstSession}
+use Rattle.flow.specs.Session.{running, reported, stepOf}
 use Rattle.flow.specs.Session as Flow
 use Rattle.flow.specs.declared.Answer.{Answer}
-use Rattle.image.specs.Checks.{versionFits, imageIdFits, levelFits}
-use Rattle.image.specs.Image.{Image, imageOf}
+use Rattle.image.specs.Image.{imageOf}
 use Rattle.image.specs.declared.Header.{Header}
 use Rattle.parts.proofs.Table.{both}
 use Rattle.parts.specs.declared.Geometry.{Geometry}
 use Rattle.session.specs.Possible.{headerFits, movesIn, progressFits, reportFits, possibleIn}
-use Rattle.session.specs.Sessions.{standOf, mostOf, resumed, firstFor}
+use Rattle.session.specs.Sessions.{standOf, mostOf, resumed}
 use Rattle.session.specs.declared.Session.{Session}
 use Rattle.session.proofs.Closed.{Within, Stands, step-stands}
 

@@ -1,5 +1,5 @@
 -- 13: 'session impossible for its part (never one that starting or a step gave)'. Assumes nothing.
-use mathlib.Core.Bool.{Bool, true, false, _&&_, _||_, cond}
+use mathlib.Core.Bool.{Bool, false, _&&_, _||_, cond}
 use Prim.Native.Nat.{ℕ, _+_, _*_}
 use lib.Dec.{eqb, leb, ltb}
 use Rattle.flow.specs.Plan.{plan, acquisitions}

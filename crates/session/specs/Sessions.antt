@@ -1,5 +1,5 @@
 -- A session's fields as the session of the flow, and the session of zeros. Assumes nothing.
-use mathlib.Core.Bool.{Bool, true, false, cond}
+use mathlib.Core.Bool.{true, false, cond}
 use Prim.Native.Nat.{ℕ, min}
 use lib.ListN.{replicate}
 use Rattle.flow.specs.Plan.{mostTraffic}

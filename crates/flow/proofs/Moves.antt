@@ -1,27 +1,27 @@
 -- What holds of every move of the sequence: its step, the numbers it can report, its place. Assumes nothing.
-use mathlib.Core.Bool.{Bool, true, false}
-use mathlib.Core.List.{List, [], _∷_, _++_}
-use mathlib.Core.Path.{_≡_, refl, sym, ap, _∙_}
-use Prim.Native.Nat.{ℕ, zero, suc, _+_, _*_, _/_, _≤_, _<_}
+use mathlib.Core.List.{List, [], _∷_, _++_, append-assoc}
+use mathlib.Core.Path.{_≡_, refl, ap, _∙_}
+use Prim.Native.Nat.{ℕ, zero, suc, _+_, _/_, _≤_}
 use native.Mathlib.Omega.{arith}
 use lib.Dec.{lit≤}
-use lib.ListN.{length, getD}
-use Rattle.flow.proofs.Hearing.{Plain, aTar, aDrw, aRead, aCtrl, aSelect, aCsw, Wired, attempt, plain, decodes}
-use Rattle.flow.specs.Exchange.{Decoded, known, decode}
+use lib.ListN.{length, getD, length-append}
+use Rattle.flow.proofs.Hearing.{aTar, aDrw, aRead, aCtrl, aSelect, aCsw, attempt, plain, decodes}
+use Rattle.flow.specs.Exchange.{known, decode}
 use Rattle.flow.specs.Packets.{packetOf}
-use Rattle.flow.specs.Sequence.{move, write, read, poll, call, writes, listed, pieces, imoCall, acquire, silicon, privileged, latchList, programRow, compareWord, verifyFlash, lockStart, lockMacro, verifyMacro, program, opening, afterwards, sequence, endMove, key}
+use Rattle.flow.specs.Sequence.{move, write, read, call, writes, listed, pieces, imoCall, acquire, silicon, privileged, programRow, lockMacro, verifyMacro, program, opening, afterwards, sequence, endMove, key}
+use Rattle.flow.specs.Session.{moveAt}
 use Rattle.flow.specs.declared.Entry.{Entry}
 use Rattle.flow.specs.declared.Entry.the-variants.{FromOpen, FromProtected}
 use Rattle.flow.specs.declared.Move.{Move}
 use Rattle.flow.specs.declared.Purpose.{Purpose}
 use Rattle.flow.specs.declared.Purpose.the-variants.{Sent, Idcode, TestBit, Poll, Status, Keep, EntryLevel, Reopened, Same, StoredLevel, LastSum}
 use Rattle.flow.specs.declared.Request.{Request}
-use Rattle.flow.specs.declared.Request.the-variants.{Xres, LineReset, ReadIdcode, ReadDrw, WriteTar, WriteDrw, WriteSetup}
+use Rattle.flow.specs.declared.Request.the-variants.{Xres, LineReset, ReadIdcode, ReadDrw, WriteTar, WriteDrw}
 use Rattle.image.specs.Image.{Image}
-use Rattle.parts.specs.Sizes.{macrosOf, rowsOf, rowBytes, locksIn, locksAt, levelAt, sysargOf, imoOf, PARAMS}
+use Rattle.parts.specs.Sizes.{macrosOf, rowsOf, locksIn, sysreqOf, sysargOf, imoOf, PARAMS}
 use Rattle.parts.specs.declared.Geometry.{Geometry}
 
-pub data All (P : Move → Type 0) : List Move → Type 0 where
+data All (P : Move → Type 0) : List Move → Type 0 where
   none : All P []
   more : {m : Move} {ms : List Move} → P m → All P ms → All P (m ∷ ms)
 
@@ -34,11 +34,6 @@ module _ {P : Move → Type 0} where
   unfolding pieces
   all-pieces f each k zero = none
   all-pieces f each k (suc n) = joined (each k) (all-pieces f each (suc k) n)
-
-  pub at : (d : Move) {ms : List Move} → All P ms → (n : ℕ) → n < length ms → P (getD ms n d)
-  at d none n h = absurd (omega arith)
-  at d (more p ps) zero h = p
-  at d (more p ps) (suc n) h = at d ps n (omega arith)
 
 -- a move's purpose, where EntryLevel stands only if E holds
 abbrev pub Reports : (E : Type 0) → Purpose → (step : ℕ) → Type 0
@@ -85,7 +80,7 @@ relax h (Same w n) s r = r
 relax h StoredLevel s r = tt
 relax h LastSum s r = r
 
-pub relaxed : {E F : Type 0} {m : Move} → (E → F) → Proper E m → Proper F m
+relaxed : {E F : Type 0} {m : Move} → (E → F) → Proper E m → Proper F m
 relaxed {m = m} h p = record { low = p .low; high = p .high; reports = relax h (m .purpose) (m .step) (p .reports); meant = p .meant }
 
 module _ (E : Type 0) (s : ℕ) (low : 1 ≤ s) (high : s ≤ 9) where
@@ -161,13 +156,55 @@ module _ (E : Type 0) where
       (all-pieces _ (λ m. all-pieces _ (λ j. all-read E 8 (lit≤ tt) (lit≤ tt) _ (Same _ 23) (lit≤ tt, lit≤ tt)) 0 (locksIn g m / 4)) 0 (macrosOf g))
       (joined (all-read E 8 (lit≤ tt) (lit≤ tt) _ StoredLevel tt) (all-privileged E 9 (lit≤ tt) (lit≤ tt) g LastSum refl))))))
 
-pub all-opening : (i : Image) → All (Proper (Unit {0})) (opening i)
-unfolding opening
-all-opening i = joined (all-acquire (Unit {0}) (i .geometry)) (all-silicon (Unit {0}) (i .geometry) EntryLevel tt)
-
-pub all-afterwards : (i : Image) (y : Entry) → All (Proper ⊥) (afterwards i y)
+all-afterwards : (i : Image) (y : Entry) → All (Proper ⊥) (afterwards i y)
 unfolding afterwards
 all-afterwards i FromOpen = joined (all-listed ⊥ 3 (lit≤ tt) (lit≤ tt) (i .geometry) 0x0A _) (all-program ⊥ i)
 all-afterwards i FromProtected =
     joined (all-call ⊥ 3 (lit≤ tt) (lit≤ tt) (i .geometry) 0x0D _)
     (joined (all-acquire ⊥ (i .geometry)) (joined (all-silicon ⊥ (i .geometry) Reopened tt) (all-program ⊥ i)))
+
+-- ---- at every place, also past the end
+
+-- steps 1 and 2 but for the last move, which decides the entry
+abbrev before : Geometry → List Move
+before g =
+    acquire g ++ (call g 2 0 (key 0) ++ (read 2 (sysargOf g) Keep ++ (move 2 (WriteTar (sysreqOf g)) Sent ∷ move 2 ReadDrw Sent ∷ [])))
+
+abbrev decides : Move
+decides = move 2 ReadDrw EntryLevel
+
+opening-ends : (i : Image) → opening i ≡ before (i .geometry) ++ (decides ∷ [])
+unfolding opening silicon read
+opening-ends i = simp append-assoc
+
+all-before : (g : Geometry) → All (Proper ⊥) (before g)
+all-before g =
+    joined (all-acquire ⊥ g)
+    (joined (all-call ⊥ 2 (lit≤ tt) (lit≤ tt) g 0 _)
+    (joined (all-read ⊥ 2 (lit≤ tt) (lit≤ tt) _ Keep tt)
+    (more (tar-proper ⊥ 2 (lit≤ tt) (lit≤ tt) _) (more (read-proper ⊥ 2 (lit≤ tt) (lit≤ tt) Sent tt) none))))
+
+anywhere : {ms : List Move} → All (Proper ⊥) ms → (n : ℕ) → Proper ⊥ (getD ms n endMove)
+anywhere none n = record { low = lit≤ tt; high = lit≤ tt; reports = tt; meant = meant-xres }
+anywhere (more p ps) zero = p
+anywhere (more p ps) (suc n) = anywhere ps n
+
+around : {a b : List Move} {m : Move} → All (Proper ⊥) a → Proper (Unit {0}) m → All (Proper ⊥) b
+    → (n : ℕ) → Proper (n ≡ length a) (getD (a ++ (m ∷ b)) n endMove)
+around none p q zero = relaxed (λ x. refl) p
+around none p q (suc n) = relaxed (λ x. absurd x) (anywhere q n)
+around (more h hs) p q zero = relaxed (λ x. absurd x) h
+around (more h hs) p q (suc n) = relaxed (λ x. ap suc x) (around hs p q n)
+
+-- every move is proper, and only the last of steps 1 and 2 decides the entry
+pub proper-at : (i : Image) (y : Entry) (n : ℕ) → Proper (suc n ≡ length (opening i)) (moveAt i y n)
+unfolding sequence
+proper-at i y n =
+    let g = i .geometry in
+    let e : opening i ++ afterwards i y ≡ before g ++ (decides ∷ afterwards i y) =
+    ap (λ (l : List Move). l ++ afterwards i y) (opening-ends i) ∙ append-assoc (before g) (decides ∷ []) (afterwards i y) in
+    let l : length (opening i) ≡ suc (length (before g)) =
+    ap length (opening-ends i) ∙ length-append (before g) (decides ∷ []) ∙ omega arith in
+    rw e
+    (relaxed (λ (x : n ≡ length (before g)). omega (arith, x, l))
+    (around (all-before g) (read-proper (Unit {0}) 2 (lit≤ tt) (lit≤ tt) EntryLevel tt) (all-afterwards i y) n))
