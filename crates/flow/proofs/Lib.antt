@@ -25,5 +25,4 @@ pub mod Frames
 pub mod Passing
 pub mod Demand
 pub mod Witness
-pub mod Decoding
 pub mod Blame

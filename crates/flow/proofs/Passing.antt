@@ -12,19 +12,14 @@ use Rattle.flow.specs.Claim.{Passes}
 use Rattle.flow.proofs.Lists.{Small}
 use Rattle.flow.proofs.Phases.{Level, isOpen, isProtected, isKill, Valid}
 use Rattle.flow.proofs.Table.{Facts, facts}
+use Rattle.image.proofs.Refusals.{passes}
 use Rattle.image.specs.Checks.{levelFits, contentChecks, faultIn}
 use Rattle.image.specs.Image.{imageOf}
-use Rattle.image.specs.Refusals.{Check, _unless_, firstRefusal}
+use Rattle.image.specs.Refusals.{_unless_, firstRefusal}
 use Rattle.image.specs.declared.Header.{Header}
 use Rattle.parts.specs.Sizes.{flashSize, lockTotal, imageSize}
 use Rattle.parts.specs.declared.Geometry.{Geometry}
 use Rattle.parts.specs.declared.Lookup.{Lookup}
-
--- no refusal: the first check passes, and the rest do
-passes : (n : ℕ) (p : Bool) (cs : List Check) → 1 ≤ n → firstRefusal ((n unless p) ∷ cs) ≡ 0 → (p ≡ true) × (firstRefusal cs ≡ 0)
-unfolding firstRefusal
-passes n true cs h e = (refl, e)
-passes n false cs h e = absurd (omega arith)
 
 levelled : (l : ℕ) → levelFits l ≡ true → Level l
 levelled l h = by (eqb l 1) (eqb l 2) (eqb l 4) refl refl refl

@@ -8,8 +8,6 @@ use borrow.Author.Tests.{eqb-true, lt-ltb}
 use lib.Dec.{eqb, lit≤}
 use lib.ListN.{length}
 use Rattle.flow.proofs.Demand.{demand3-holds}
-use Rattle.flow.proofs.Passing.{table-facts}
-use Rattle.flow.proofs.Table.{facts}
 use Rattle.flow.specs.Claim.{Passes, Startable, entryOf}
 use Rattle.flow.specs.Plan.{Traffic, counting, plan, loops, mostTraffic}
 use Rattle.flow.specs.Run.{Run, advance, after, started, handedOutBy}
@@ -26,6 +24,7 @@ use Rattle.image.specs.Checks.{versionFits, imageIdFits, levelFits, contentChec
 use Rattle.image.specs.Image.{Image, imageOf}
 use Rattle.image.specs.Refusals.{_unless_, firstRefusal}
 use Rattle.image.specs.declared.Header.{Header}
+use Rattle.moves.specs.Moves.{moveCount}
 use Rattle.parts.specs.Parts.{lookupOf}
 use Rattle.parts.specs.Sizes.{imageSize}
 use Rattle.parts.specs.declared.Geometry.{Geometry}
@@ -34,7 +33,7 @@ use Rattle.parts.specs.declared.Lookup.the-variants.{Found}
 use Rattle.session.specs.Calls.{State, begun}
 use Rattle.session.specs.Claim.{Demand3, Demand3Holds}
 use Rattle.session.specs.Given.{startOf, startedOn, startRefused, wantsLeave, outcomeAt}
-use Rattle.session.specs.Possible.{headerFits, movesIn, progressFits, possibleIn}
+use Rattle.session.specs.Possible.{headerFits, progressFits, possibleIn}
 use Rattle.session.specs.Sessions.{mostOf, atStart, firstFor}
 use Rattle.session.specs.declared.Given.{Given}
 use Rattle.session.specs.declared.Outcome.the-variants.{Refused, Told}
@@ -65,8 +64,8 @@ module _ (g : Geometry) (h : Header) (bytes : List ℕ) (found : lookupOf (h .pa
   -- the session that starting gives is possible
   pub first-possible : possibleIn g (firstFor h) ≡ true
   first-possible =
-      let room : 0 < movesIn g FromOpen = omega (arith, opening-in (imageOf g h bytes) (facts (h .part) (h .macros) g found) FromOpen) in
-      let stand : progressFits g FromOpen atStart ≡ true = both-true (both-true (both-true (lt-ltb 0 (movesIn g FromOpen) room) refl) refl) refl in
+      let room : 0 < moveCount g FromOpen = omega (arith, opening-in (imageOf g h bytes) FromOpen) in
+      let stand : progressFits g FromOpen atStart ≡ true = both-true (both-true (both-true (lt-ltb 0 (moveCount g FromOpen) room) refl) refl) refl in
       whole g (firstFor h) (record { header = header; count = omega arith; stands = stand })
 
 -- ---- what an unrefused start says
@@ -85,7 +84,7 @@ module _ (h : Header) (bytes : List ℕ) (none : imageFault h bytes ≡ 0) where
       by false e = is ∙ simp e
 
 module _ (g : Geometry) (h : Header) (bytes : List ℕ) (p : Passes g h bytes) where
-  first-follows : (b : Target) (l : Lists) → Follows g h bytes (table-facts g h bytes p) (p .found) (size g h bytes (p .found) (p .checked)) (begun (startedOn h) b l) (started b l)
+  first-follows : (b : Target) (l : Lists) → Follows g h bytes (p .found) (size g h bytes (p .found) (p .checked)) (begun (startedOn h) b l) (started b l)
   unfolding sequence opening acquire
   first-follows b l = record {
     header = refl;
@@ -146,7 +145,7 @@ module _ (g : Geometry) (h : Header) (bytes : List ℕ) (p : Passes g h bytes) (
       let d = demand3-holds g h bytes p b may l k in
       omega (arith, count-run i k (started b l) refl, handed-more i (r .session) (r .traffic), d .transfers, most-from g (entryOf b))
 
-  claim : (s : State) → Follows g h bytes (table-facts g h bytes p) (p .found) (size g h bytes (p .found) (p .checked)) s run → Demand3 i b l n s
+  claim : (s : State) → Follows g h bytes (p .found) (size g h bytes (p .found) (p .checked)) s run → Demand3 i b l n s
   claim s f =
       let d = demand3-holds g h bytes p b may l n in
       let told : (r : Report) → s .stands ≡ Told r → run .session ≡ reported (r .number) (r .step) (r .transfers)
@@ -174,7 +173,7 @@ pub demand3 : Demand3Holds
 demand3 g h bytes leave p free b may l n s steps =
     let i = imageOf g h bytes in
     claim g h bytes p b may l n s
-    (follow g h bytes (table-facts g h bytes p) (p .found) (size g h bytes (p .found) (p .checked)) n (begun (startOf h bytes leave) b l) s (started b l)
-    (subst (λ (r : Given). Follows g h bytes (table-facts g h bytes p) (p .found) (size g h bytes (p .found) (p .checked)) (begun r b l) (started b l))
+    (follow g h bytes (p .found) (size g h bytes (p .found) (p .checked)) n (begun (startOf h bytes leave) b l) s (started b l)
+    (subst (λ (r : Given). Follows g h bytes (p .found) (size g h bytes (p .found) (p .checked)) (begun r b l) (started b l))
     (sym (start-gives h bytes (p .checked) leave free)) (first-follows g h bytes p b l))
     (low g h bytes p b may l n) steps)

@@ -5,7 +5,6 @@ use mathlib.Core.Path.{_≡_, refl, sym, ap, subst, _∙_}
 use Prim.Native.Nat.{ℕ, suc, _≤_}
 use native.Mathlib.Omega.{arith}
 use lib.ListN.{length}
-use Rattle.flow.proofs.Table.{Facts}
 use Rattle.flow.specs.Exchange.{known, decode, Met, meet}
 use Rattle.flow.specs.Packets.{packetOf}
 use Rattle.flow.specs.Plan.{counting}
@@ -68,7 +67,7 @@ is-finished s x t c e = by (s .finished) refl
     by true q = q
     by false q = absurd (clash (rw q at e))
 
-module _ (g : Geometry) (h : Header) (bytes : List ℕ) (facts : Facts g) (found : lookupOf (h .part) (h .macros) ≡ Found g)
+module _ (g : Geometry) (h : Header) (bytes : List ℕ) (found : lookupOf (h .part) (h .macros) ≡ Found g)
     (size : length bytes ≡ imageSize g) where
   abbrev i : Image
   i = imageOf g h bytes
@@ -128,7 +127,7 @@ module _ (g : Geometry) (h : Header) (bytes : List ℕ) (facts : Facts g) (found
         rw (qe, ee, ve)
         (record {
           header = header-kept g (s .session) new ∙ f .header;
-          can = ap (λ (z : Flow.Session). possibleIn g (resumed g (s .session) z)) (sym stepped) ∙ step-possible g bytes (s .session) (x .answer) facts (f .can);
+          can = ap (λ (z : Flow.Session). possibleIn g (resumed g (s .session) z)) (sym stepped) ∙ step-possible g bytes (s .session) (x .answer) (f .can);
           session = stood;
           stands = rw stood (standing-new i (s .stands) new);
           target = refl;

@@ -2,15 +2,15 @@
 use mathlib.Core.Bool.{Bool, true, false}
 use mathlib.Core.List.{List, [], _∷_, _++_, append-assoc}
 use mathlib.Core.Path.{_≡_, refl, sym, ap, _∙_}
-use Prim.Native.Nat.{ℕ, suc, _+_, _-_, _<_}
+use Prim.Native.Nat.{ℕ, suc, _+_, _*_, _<_}
 use native.Mathlib.Omega.{arith}
 use borrow.Author.Tests.{ltb-true, ltb-false}
 use lib.Dec.{ltb}
 use lib.ListN.{length, getD, length-append}
 use lib.Seq.{getD-at}
-use Rattle.flow.proofs.Counting.{total, one-more, count-opening, plan-form, sequence-totals}
+use Rattle.flow.proofs.Counting.{total, one-more, sequence-totals}
 use Rattle.flow.proofs.Table.{Facts}
-use Rattle.flow.specs.Plan.{trafficIn}
+use Rattle.flow.specs.Plan.{trafficIn, plan, acquisitions}
 use Rattle.flow.specs.Sequence.{move, read, call, listed, pieces, privileged, programRow, verifyFlash, lockMacro, verifyMacro, acquire, silicon, program, opening, afterwards, sequence, endMove, key}
 use Rattle.flow.specs.Session.{moveAt}
 use Rattle.flow.specs.declared.Entry.{Entry}
@@ -19,9 +19,10 @@ use Rattle.flow.specs.declared.Move.{Move}
 use Rattle.flow.specs.declared.Purpose.the-variants.{Sent, Keep, Reopened, StoredLevel, LastSum}
 use Rattle.flow.specs.declared.Request.the-variants.{ReadDrw, WriteTar}
 use Rattle.image.specs.Image.{Image}
+use Rattle.moves.proofs.Counts.{counted, opening-counted, count-open, count-reopen}
+use Rattle.moves.specs.Moves.{bare, moveCount}
 use Rattle.parts.specs.Sizes.{macrosOf, rowsOf, sysargOf, levelAt}
 use Rattle.parts.specs.declared.Geometry.{Geometry}
-use Rattle.session.specs.Possible.{movesIn}
 
 -- ---- the length
 
@@ -70,28 +71,29 @@ ends-sequence i FromProtected =
 
 -- ---- places
 
-module _ (i : Image) (f : Facts (i .geometry)) where
-  pub length-moves : (y : Entry) → length (sequence i y) ≡ movesIn (i .geometry) y
-  length-moves y =
-      let t = sequence-totals i f y in
-      omega (arith, length-traffic (sequence i y), t .transfers, t .xresets, t .lineResets)
+-- the plan's reads and writes, and each acquisition's XRES and line reset
+pub planned : (g : Geometry) → Facts g → (y : Entry) → moveCount g y ≡ plan g y + 2 * acquisitions y
+planned g f y =
+    let i = bare g in
+    let t = sequence-totals i f y in
+    omega (arith, length-traffic (sequence i y), t .transfers, t .xresets, t .lineResets)
 
+module _ (i : Image) where
   -- steps 1 and 2 are not all, whatever the entry
-  pub opening-in : (e : Entry) → length (opening i) < movesIn (i .geometry) e
-  opening-in e =
-      let t = count-opening i f in
-      omega (arith, length-traffic (opening i), t .transfers, t .xresets, t .lineResets, plan-form i f e)
+  pub opening-in : (e : Entry) → length (opening i) < moveCount (i .geometry) e
+  opening-in FromOpen = omega (arith, opening-counted i, count-open (i .geometry))
+  opening-in FromProtected = omega (arith, opening-counted i, count-reopen (i .geometry))
 
   -- a move that is not the last has a next
-  pub has-next : (y : Entry) (n : ℕ) → n < movesIn (i .geometry) y → ¬ (moveAt i y n ≡ lastMove) → suc n < movesIn (i .geometry) y
-  has-next y n h not-last = by (ltb (suc n) (movesIn (i .geometry) y)) refl
+  pub has-next : (y : Entry) (n : ℕ) → n < moveCount (i .geometry) y → ¬ (moveAt i y n ≡ lastMove) → suc n < moveCount (i .geometry) y
+  has-next y n h not-last = by (ltb (suc n) (moveCount (i .geometry) y)) refl
     where
       e : Ends lastMove (sequence i y)
       e = ends-sequence i y
 
-      by : (t : Bool) → ltb (suc n) (movesIn (i .geometry) y) ≡ t → suc n < movesIn (i .geometry) y
+      by : (t : Bool) → ltb (suc n) (moveCount (i .geometry) y) ≡ t → suc n < moveCount (i .geometry) y
       by true q = ltb-true _ _ q
       by false q =
           let l : length (e .front) ≡ n =
-          omega (arith, length-moves y, ap length (e .is), length-append (e .front) (lastMove ∷ []), ltb-false (suc n) (movesIn (i .geometry) y) q) in
+          omega (arith, counted i y, ap length (e .is), length-append (e .front) (lastMove ∷ []), ltb-false (suc n) (moveCount (i .geometry) y) q) in
           absurd (not-last (ap (λ (ms : List Move). getD ms n endMove) (e .is) ∙ getD-at (e .front) lastMove [] endMove n l))

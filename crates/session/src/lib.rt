@@ -12,7 +12,7 @@ ghost use Rattle.flow.specs.Plan.{fromProtected, plan, loops, acquisitions};
 ghost use Rattle.image.specs.Image.{imageOf};
 ghost use Rattle.session.specs.Given.{answers, startRefused, wantsLeave, startOf, refusing, outcomeAt, giving, stepOn, stepWith};
 ghost use Rattle.session.specs.Nexts.{nextOf, tryNext, waitNext, nextBy, resetNext, standAfter, actOn};
-ghost use Rattle.session.specs.Possible.{headerFits, movesIn, progressFits, reportFits, possibleIn};
+ghost use Rattle.session.specs.Possible.{headerFits, progressFits, reportFits, possibleIn};
 ghost use Rattle.session.specs.Ranges.{InRange, Lent};
 ghost use Rattle.session.specs.Sessions.{standOf, mostOf, firstFor, runningAt, reportedAt, resumed};
 use flow::Answer;
@@ -124,13 +124,6 @@ fn most_of(g: Geometry) -> u64
     17 * (plan_of(g, y) + 29997 * loops_of(g, y) + 29 * acquisitions_of(y))
 }
 
-// The moves of the sequence.
-fn moves_in(g: Geometry, y: Entry) -> u64
-    ensures { λ r. ⌜ r ≡ movesIn g y ⌝ }
-{
-    plan_of(g, y) + 2 * acquisitions_of(y)
-}
-
 // Whether a header is one that 6, 7 and 8 let pass.
 fn header_fits(g: Geometry, h: Header) -> bool
     ensures { λ r. ⌜ r ≡ headerFits g h ⌝ }
@@ -147,7 +140,7 @@ fn header_fits(g: Geometry, h: Header) -> bool
 fn progress_fits(g: Geometry, y: Entry, p: Progress) -> bool
     ensures { λ r. ⌜ r ≡ progressFits g y p ⌝ }
 {
-    if (p.at as u64) < moves_in(g, y) {
+    if (p.at as usize) < moves::move_count(g, y) {
         if p.waits <= 16 {
             if p.polls < 10000 {
                 return p.attempts < 30;

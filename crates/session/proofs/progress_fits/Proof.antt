@@ -7,21 +7,21 @@ use Rattle.session.proofs.progress_fits.Tie as tie
 cast-if1 : tie.Need-cast-if1
 cast-if1 c = search needs
 
-moves-in-requires : tie.Need-moves-in-requires
-moves-in-requires c κs = search needs
+move-count-requires : tie.Need-move-count-requires
+move-count-requires c κs = search needs
 
 returns : tie.Need-returns
-returns c = simp (← c .before .before .before .before .before .before .moves-in .ensures, lt-ltb _ _ (c .before .before .before .before .before .if1 .taken), le-leb _ _ (c .before .before .before .if2 .taken), lt-ltb _ _ (c .before .if3 .taken))
+returns c = simp (← c .before .before .before .before .before .before .move-count .ensures, lt-ltb _ _ (c .before .before .before .before .before .if1 .taken), le-leb _ _ (c .before .before .before .if2 .taken), lt-ltb _ _ (c .before .if3 .taken))
 
 returns-2 : tie.Need-returns-2
-returns-2 c = simp (← c .before .before .before .before .before .moves-in .ensures, lt-ltb _ _ (c .before .before .before .before .if1 .taken), le-leb _ _ (c .before .before .if2 .taken), le-ltb _ _ (c .if3 .left))
+returns-2 c = simp (← c .before .before .before .before .before .move-count .ensures, lt-ltb _ _ (c .before .before .before .before .if1 .taken), le-leb _ _ (c .before .before .if2 .taken), le-ltb _ _ (c .if3 .left))
 
 returns-3 : tie.Need-returns-3
-returns-3 c = simp (← c .before .before .before .moves-in .ensures, lt-ltb _ _ (c .before .before .if1 .taken), lt-leb _ _ (c .if2 .left))
+returns-3 c = simp (← c .before .before .before .move-count .ensures, lt-ltb _ _ (c .before .before .if1 .taken), lt-leb _ _ (c .if2 .left))
 
 returns-4 : tie.Need-returns-4
-returns-4 c = simp (← c .before .moves-in .ensures, le-ltb _ _ (c .if1 .left))
+returns-4 c = simp (← c .before .move-count .ensures, le-ltb _ _ (c .if1 .left))
 
 pub progress-fits-spec : {M : Type 1} → statement M
 progress-fits-spec =
-    tie.close (tie.spec cast-if1 moves-in-requires returns returns-2 returns-3 returns-4)
+    tie.close (tie.spec cast-if1 move-count-requires returns returns-2 returns-3 returns-4)
