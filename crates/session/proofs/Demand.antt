@@ -1,12 +1,10 @@
 -- Demand 3 over calls, from demand 3 on the definitions. Assumes nothing.
 use mathlib.Core.Bool.{Bool, true, false, cond}
-use mathlib.Core.List.{List, _∷_}
+use mathlib.Core.List.{List}
 use mathlib.Core.Path.{_≡_, refl, sym, ap, subst, _∙_}
 use Prim.Native.Nat.{ℕ, zero, suc, _≤_, _<_}
 use native.Mathlib.Omega.{arith}
-use borrow.Author.Tests.{eqb-true, lt-ltb}
-use lib.Dec.{eqb, lit≤}
-use lib.ListN.{length}
+use borrow.Author.Tests.{lt-ltb}
 use Rattle.flow.proofs.Demand.{demand3-holds}
 use Rattle.flow.specs.Claim.{Passes, Startable, entryOf}
 use Rattle.flow.specs.Plan.{Traffic, counting, plan, loops, mostTraffic}
@@ -19,16 +17,13 @@ use Rattle.flow.specs.declared.Entry.{Entry}
 use Rattle.flow.specs.declared.Entry.the-variants.{FromOpen, FromProtected}
 use Rattle.flow.specs.declared.Request.{Request}
 use Rattle.flow.specs.declared.Request.the-variants.{Xres, LineReset, ReadIdcode, ReadDrw, WriteTar, WriteDrw, WriteSetup}
-use Rattle.image.proofs.Refusals.{passes}
-use Rattle.image.specs.Checks.{versionFits, imageIdFits, levelFits, contentChecks, faultIn, imageFault}
+use Rattle.image.proofs.Refusals.{Passed, all-passed}
+use Rattle.image.specs.Checks.{imageFault}
 use Rattle.image.specs.Image.{Image, imageOf}
-use Rattle.image.specs.Refusals.{_unless_, firstRefusal}
 use Rattle.image.specs.declared.Header.{Header}
 use Rattle.moves.specs.Moves.{moveCount}
 use Rattle.parts.specs.Parts.{lookupOf}
-use Rattle.parts.specs.Sizes.{imageSize}
 use Rattle.parts.specs.declared.Geometry.{Geometry}
-use Rattle.parts.specs.declared.Lookup.{Lookup}
 use Rattle.parts.specs.declared.Lookup.the-variants.{Found}
 use Rattle.session.specs.Calls.{State, begun}
 use Rattle.session.specs.Claim.{Demand3, Demand3Holds}
@@ -47,19 +42,11 @@ use Rattle.session.proofs.Stepping.{not-refused}
 -- ---- what an image that passes says
 
 module _ (g : Geometry) (h : Header) (bytes : List ℕ) (found : lookupOf (h .part) (h .macros) ≡ Found g) (none : imageFault h bytes ≡ 0) where
-  checked : firstRefusal ((12 unless eqb (length bytes) (imageSize g)) ∷ contentChecks g h bytes) ≡ 0
-  checked = ap (λ (x : Lookup). faultIn x h bytes) (sym found) ∙ none
-
-  size : length bytes ≡ imageSize g
-  size = eqb-true (length bytes) (imageSize g) ((passes 12 _ _ (lit≤ tt) checked) .0)
+  all : Passed g h bytes
+  all = all-passed g h bytes found none
 
   header : headerFits g h ≡ true
-  header =
-      let t₀ = passes 12 (eqb (length bytes) (imageSize g)) _ (lit≤ tt) checked in
-      let t₁ = passes 6 (versionFits h) _ (lit≤ tt) (t₀ .1) in
-      let t₂ = passes 7 (imageIdFits g h) _ (lit≤ tt) (t₁ .1) in
-      let t₃ = passes 8 (levelFits (h .level)) _ (lit≤ tt) (t₂ .1) in
-      both-true (both-true (t₁ .0) (t₂ .0)) (t₃ .0)
+  header = both-true (both-true (all .version) (all .id)) (all .level)
 
   -- the session that starting gives is possible
   pub first-possible : possibleIn g (firstFor h) ≡ true
@@ -84,7 +71,7 @@ module _ (h : Header) (bytes : List ℕ) (none : imageFault h bytes ≡ 0) where
       by false e = is ∙ simp e
 
 module _ (g : Geometry) (h : Header) (bytes : List ℕ) (p : Passes g h bytes) where
-  first-follows : (b : Target) (l : Lists) → Follows g h bytes (p .found) (size g h bytes (p .found) (p .checked)) (begun (startedOn h) b l) (started b l)
+  first-follows : (b : Target) (l : Lists) → Follows g h bytes (p .found) ((all g h bytes (p .found) (p .checked)) .size) (begun (startedOn h) b l) (started b l)
   unfolding sequence opening acquire
   first-follows b l = record {
     header = refl;
@@ -145,7 +132,7 @@ module _ (g : Geometry) (h : Header) (bytes : List ℕ) (p : Passes g h bytes) (
       let d = demand3-holds g h bytes p b may l k in
       omega (arith, count-run i k (started b l) refl, handed-more i (r .session) (r .traffic), d .transfers, most-from g (entryOf b))
 
-  claim : (s : State) → Follows g h bytes (p .found) (size g h bytes (p .found) (p .checked)) s run → Demand3 i b l n s
+  claim : (s : State) → Follows g h bytes (p .found) ((all g h bytes (p .found) (p .checked)) .size) s run → Demand3 i b l n s
   claim s f =
       let d = demand3-holds g h bytes p b may l n in
       let told : (r : Report) → s .stands ≡ Told r → run .session ≡ reported (r .number) (r .step) (r .transfers)
@@ -173,7 +160,7 @@ pub demand3 : Demand3Holds
 demand3 g h bytes leave p free b may l n s steps =
     let i = imageOf g h bytes in
     claim g h bytes p b may l n s
-    (follow g h bytes (p .found) (size g h bytes (p .found) (p .checked)) n (begun (startOf h bytes leave) b l) s (started b l)
-    (subst (λ (r : Given). Follows g h bytes (p .found) (size g h bytes (p .found) (p .checked)) (begun r b l) (started b l))
+    (follow g h bytes (p .found) ((all g h bytes (p .found) (p .checked)) .size) n (begun (startOf h bytes leave) b l) s (started b l)
+    (subst (λ (r : Given). Follows g h bytes (p .found) ((all g h bytes (p .found) (p .checked)) .size) (begun r b l) (started b l))
     (sym (start-gives h bytes (p .checked) leave free)) (first-follows g h bytes p b l))
     (low g h bytes p b may l n) steps)

@@ -8,8 +8,8 @@ use borrow.Author.Tests.{eq-eqb, ne-eqb}
 use lib.ListN.{length}
 use Rattle.image.specs.Words.{allZero, wordsAt}
 use Rattle.image.proofs.Words.{words-turn, words-end, zero-next, zero-stop, zero-none}
-use Rattle.image.proofs.all_zero.Statement.{statement}
-use Rattle.image.proofs.all_zero.Tie as tie
+use Rattle.image.proofs.rows.all_zero.Statement.{statement}
+use Rattle.image.proofs.rows.all_zero.Tie as tie
 
 abbrev Inv-loop : tie.InvT-loop
 Inv-loop row at₀ left₀ at left =

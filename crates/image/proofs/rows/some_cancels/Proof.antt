@@ -7,8 +7,8 @@ use borrow.Author.Needs.{needs}
 use lib.ListN.{length, drop}
 use Rattle.image.specs.Checks.{cancels, someCancels}
 use Rattle.image.proofs.Checks.{some-hit, some-miss, some-end, part-of, mul-turn}
-use Rattle.image.proofs.some_cancels.Statement.{statement}
-use Rattle.image.proofs.some_cancels.Tie as tie
+use Rattle.image.proofs.rows.some_cancels.Statement.{statement}
+use Rattle.image.proofs.rows.some_cancels.Tie as tie
 
 abbrev Inv-loop : tie.InvT-loop
 Inv-loop bytes n size at₀ left₀ at left =

@@ -8,8 +8,8 @@ use lib.Dec.{lit<}
 use lib.ListN.{length}
 use Rattle.image.specs.Words.{total, wordsAt}
 use Rattle.image.proofs.Words.{words-turn, words-end, carry-in, carried, total-cons, total-none}
-use Rattle.image.proofs.words_sum.Statement.{statement}
-use Rattle.image.proofs.words_sum.Tie as tie
+use Rattle.image.proofs.rows.words_sum.Statement.{statement}
+use Rattle.image.proofs.rows.words_sum.Tie as tie
 
 abbrev Inv-loop : tie.InvT-loop
 Inv-loop row sum₀ at₀ left₀ sum at left =

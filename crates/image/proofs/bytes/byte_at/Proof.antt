@@ -2,8 +2,8 @@
 use mathlib.Core.Path.{sym}
 use borrow.Author.Needs.{needs}
 use lib.ListN.{List·getD-eq-default}
-use Rattle.image.proofs.byte_at.Statement.{statement}
-use Rattle.image.proofs.byte_at.Tie as tie
+use Rattle.image.proofs.bytes.byte_at.Statement.{statement}
+use Rattle.image.proofs.bytes.byte_at.Tie as tie
 
 pub byte-at-spec : {M : Type 1} → statement M
 byte-at-spec =

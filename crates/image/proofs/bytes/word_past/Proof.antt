@@ -3,8 +3,8 @@ use mathlib.Core.Path.{sym, _∙_}
 use borrow.Author.Needs.{needs}
 use Rattle.image.specs.Words.{wordAt}
 use Rattle.image.proofs.Words.{word-none}
-use Rattle.image.proofs.word_past.Statement.{statement}
-use Rattle.image.proofs.word_past.Tie as tie
+use Rattle.image.proofs.bytes.word_past.Statement.{statement}
+use Rattle.image.proofs.bytes.word_past.Tie as tie
 
 pub word-past-spec : {M : Type 1} → statement M
 unfolding wordAt
