@@ -1,7 +1,7 @@
 -- The tests in the order of `headerFits`. Assumes nothing.
 use borrow.Author.Needs.{needs}
-use Rattle.session.proofs.header_fits.Statement.{statement}
-use Rattle.session.proofs.header_fits.Tie as tie
+use Rattle.session.proofs.bounds.header_fits.Statement.{statement}
+use Rattle.session.proofs.bounds.header_fits.Tie as tie
 
 version-fits-requires : tie.Need-version-fits-requires
 version-fits-requires c κs = search needs

@@ -2,8 +2,8 @@
 use borrow.Author.Tests.{not-true, not-false, le-leb, lt-leb}
 use Rattle.session.specs.Possible.{possibleIn}
 use borrow.Author.Needs.{needs}
-use Rattle.session.proofs.possible_in.Statement.{statement}
-use Rattle.session.proofs.possible_in.Tie as tie
+use Rattle.session.proofs.bounds.possible_in.Statement.{statement}
+use Rattle.session.proofs.bounds.possible_in.Tie as tie
 
 header-fits-requires : tie.Need-header-fits-requires
 header-fits-requires c κs = search needs

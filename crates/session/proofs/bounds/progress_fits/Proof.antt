@@ -1,8 +1,8 @@
 -- The tests in the order of `progressFits`. Assumes nothing.
 use borrow.Author.Tests.{lt-ltb, le-ltb, le-leb, lt-leb}
 use borrow.Author.Needs.{needs}
-use Rattle.session.proofs.progress_fits.Statement.{statement}
-use Rattle.session.proofs.progress_fits.Tie as tie
+use Rattle.session.proofs.bounds.progress_fits.Statement.{statement}
+use Rattle.session.proofs.bounds.progress_fits.Tie as tie
 
 cast-if1 : tie.Need-cast-if1
 cast-if1 c = search needs

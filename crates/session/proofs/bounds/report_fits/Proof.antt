@@ -3,8 +3,8 @@ use native.Mathlib.Omega.{arith}
 use lib.Dec.{eqb}
 use Rattle.session.proofs.Counts.{or-false}
 use borrow.Author.Tests.{ne-eqb, le-leb, lt-leb}
-use Rattle.session.proofs.report_fits.Statement.{statement}
-use Rattle.session.proofs.report_fits.Tie as tie
+use Rattle.session.proofs.bounds.report_fits.Statement.{statement}
+use Rattle.session.proofs.bounds.report_fits.Tie as tie
 
 returns : tie.Need-returns
 returns c = simp (c .match .keys1) (or-false (eqb (c .before .args .step) 9))

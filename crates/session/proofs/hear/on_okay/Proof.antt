@@ -4,8 +4,8 @@ use borrow.Author.Tests.{eq-eqb, ne-eqb}
 use Rattle.flow.specs.Packets.{heard}
 use Rattle.session.proofs.Nexts.{next-okay, next-broken}
 use borrow.Author.Needs.{needs}
-use Rattle.session.proofs.on_okay.Statement.{statement}
-use Rattle.session.proofs.on_okay.Tie as tie
+use Rattle.session.proofs.hear.on_okay.Statement.{statement}
+use Rattle.session.proofs.hear.on_okay.Tie as tie
 
 attempts-after-requires : tie.Need-attempts-after-requires
 attempts-after-requires c κs = search needs

@@ -2,8 +2,8 @@
 use Rattle.flow.specs.Packets.{heard}
 use Rattle.session.proofs.Nexts.{next-again, next-broken}
 use borrow.Author.Needs.{needs}
-use Rattle.session.proofs.on_reply.Statement.{statement}
-use Rattle.session.proofs.on_reply.Tie as tie
+use Rattle.session.proofs.hear.on_reply.Statement.{statement}
+use Rattle.session.proofs.hear.on_reply.Tie as tie
 
 read-ack-requires : tie.Need-read-ack-requires
 read-ack-requires c κs = search needs

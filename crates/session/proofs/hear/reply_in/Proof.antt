@@ -1,7 +1,7 @@
 -- By the case. Assumes nothing.
 use borrow.Author.Needs.{needs}
-use Rattle.session.proofs.reply_in.Statement.{statement}
-use Rattle.session.proofs.reply_in.Tie as tie
+use Rattle.session.proofs.hear.reply_in.Statement.{statement}
+use Rattle.session.proofs.hear.reply_in.Tie as tie
 
 enum-told : tie.Need-enum-told
 enum-told c = search needs

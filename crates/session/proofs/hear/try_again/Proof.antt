@@ -1,8 +1,8 @@
 -- Within the limit, or past it. Assumes nothing.
 use borrow.Author.Tests.{lt-ltb, le-ltb}
 use borrow.Author.Needs.{needs}
-use Rattle.session.proofs.try_again.Statement.{statement}
-use Rattle.session.proofs.try_again.Tie as tie
+use Rattle.session.proofs.hear.try_again.Statement.{statement}
+use Rattle.session.proofs.hear.try_again.Tie as tie
 
 add-attempts : tie.Need-add-attempts
 add-attempts c = search needs

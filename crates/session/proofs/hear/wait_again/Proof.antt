@@ -1,8 +1,8 @@
 -- Within the limit, or past it. Assumes nothing.
 use borrow.Author.Tests.{lt-ltb, le-ltb}
 use borrow.Author.Needs.{needs}
-use Rattle.session.proofs.wait_again.Statement.{statement}
-use Rattle.session.proofs.wait_again.Tie as tie
+use Rattle.session.proofs.hear.wait_again.Statement.{statement}
+use Rattle.session.proofs.hear.wait_again.Tie as tie
 
 add-t4 : tie.Need-add-t4
 add-t4 c = search needs

@@ -4,8 +4,8 @@ use Rattle.flow.specs.Judge.{levelIn}
 use Rattle.parts.specs.declared.Level.the-variants.{Virgin, Open, Protected, Kill, Unknown}
 use Rattle.session.proofs.Entries.{read-entry}
 use borrow.Author.Needs.{needs}
-use Rattle.session.proofs.enter_next.Statement.{statement}
-use Rattle.session.proofs.enter_next.Tie as tie
+use Rattle.session.proofs.judge.enter_next.Statement.{statement}
+use Rattle.session.proofs.judge.enter_next.Tie as tie
 
 cast-read-level : tie.Need-cast-read-level
 cast-read-level c = search needs

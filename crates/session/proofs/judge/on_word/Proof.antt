@@ -1,8 +1,8 @@
 -- By the purpose. Assumes nothing.
 use Rattle.flow.specs.Judge.{judge}
 use borrow.Author.Needs.{needs}
-use Rattle.session.proofs.on_word.Statement.{statement}
-use Rattle.session.proofs.on_word.Tie as tie
+use Rattle.session.proofs.judge.on_word.Statement.{statement}
+use Rattle.session.proofs.judge.on_word.Tie as tie
 
 enum-told : tie.Need-enum-told
 enum-told c = search needs

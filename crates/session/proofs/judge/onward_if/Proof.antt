@@ -1,7 +1,7 @@
 -- Either way. Assumes nothing.
 use borrow.Author.Needs.{needs}
-use Rattle.session.proofs.onward_if.Statement.{statement}
-use Rattle.session.proofs.onward_if.Tie as tie
+use Rattle.session.proofs.judge.onward_if.Statement.{statement}
+use Rattle.session.proofs.judge.onward_if.Tie as tie
 
 onward-requires : tie.Need-onward-requires
 onward-requires c κs = search needs

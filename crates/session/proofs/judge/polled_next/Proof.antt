@@ -2,8 +2,8 @@
 use native.Mathlib.Numerals.{add-one}
 use borrow.Author.Tests.{lt-ltb, le-ltb}
 use borrow.Author.Needs.{needs}
-use Rattle.session.proofs.polled_next.Statement.{statement}
-use Rattle.session.proofs.polled_next.Tie as tie
+use Rattle.session.proofs.judge.polled_next.Statement.{statement}
+use Rattle.session.proofs.judge.polled_next.Tie as tie
 
 is-free-requires : tie.Need-is-free-requires
 is-free-requires c κs = search needs

@@ -1,8 +1,8 @@
 -- Done, or 25. Assumes nothing.
 use borrow.Author.Needs.{needs}
 use Rattle.flow.specs.Judge.{judge}
-use Rattle.session.proofs.summed.Statement.{statement}
-use Rattle.session.proofs.summed.Tie as tie
+use Rattle.session.proofs.judge.summed.Statement.{statement}
+use Rattle.session.proofs.judge.summed.Tie as tie
 
 pub summed-spec : {M : Type 1} → statement M
 unfolding judge

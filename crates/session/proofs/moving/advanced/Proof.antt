@@ -3,8 +3,8 @@ use native.Mathlib.Numerals.{add-one}
 use Rattle.flow.specs.Packets.{verdict}
 use Rattle.session.specs.Nexts.{actOn}
 use borrow.Author.Needs.{needs}
-use Rattle.session.proofs.advanced.Statement.{statement}
-use Rattle.session.proofs.advanced.Tie as tie
+use Rattle.session.proofs.moving.advanced.Statement.{statement}
+use Rattle.session.proofs.moving.advanced.Tie as tie
 
 is-reset-requires : tie.Need-is-reset-requires
 is-reset-requires c κs = search needs

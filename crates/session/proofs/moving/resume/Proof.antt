@@ -1,8 +1,8 @@
 -- By where the answer leads. Assumes nothing.
 use Rattle.session.specs.Sessions.{resumed}
 use borrow.Author.Needs.{needs}
-use Rattle.session.proofs.resume.Statement.{statement}
-use Rattle.session.proofs.resume.Tie as tie
+use Rattle.session.proofs.moving.resume.Statement.{statement}
+use Rattle.session.proofs.moving.resume.Tie as tie
 
 capped-requires : tie.Need-capped-requires
 capped-requires c κs = search needs

@@ -1,12 +1,12 @@
 use native.Mathlib.Omega.{arith}
 use borrow.Author.Needs.{needs}
 use Rattle.flow.specs.Plan.{loops}
-use Rattle.session.proofs.loops_of.Statement.{statement}
-use Rattle.session.proofs.loops_of.Tie as tie
-use Rattle.session.proofs.loops_of.Reads as reads
-use Rattle.session.proofs.loops_of.Lts as lts
+use Rattle.session.proofs.plan.loops_of.Statement.{statement}
+use Rattle.session.proofs.plan.loops_of.Tie as tie
+use Rattle.session.proofs.plan.loops_of.Reads as reads
+use Rattle.session.proofs.plan.loops_of.Lts as lts
 use Rattle.parts.proofs.rows.Reads as rows-reads
-use Rattle.session.proofs.if_protected.Reads as if-protected-reads
+use Rattle.session.proofs.plan.if_protected.Reads as if-protected-reads
 
 -- src/lib.rt:109:15
 cast-imo : tie.Need-cast-imo

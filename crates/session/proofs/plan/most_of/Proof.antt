@@ -1,8 +1,8 @@
 -- Document 01's formula. Assumes nothing.
 use Rattle.flow.specs.Plan.{mostTraffic}
 use borrow.Author.Needs.{needs}
-use Rattle.session.proofs.most_of.Statement.{statement}
-use Rattle.session.proofs.most_of.Tie as tie
+use Rattle.session.proofs.plan.most_of.Statement.{statement}
+use Rattle.session.proofs.plan.most_of.Tie as tie
 
 plan-of-requires : tie.Need-plan-of-requires
 plan-of-requires c κs = search needs

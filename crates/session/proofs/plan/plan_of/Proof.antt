@@ -3,12 +3,12 @@ use borrow.Author.Needs.{needs}
 use Rattle.flow.specs.Plan.{plan}
 use Rattle.parts.specs.Sizes.{locksIn}
 use Rattle.session.proofs.Counts.{rows-bound, macros-bound}
-use Rattle.session.proofs.plan_of.Statement.{statement}
-use Rattle.session.proofs.plan_of.Tie as tie
-use Rattle.session.proofs.plan_of.Reads as reads
-use Rattle.session.proofs.plan_of.Lts as lts
+use Rattle.session.proofs.plan.plan_of.Statement.{statement}
+use Rattle.session.proofs.plan.plan_of.Tie as tie
+use Rattle.session.proofs.plan.plan_of.Reads as reads
+use Rattle.session.proofs.plan.plan_of.Lts as lts
 use Rattle.parts.proofs.rows.Reads as rows-reads
-use Rattle.session.proofs.if_protected.Reads as if-protected-reads
+use Rattle.session.proofs.plan.if_protected.Reads as if-protected-reads
 
 -- src/lib.rt:98:15
 cast-imo : tie.Need-cast-imo

@@ -1,8 +1,8 @@
 -- One bit. Assumes nothing.
 use mathlib.Core.Path.{refl}
 use Rattle.flow.specs.Judge.{testBitSet}
-use Rattle.session.proofs.bit_set.Statement.{statement}
-use Rattle.session.proofs.bit_set.Tie as tie
+use Rattle.session.proofs.words.bit_set.Statement.{statement}
+use Rattle.session.proofs.words.bit_set.Tie as tie
 
 returns : tie.Need-returns
 unfolding testBitSet

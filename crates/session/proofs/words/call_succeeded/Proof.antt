@@ -1,8 +1,8 @@
 -- The top digit. Assumes nothing.
 use mathlib.Core.Path.{refl}
 use Rattle.flow.specs.Judge.{succeeded}
-use Rattle.session.proofs.call_succeeded.Statement.{statement}
-use Rattle.session.proofs.call_succeeded.Tie as tie
+use Rattle.session.proofs.words.call_succeeded.Statement.{statement}
+use Rattle.session.proofs.words.call_succeeded.Tie as tie
 
 returns : tie.Need-returns
 unfolding succeeded

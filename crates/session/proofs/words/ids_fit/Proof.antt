@@ -2,8 +2,8 @@
 use borrow.Author.Tests.{eq-eqb, ne-eqb}
 use Rattle.flow.specs.Judge.{idsFit}
 use borrow.Author.Needs.{needs}
-use Rattle.session.proofs.ids_fit.Statement.{statement}
-use Rattle.session.proofs.ids_fit.Tie as tie
+use Rattle.session.proofs.words.ids_fit.Statement.{statement}
+use Rattle.session.proofs.words.ids_fit.Tie as tie
 
 cast-if1 : tie.Need-cast-if1
 cast-if1 c = search needs

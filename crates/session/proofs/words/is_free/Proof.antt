@@ -1,8 +1,8 @@
 -- Bit 31, then bit 28. Assumes nothing.
 use borrow.Author.Tests.{eq-eqb, ne-eqb}
 use Rattle.flow.specs.Judge.{free}
-use Rattle.session.proofs.is_free.Statement.{statement}
-use Rattle.session.proofs.is_free.Tie as tie
+use Rattle.session.proofs.words.is_free.Statement.{statement}
+use Rattle.session.proofs.words.is_free.Tie as tie
 
 returns : tie.Need-returns
 unfolding free

@@ -2,8 +2,8 @@
 use borrow.Author.Tests.{ne-eqb}
 use Rattle.flow.specs.Judge.{storedIn}
 use borrow.Author.Needs.{needs}
-use Rattle.session.proofs.stored_in.Statement.{statement}
-use Rattle.session.proofs.stored_in.Tie as tie
+use Rattle.session.proofs.words.stored_in.Statement.{statement}
+use Rattle.session.proofs.words.stored_in.Tie as tie
 
 cast-n : tie.Need-cast-n
 cast-n c = search needs

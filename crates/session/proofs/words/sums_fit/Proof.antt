@@ -2,8 +2,8 @@
 use mathlib.Core.Path.{refl}
 use Rattle.flow.specs.Judge.{sumsFit}
 use borrow.Author.Needs.{needs}
-use Rattle.session.proofs.sums_fit.Statement.{statement}
-use Rattle.session.proofs.sums_fit.Tie as tie
+use Rattle.session.proofs.words.sums_fit.Statement.{statement}
+use Rattle.session.proofs.words.sums_fit.Tie as tie
 
 add-result : tie.Need-add-result
 add-result c = search needs
