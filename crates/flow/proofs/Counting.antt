@@ -29,6 +29,19 @@ pub record Totals (ms : List Move) (s p x l : ℕ) : Type 0 where
 pub totals : (ms : List Move) → Totals ms ((trafficIn ms) .transfers) (pollsIn ms) ((trafficIn ms) .xresets) ((trafficIn ms) .lineResets)
 totals ms = record { transfers = refl; polls = refl; xresets = refl; lineResets = refl }
 
+-- the requests of a traffic
+abbrev pub total : Traffic → ℕ
+total t = t .transfers + t .xresets + t .lineResets
+
+pub one-more : (q : Request) (t : Traffic) → total (counting q t) ≡ suc (total t)
+one-more Xres t = omega arith
+one-more LineReset t = omega arith
+one-more ReadIdcode t = omega arith
+one-more ReadDrw t = omega arith
+one-more (WriteTar w) t = omega arith
+one-more (WriteDrw w) t = omega arith
+one-more (WriteSetup r w) t = omega arith
+
 -- one request more is counted once, whatever it is
 record Adds (q : Request) (s t u : Traffic) : Type 0 where
   pub transfers : (counting q u) .transfers + s .transfers ≡ (counting q t) .transfers

@@ -8,12 +8,11 @@ use lib.Dec.{eqb}
 use borrow.Author.Tests.{eq-eqb, eqb-true}
 use Rattle.flow.specs.Claim.{RightPart, NoError, Calm, entryOf, Demand3, Demand3Holds}
 use Rattle.flow.specs.Monitor.{Monitor, linkError}
-use Rattle.flow.specs.Plan.{Traffic, counting, plan, mostTraffic}
+use Rattle.flow.specs.Plan.{Traffic, plan, mostTraffic}
 use Rattle.flow.specs.Run.{Run, advanceBy, advance, after, started, handedOutBy, handedOut}
 use Rattle.flow.specs.Session.{Session, running, reported, moveAt}
 use Rattle.flow.specs.Target.{Target, Silicon, Lists}
-use Rattle.flow.specs.declared.Request.{Request}
-use Rattle.flow.specs.declared.Request.the-variants.{Xres, LineReset, ReadIdcode, ReadDrw, WriteTar, WriteDrw, WriteSetup}
+use Rattle.flow.proofs.Counting.{total, one-more}
 use Rattle.flow.proofs.Entering.{Goes, byOpen, byProtected, start-reaches}
 use Rattle.flow.proofs.Frames.{Sound, Why, mishap, otherId, otherPart, Stopped, Finished, frame, start-stands}
 use Rattle.flow.proofs.Passing.{table-facts, valid}
@@ -41,18 +40,6 @@ right-ids i x r = record {
 }
 
 -- ---- one request at a time
-
-abbrev total : Traffic → ℕ
-total t = t .transfers + t .xresets + t .lineResets
-
-one-more : (q : Request) (t : Traffic) → total (counting q t) ≡ suc (total t)
-one-more Xres t = omega arith
-one-more LineReset t = omega arith
-one-more ReadIdcode t = omega arith
-one-more ReadDrw t = omega arith
-one-more (WriteTar w) t = omega arith
-one-more (WriteDrw w) t = omega arith
-one-more (WriteSetup r w) t = omega arith
 
 module _ (i : Image) where
   -- what stood is then met

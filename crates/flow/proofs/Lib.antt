@@ -3,6 +3,8 @@ pub mod Places
 pub mod Counting
 pub mod Reaches
 pub mod Hearing
+pub mod Moves
+pub mod Machine
 pub mod Transfer
 pub mod Access
 pub mod Polling
@@ -22,5 +24,4 @@ pub mod Frames
 pub mod Passing
 pub mod Demand
 pub mod Witness
-pub mod Decoding
 pub mod Blame

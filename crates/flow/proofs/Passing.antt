@@ -1,10 +1,10 @@
 -- What the checks leave to be known of an image. Assumes nothing.
 use mathlib.Core.Bool.{Bool, true, false}
-use mathlib.Core.List.{List, _∷_}
-use mathlib.Core.Path.{_≡_, refl, ap, sym, _∙_}
+use mathlib.Core.List.{List}
+use mathlib.Core.Path.{_≡_, refl, _∙_}
 use Prim.Native.Nat.{ℕ, _+_, _≤_, _<_}
 use native.Mathlib.Omega.{arith}
-use lib.Dec.{eqb, ltb, lit≤}
+use lib.Dec.{eqb, ltb}
 use lib.ListN.{length, getD, take, drop, length-take, length-drop, List·getD-eq-default}
 use lib.Seq.{getD-take, getD-drop, length-take-le}
 use borrow.Author.Tests.{eqb-true, ltb-true, ltb-false}
@@ -12,19 +12,12 @@ use Rattle.flow.specs.Claim.{Passes}
 use Rattle.flow.proofs.Lists.{Small}
 use Rattle.flow.proofs.Phases.{Level, isOpen, isProtected, isKill, Valid}
 use Rattle.flow.proofs.Table.{Facts, facts}
-use Rattle.image.specs.Checks.{levelFits, contentChecks, faultIn}
+use Rattle.image.proofs.Refusals.{all-passed}
+use Rattle.image.specs.Checks.{levelFits}
 use Rattle.image.specs.Image.{imageOf}
-use Rattle.image.specs.Refusals.{Check, _unless_, firstRefusal}
 use Rattle.image.specs.declared.Header.{Header}
 use Rattle.parts.specs.Sizes.{flashSize, lockTotal, imageSize}
 use Rattle.parts.specs.declared.Geometry.{Geometry}
-use Rattle.parts.specs.declared.Lookup.{Lookup}
-
--- no refusal: the first check passes, and the rest do
-passes : (n : ℕ) (p : Bool) (cs : List Check) → 1 ≤ n → firstRefusal ((n unless p) ∷ cs) ≡ 0 → (p ≡ true) × (firstRefusal cs ≡ 0)
-unfolding firstRefusal
-passes n true cs h e = (refl, e)
-passes n false cs h e = absurd (omega arith)
 
 levelled : (l : ℕ) → levelFits l ≡ true → Level l
 levelled l h = by (eqb l 1) (eqb l 2) (eqb l 4) refl refl refl
@@ -52,23 +45,16 @@ module _ (g : Geometry) (h : Header) (bytes : List ℕ) (p : Passes g h bytes) w
   pub table-facts : Facts g
   table-facts = facts (h .part) (h .macros) g (p .found)
 
-  checked : firstRefusal ((12 unless eqb (length bytes) (imageSize g)) ∷ contentChecks g h bytes) ≡ 0
-  checked = ap (λ (x : Lookup). faultIn x h bytes) (sym (p .found)) ∙ p .checked
-
   pub valid : Valid (imageOf g h bytes)
   unfolding imageSize
   valid =
-      let t₀ = passes 12 _ _ (lit≤ tt) checked in
-      let t₁ = passes 6 _ _ (lit≤ tt) (t₀ .1) in
-      let t₂ = passes 7 _ _ (lit≤ tt) (t₁ .1) in
-      let t₃ = passes 8 _ _ (lit≤ tt) (t₂ .1) in
-      let t₄ = passes 9 _ _ (lit≤ tt) (t₃ .1) in
-      let size : length bytes ≡ flashSize g + lockTotal g = eqb-true (length bytes) (flashSize g + lockTotal g) (t₀ .0) in
+      let c = all-passed g h bytes (p .found) (p .checked) in
+      let size : length bytes ≡ flashSize g + lockTotal g = c .size in
       record {
         flash = length-take-le (flashSize g) bytes (omega arith);
         locks = length-drop (flashSize g) bytes ∙ omega arith;
         flashSmall = small-take (flashSize g) bytes (p .small);
         lockSmall = small-drop (flashSize g) bytes (p .small);
-        sum = eqb-true _ _ (t₄ .0);
-        level = levelled (h .level) (t₃ .0);
+        sum = eqb-true _ _ (c .sum);
+        level = levelled (h .level) (c .level);
       }

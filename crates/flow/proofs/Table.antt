@@ -1,18 +1,16 @@
 -- What every geometry of the part table has, by one computed test over the whole table. Assumes nothing.
-use mathlib.Core.Bool.{Bool, true, false, false≢true, _&&_, _||_}
+use mathlib.Core.Bool.{Bool, true, _&&_, _||_}
 use mathlib.Core.List.{List, [], _∷_}
 use mathlib.Core.Path.{_≡_, refl}
-use Prim.Native.Nat.{ℕ, zero, suc, _+_, _*_, _/_, _≤_}
-use native.Mathlib.Omega.{arith}
+use Prim.Native.Nat.{ℕ, _+_, _*_, _/_, _≤_}
 use lib.Dec.{eqb, leb}
-use borrow.Author.Tests.{eqb-true, leb-true, eqb-false}
+use borrow.Author.Tests.{eqb-true, leb-true}
 use Rattle.flow.specs.Map.{Region, regions, lockRegions}
 use Rattle.parts.proofs.Table.{both, everywhere, at-found}
 use Rattle.parts.specs.Parts.{partTable, lookupOf}
 use Rattle.parts.specs.Sizes.{rowBytes, macrosOf, rowsPerMacro, rowsOf, flashSize, locksIn, lockTotal, imoOf}
 use Rattle.parts.specs.declared.Geometry.{Geometry}
-use Rattle.parts.specs.declared.Lookup.the-variants.{Found, Refused}
-use Rattle.parts.specs.declared.Part.{Part}
+use Rattle.parts.specs.declared.Lookup.the-variants.{Found}
 
 -- two regions do not meet
 abbrev pub apart : Region → Region → Bool

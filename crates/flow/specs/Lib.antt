@@ -8,5 +8,6 @@ pub mod Exchange
 pub mod Monitor
 pub mod Judge
 pub mod Session
+pub mod Machine
 pub mod Run
 pub mod Claim

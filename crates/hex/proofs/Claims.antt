@@ -1,74 +1,24 @@
 -- The claims on reading hold. Assumes nothing.
-use mathlib.Core.Bool.{Bool, true, false, false≢true, _&&_, cond}
+use mathlib.Core.Bool.{Bool, true, false, _&&_, cond}
 use mathlib.Core.List.{List, [], _∷_, _++_}
-use mathlib.Core.Path.{_≡_, refl, sym, ap, _∙_}
+use mathlib.Core.Path.{_≡_, refl, ap, _∙_}
 use Prim.Native.Nat.{ℕ, _+_}
-use borrow.Author.Tests.{eqb-true}
 use lib.Dec.{eqb, leb}
 use lib.ListN.{length}
 use Rattle.hex.specs.Claims.{Takes, ReadingClaims}
 use Rattle.hex.specs.Records.{lineRecord}
 use Rattle.hex.specs.Texts.{upperAfter, eventOf, events, outcomeOf}
+use Rattle.hex.proofs.Taken.{taken-from, one-image}
 use Rattle.image.specs.Checks.{imageFault}
-use Rattle.image.specs.Sections.{sectionsOf, headerOf}
 use Rattle.image.specs.declared.Header.{Header}
-use Rattle.image.specs.declared.Home.the-variants.{InImage, InHeader}
 use Rattle.image.specs.declared.Section.{Section}
-use Rattle.parts.specs.Parts.{lookupOf}
-use Rattle.parts.specs.Sizes.{imageSize}
-use Rattle.parts.specs.declared.Geometry.{Geometry}
-use Rattle.parts.specs.declared.Lookup.{Lookup}
-use Rattle.parts.specs.declared.Lookup.the-variants.{Found, Refused}
 use Rattle.text.specs.Lines.{Line, Ended, Open, linesOf}
-use Rattle.text.specs.Placing.{Event, Bad, Other, Data, End, Outcome, Refusal, Stream, after, advance, place, gathered}
-use Rattle.text.specs.Reading.{Untouched, Cleared, Taken, judged, readFor}
+use Rattle.text.specs.Placing.{Event, Bad, Other, Data, End, Refusal, Stream, after, advance, place}
 use Rattle.text.proofs.Lines.{AllEnded, lines-append, some-line}
 use Rattle.text.proofs.Placing.{place-length, place-followed, after-stream, no-outcome}
 
--- a reading that is taken: the part was found, and what the records came to passed the checks
-record TakenBy (part macros : ℕ) (text : List ℕ) (h : Header) (bytes : List ℕ) : Type 0 where
-  pub g : Geometry
-  pub found : lookupOf part macros ≡ Found g
-  pub is : judged g part macros (outcomeOf text (sectionsOf g)) ≡ Taken h bytes
-
-taken-by : (part macros : ℕ) (text : List ℕ) (room : ℕ) (h : Header) (bytes : List ℕ) → Takes part macros text room h bytes → TakenBy part macros text h bytes
-taken-by part macros text room h bytes = go (lookupOf part macros) refl
-  where
-    go : (l : Lookup) → lookupOf part macros ≡ l → readFor l part macros room (outcomeOf text) ≡ Taken h bytes → TakenBy part macros text h bytes
-    go (Refused n) q e = let t : false ≡ true = cc e in absurd (false≢true t)
-    go (Found g) q e = by (leb (imageSize g) room) e
-      where
-        by : (b : Bool) → cond b (judged g part macros (outcomeOf text (sectionsOf g))) (Untouched 12) ≡ Taken h bytes → TakenBy part macros text h bytes
-        by true e = record { g = g; found = q; is = e }
-        by false e = let t : false ≡ true = cc e in absurd (false≢true t)
-
-one-image : (part macros : ℕ) (text : List ℕ) (room room′ : ℕ) (h h′ : Header) (bytes bytes′ : List ℕ) → Takes part macros text room h bytes
-    → Takes part macros text room′ h′ bytes′
-    → (h ≡ h′) × (bytes ≡ bytes′)
-one-image part macros text room room′ h h′ bytes bytes′ t t′ =
-    let a = taken-by part macros text room h bytes t in
-    let b = taken-by part macros text room′ h′ bytes′ t′ in
-    let f : Found (a .g) ≡ Found (b .g) = sym (a .found) ∙ b .found in
-    let g : a .g ≡ b .g = cc f in
-    let e : Taken h bytes ≡ Taken h′ bytes′ = sym (a .is) ∙ ap (λ (x : Geometry). judged x part macros (outcomeOf text (sectionsOf x))) g ∙ b .is in
-    (cc e, cc e)
-
 sound : (part macros : ℕ) (text : List ℕ) (room : ℕ) (h : Header) (bytes : List ℕ) → Takes part macros text room h bytes → imageFault h bytes ≡ 0
-sound part macros text room h bytes t = let a = taken-by part macros text room h bytes t in go (a .g) (outcomeOf text (sectionsOf (a .g))) (a .is)
-  where
-    by : (i : Header) (bs : List ℕ) (n k : ℕ) (b : Bool) → eqb n 0 ≡ b → n ≡ imageFault i bs → cond b (Taken i bs) (Cleared n k) ≡ Taken h bytes → imageFault h bytes ≡ 0
-    by i bs n k true q f e =
-        let x : i ≡ h = cc e in
-        let y : bs ≡ bytes = cc e in
-        sym (f ∙ ap (λ (j : Header). imageFault j bs) x ∙ ap (imageFault h) y) ∙ eqb-true n 0 q
-    by i bs n k false q f e = let t : false ≡ true = cc e in absurd (false≢true t)
-
-    go : (g : Geometry) (o : Outcome) → judged g part macros o ≡ Taken h bytes → imageFault h bytes ≡ 0
-    go g (Refusal n) e = let t : false ≡ true = cc e in absurd (false≢true t)
-    go g (Stream s) e =
-        let i = headerOf part macros (gathered InHeader (sectionsOf g) s) in
-        let bs = gathered InImage (sectionsOf g) s in
-        by i bs (imageFault i bs) (imageSize g) (eqb (imageFault i bs) 0) refl refl e
+sound part macros text room h bytes t = (taken-from part macros text room h bytes t) .none
 
 -- the lines of a text that is taken all have their ends
 ended : (ls : List Line) (u : ℕ) (ds : List Section) (g : List ℕ) → place ds (events u ls) ≡ Stream g → AllEnded ls

@@ -14,6 +14,7 @@ use Rattle.hex.specs.Texts.{events, outcomeOf, hexReading}
 use Rattle.hex.specs.declared.Scanned.{Scanned}
 use Rattle.hex.specs.declared.Scanned.the-variants.{Bad, Whole}
 use Rattle.image.specs.Checks.{imageFault}
+use Rattle.image.specs.Image.{noHeader}
 use Rattle.image.specs.Sections.{sectionsOf, headerOf}
 use Rattle.image.specs.declared.Header.{Header}
 use Rattle.image.specs.declared.Home.the-variants.{InImage, InHeader}
@@ -23,7 +24,7 @@ use Rattle.parts.specs.declared.Geometry.{Geometry}
 use Rattle.parts.specs.declared.Lookup.the-variants.{Found, Refused}
 use Rattle.text.specs.Lines.{linesOf}
 use Rattle.text.specs.Placing.{Outcome, Refusal, Stream, gathered}
-use Rattle.text.specs.Reading.{Reading, Untouched, Cleared, Taken, checked, judged, noHeader, answerOf, bufferAfter}
+use Rattle.text.specs.Reading.{Reading, Untouched, Cleared, Taken, checked, judged, answerOf, bufferAfter}
 use Rattle.text.specs.Storing.{cleared, settled}
 use Rattle.text.specs.declared.ReadAnswer.{ReadAnswer}
 use Rattle.text.proofs.Placing.{place-length, laid-image, laid-header, image-length}

@@ -15,9 +15,9 @@ abbrev pub Takes : (part macros : ℕ) (text : List ℕ) (room : ℕ) → Header
 Takes part macros text room h bytes = hexReading part macros text room ≡ Taken h bytes
 
 pub record ReadingClaims : Type 0 where
-  -- one text is never taken for two images, whatever the buffers
-  pub one-image : (part macros : ℕ) (text : List ℕ) (room room′ : ℕ) (h h′ : Header) (bytes bytes′ : List ℕ) → Takes part macros text room h bytes
-      → Takes part macros text room′ h′ bytes′
+  -- one text is never taken for two images, whatever part and M it is read for and whatever the buffers
+  pub one-image : (part macros part′ macros′ : ℕ) (text : List ℕ) (room room′ : ℕ) (h h′ : Header) (bytes bytes′ : List ℕ) → Takes part macros text room h bytes
+      → Takes part′ macros′ text room′ h′ bytes′
       → (h ≡ h′) × (bytes ≡ bytes′)
   -- what is taken passes the checks of writing and starting: 11, 12, 6 to 10
   pub sound : (part macros : ℕ) (text : List ℕ) (room : ℕ) (h : Header) (bytes : List ℕ) → Takes part macros text room h bytes → imageFault h bytes ≡ 0

@@ -6,6 +6,7 @@ use native.Mathlib.Nat.{le-refl}
 use native.Mathlib.Omega.{arith}
 use lib.ListN.{length, take, drop, length-append, length-take, length-drop}
 use lib.Seq.{take-append-seam, length-take-le}
+use Rattle.hex.proofs.Taken.{taken-from, one-image}
 use Rattle.hex.specs.Claims.{Takes}
 use Rattle.hex.specs.Texts.{events, hexReading}
 use Rattle.hex.specs.Written.{textOf, textLength}
@@ -15,7 +16,6 @@ use Rattle.hex_writer.proofs.Data.{data-bytes}
 use Rattle.hex_writer.proofs.Lengths.{text-length}
 use Rattle.hex_writer.proofs.RoundTrip as trip
 use Rattle.hex_writer.proofs.Entries.{longest}
-use Rattle.hex_writer.proofs.Taken.{taken-from, one-image}
 use Rattle.hex_writer.proofs.Written.{written-from, writes, some-number}
 use Rattle.image.specs.Sections.{sectionsOf, headerOf}
 use Rattle.image.specs.declared.Header.{Header}
@@ -137,6 +137,5 @@ writing-claims = record {
   calls = calls;
   different = different;
   alike = alike;
-  one-image = one-image;
   again = again;
 }

@@ -57,10 +57,6 @@ pub record WritingClaims : Type 0 where
       → (h ≡ h′) × (bytes ≡ bytes′)
   -- two texts of one image are written alike
   pub alike : (h : Header) (bytes : List ℕ) (room room′ : ℕ) (text text′ : List ℕ) → Writes h bytes room text → Writes h bytes room′ text′ → text ≡ text′
-  -- reading takes one text for one image only, whatever part and M it is read for
-  pub one-image : (part macros part′ macros′ : ℕ) (text : List ℕ) (room room′ : ℕ) (h h′ : Header) (bytes bytes′ : List ℕ) → Takes part macros text room h bytes
-      → Takes part′ macros′ text room′ h′ bytes′
-      → (h ≡ h′) × (bytes ≡ bytes′)
   -- a taken text, written again, is the written form of its image, which reads as that image
   pub again : (part macros : ℕ) (text : List ℕ) (space : ℕ) (h : Header) (bytes : List ℕ) (room : ℕ) → Takes part macros text space h bytes → 289234 ≤ room
       → WrittenAgain part macros h bytes room

@@ -1,7 +1,7 @@
 -- Document 01, 'Parts': an image as a header beside lent bytes. Assumes nothing.
 use mathlib.Core.List.{List, _++_}
 use Prim.Native.Nat.{ℕ, _*_}
-use lib.ListN.{take, drop}
+use lib.ListN.{take, drop, replicate}
 use Rattle.image.specs.declared.Header.{Header}
 use Rattle.parts.specs.Sizes.{rowBytes, flashSize}
 use Rattle.parts.specs.declared.Geometry.{Geometry}
@@ -19,6 +19,10 @@ flashIn g bytes = take (flashSize g) bytes
 
 abbrev pub protectionIn : Geometry → List ℕ → List ℕ
 protectionIn g bytes = drop (flashSize g) bytes
+
+-- 'A record .. given with a refusal is all 0'
+abbrev pub noHeader : Header
+noHeader = record { part = 0; macros = 0; sum = 0; metadata = replicate 12 0; level = 0 }
 
 abbrev pub imageOf : Geometry → Header → List ℕ → Image
 imageOf g h bytes = record { geometry = g; header = h; flash = flashIn g bytes; protection = protectionIn g bytes }

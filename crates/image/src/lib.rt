@@ -2,16 +2,26 @@
 ghost use mathlib.Core.Bool.{not};
 ghost use mathlib.Core.List.{[], _∷_, _++_};
 ghost use mathlib.Core.Path.{_≡_};
-ghost use Prim.Native.Nat.{_+_, _*_, _/_, _%_, _≤_, _<_};
+ghost use Prim.Native.Nat.{_%_, _≤_};
 ghost use lib.ListN.{length, getD};
-ghost use Rattle.image.specs.Checks.{versionFits, imageIdFits, levelFits, sumFits, rowWords, cancels, someCancels, contentChecks, imageFault};
+ghost use Rattle.image.specs.Checks.{versionFits, imageIdFits, levelFits, sumFits, cancels, someCancels, contentChecks, imageFault};
 ghost use Rattle.image.specs.Refusals.{firstRefusal};
 ghost use Rattle.image.specs.Sections.{sectionsOf, noSection, headerBytes, headerOf};
-ghost use Rattle.image.specs.Words.{total, allZero, wordAt};
+ghost use Rattle.image.specs.Words.{total, wordAt};
 ghost use Rattle.parts.specs.Sizes.{rowBytes, rowsOf, flashSize};
+
+mod bytes;
+mod rows;
+
+use bytes::wide;
+use bytes::word_of;
+use bytes::word_past;
 use parts::Geometry;
 use parts::Level;
 use parts::Lookup;
+use rows::all_zero;
+use rows::some_cancels;
+use rows::words_sum;
 
 // What is known of an image beside its bytes (document 01's 'record' of an image).
 pub struct Header {
@@ -36,26 +46,6 @@ pub struct Section {
     pub offset: usize,
 }
 
-// The byte at an offset, and 0 past the end.
-fn byte_at(bytes: &[u8], at: usize) -> u8
-    ensures { λ r. ⌜ r ≡ getD (now (bytes .entry)) at 0 ⌝ }
-{
-    if at < bytes.len() { bytes[at] } else { 0 }
-}
-
-fn wide(b: u8) -> u32
-    ensures { λ r. ⌜ r ≡ b ⌝ ∗ ⌜ r < 256 ⌝ }
-{
-    b as u32
-}
-
-// A word of four bytes, the low one first.
-fn word_of(a: u8, b: u8, c: u8, d: u8) -> u32
-    ensures { λ r. ⌜ r ≡ a + 256 * b + 65536 * c + 16777216 * d ⌝ }
-{
-    wide(a) + 256 * wide(b) + 65536 * wide(c) + 16777216 * wide(d)
-}
-
 // The word at an offset; bytes past the end count as 0.
 pub fn word_at(bytes: &[u8], at: usize) -> u32
     ensures { λ r. ⌜ r ≡ wordAt (now (bytes .entry)) at ⌝ }
@@ -68,22 +58,6 @@ pub fn word_at(bytes: &[u8], at: usize) -> u32
         return word_past(bytes, at);
     }
     word_of(bytes[at], bytes[at + 1], bytes[at + 2], bytes[at + 3])
-}
-
-// The same near or past the end.
-fn word_past(bytes: &[u8], at: usize) -> u32
-    ensures { λ r. ⌜ r ≡ wordAt (now (bytes .entry)) at ⌝ }
-{
-    let n = bytes.len();
-    if n <= at {
-        return 0;
-    }
-    word_of(
-        bytes[at],
-        byte_at(bytes, at + 1),
-        byte_at(bytes, at + 2),
-        byte_at(bytes, at + 3),
-    )
 }
 
 // The sum of bytes, modulo 65536.
@@ -99,61 +73,12 @@ pub fn sum_of(bytes: &[u8]) -> u16
     sum as u16
 }
 
-// The sum of a row's words, modulo 2^32.
-fn words_sum(row: &[u8]) -> u32
-    ensures { λ r. ⌜ r ≡ total (rowWords (now (row .entry))) % 4294967296 ⌝ }
-{
-    let mut sum: u32 = 0;
-    let mut at: usize = 0;
-    let mut left = row.len() / 4;
-    while 0 < left {
-        sum = std::num::wrapping_add_u32(sum, word_at(row, at));
-        at += 4;
-        left -= 1;
-    }
-    sum
-}
-
-// Whether all words of a row are 0.
-fn all_zero(row: &[u8]) -> bool
-    ensures { λ r. ⌜ r ≡ allZero (rowWords (now (row .entry))) ⌝ }
-{
-    let mut at: usize = 0;
-    let mut left = row.len() / 4;
-    while 0 < left {
-        if word_at(row, at) != 0 {
-            return false;
-        }
-        at += 4;
-        left -= 1;
-    }
-    true
-}
-
 // Whether a row's words add to 0 modulo 2^32 without all being 0 (number 10).
 pub fn row_cancels(row: &[u8]) -> bool
     ensures { λ r. ⌜ r ≡ cancels (now (row .entry)) ⌝ }
 {
     if words_sum(row) == 0 {
         return !all_zero(row);
-    }
-    false
-}
-
-// Whether one of the first n rows cancels.
-fn some_cancels(bytes: &[u8], n: u32, size: usize) -> bool
-    requires { ⌜ n * size ≤ length (now bytes) ⌝ }
-    ensures { λ r. ⌜ r ≡ someCancels size n (now (bytes .entry)) ⌝ }
-{
-    let mut at: usize = 0;
-    let mut left = n;
-    while 0 < left {
-        let end = at + size;
-        if row_cancels(&bytes[at..end]) {
-            return true;
-        }
-        at = end;
-        left -= 1;
     }
     false
 }
@@ -247,48 +172,40 @@ pub fn check(h: Header, bytes: &[u8]) -> u8
     }
 }
 
+fn in_image(address: u32, size: usize, offset: usize) -> Section
+    ensures { λ s. ⌜ s ≡ record { address = address; size = size; home = Home.InImage; offset = offset } ⌝ }
+{
+    Section {
+        address: address,
+        size: size,
+        home: Home::InImage,
+        offset: offset,
+    }
+}
+
+fn in_header(address: u32, size: usize, offset: usize) -> Section
+    ensures { λ s. ⌜ s ≡ record { address = address; size = size; home = Home.InHeader; offset = offset } ⌝ }
+{
+    Section {
+        address: address,
+        size: size,
+        home: Home::InHeader,
+        offset: offset,
+    }
+}
+
 // The k-th section of an image's text, and an empty one past the last.
 pub fn section_at(g: Geometry, k: usize) -> Section
     ensures { λ s. ⌜ s ≡ getD (sectionsOf g) k noSection ⌝ }
 {
     let flash = parts::flash_size(g);
     match k {
-        0 => Section {
-            address: 0,
-            size: flash,
-            home: Home::InImage,
-            offset: 0,
-        },
-        1 => Section {
-            address: 0x90300000,
-            size: 2,
-            home: Home::InHeader,
-            offset: 0,
-        },
-        2 => Section {
-            address: 0x90400000,
-            size: parts::lock_total(g),
-            home: Home::InImage,
-            offset: flash,
-        },
-        3 => Section {
-            address: 0x90500000,
-            size: 12,
-            home: Home::InHeader,
-            offset: 2,
-        },
-        4 => Section {
-            address: 0x90600000,
-            size: 1,
-            home: Home::InHeader,
-            offset: 14,
-        },
-        _ => Section {
-            address: 0,
-            size: 0,
-            home: Home::InImage,
-            offset: 0,
-        },
+        0 => in_image(0, flash, 0),
+        1 => in_header(0x90300000, 2, 0),
+        2 => in_image(0x90400000, parts::lock_total(g), flash),
+        3 => in_header(0x90500000, 12, 2),
+        4 => in_header(0x90600000, 1, 14),
+        _ => in_image(0, 0, 0),
     }
 }
 

@@ -1,11 +1,11 @@
 -- How many moves each list has: decided by the geometry alone. Assumes nothing.
 use mathlib.Core.List.{List, [], _∷_}
-use mathlib.Core.Path.{_≡_, refl, sym, ap, _∙_}
+use mathlib.Core.Path.{_≡_, refl, sym, _∙_}
 use Prim.Native.Nat.{ℕ, _+_, _*_, _/_}
 use native.Mathlib.Omega.{arith}
 use lib.ListN.{length, length-append}
 use Rattle.flow.proofs.Counting.{length-words}
-use Rattle.flow.specs.Sequence.{key, write, read, call, writes, listed, pieces, imoCall, silicon, privileged, latchList, programRow, compareWord, verifyFlash, lockStart, lockMacro, verifyMacro, program, opening, afterwards, sequence}
+use Rattle.flow.specs.Sequence.{key, write, read, call, writes, listed, pieces, imoCall, privileged, latchList, programRow, compareWord, verifyFlash, lockStart, lockMacro, verifyMacro, program, opening, afterwards, sequence}
 use Rattle.flow.specs.declared.Entry.{Entry}
 use Rattle.flow.specs.declared.Entry.the-variants.{FromOpen, FromProtected}
 use Rattle.flow.specs.declared.Purpose.{Purpose}

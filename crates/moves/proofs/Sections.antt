@@ -6,7 +6,6 @@ use native.Mathlib.Nat.{mul-le-mul, mul-le-mul-left, mul-le-mul-right, mod-lt, z
 use native.Mathlib.Omega.{arith}
 use lib.ListN.{length, getD, take, drop}
 use Rattle.flow.specs.Sequence.{key, read, call, listed, pieces, latchList, programRow, compareWord, verifyFlash, lockStart, lockMacro, verifyMacro, endMove}
-use Rattle.flow.specs.declared.Move.{Move}
 use Rattle.flow.specs.declared.Purpose.the-variants.{Same}
 use Rattle.image.specs.Image.{Image, imageOf}
 use Rattle.image.specs.Words.{wordAt}

@@ -1,13 +1,12 @@
 -- Every geometry of the part table is handled. Assumes nothing.
 use mathlib.Core.Bool.{Bool, true, false, _&&_, cond}
-use mathlib.Core.List.{List, [], _∷_}
+use mathlib.Core.List.{List}
 use mathlib.Core.Path.{_≡_, refl, ap, _∙_}
-use Prim.Native.Nat.{ℕ, _≤_}
-use native.Mathlib.Omega.{arith}
+use Prim.Native.Nat.{ℕ}
 use lib.Dec.{eqb, leb}
 use lib.ListN.{length}
-use borrow.Author.Tests.{leb-true, le-leb, eq-eqb, ne-eqb}
-use Rattle.parts.proofs.Table.{both, everywhere, at-found}
+use borrow.Author.Tests.{leb-true, eq-eqb, ne-eqb}
+use Rattle.parts.proofs.Table.{both, at-found}
 use Rattle.flow.specs.Sequence.{endMove}
 use Rattle.flow.specs.Session.{moveAt}
 use Rattle.flow.specs.declared.Entry.{Entry}
@@ -20,7 +19,6 @@ use Rattle.parts.specs.Parts.{lookupOf}
 use Rattle.parts.specs.Sizes.{rowBytes, macrosOf, rowsPerMacro, sysreqOf, imageSize}
 use Rattle.parts.specs.declared.Geometry.{Geometry}
 use Rattle.parts.specs.declared.Lookup.the-variants.{Found}
-use Rattle.parts.specs.declared.Part.{Part}
 
 -- the tests as facts
 pub handled : (g : Geometry) → sizesHandled g ≡ true → addressesHandled g ≡ true → Handled g

@@ -8,7 +8,7 @@ use Rattle.flow.specs.Sequence.{sequence, opening, program, endMove}
 use Rattle.flow.specs.Session.{moveAt}
 use Rattle.flow.specs.declared.Entry.{Entry}
 use Rattle.flow.specs.declared.Move.{Move}
-use Rattle.image.specs.Image.{Image, imageOf}
+use Rattle.image.specs.Image.{Image, imageOf, noHeader}
 use Rattle.image.specs.declared.Header.{Header}
 use Rattle.moves.specs.Handled.{handles}
 use Rattle.parts.specs.Sizes.{imageSize}
@@ -20,7 +20,7 @@ moveOf g h bytes y n = cond (handles g && eqb (length bytes) (imageSize g)) (mov
 
 -- an image without bytes: how many moves there are is decided by the geometry alone (proofs/Counts)
 abbrev pub bare : Geometry → Image
-bare g = imageOf g (record { part = 0; macros = 0; sum = 0; metadata = []; level = 0 }) []
+bare g = imageOf g noHeader []
 
 abbrev pub moveCount : Geometry → Entry → ℕ
 moveCount g y = length (sequence (bare g) y)

@@ -1,18 +1,17 @@
 -- What the code's step comes to is the flow's step; and the bounds of a geometry of the table. Assumes nothing.
 use mathlib.Core.Bool.{Bool, true, false, _&&_, cond}
 use mathlib.Core.List.{List, []}
-use mathlib.Core.Path.{_≡_, refl, sym, ap, _∙_}
-use Prim.Native.Nat.{ℕ, suc, _+_, _<_, _^_}
+use mathlib.Core.Path.{_≡_, refl, ap, _∙_}
+use Prim.Native.Nat.{ℕ, suc, _+_, _*_, _<_, _^_}
 use native.Mathlib.Numerals.{add-one}
 use native.Mathlib.Omega.{arith}
 use borrow.Author.Tests.{ltb-true}
 use lib.Dec.{ltb}
-use Rattle.flow.specs.Judge.{judge}
+use Rattle.flow.proofs.Table.{facts}
 use Rattle.flow.specs.Monitor.{isReset, isAttempt}
 use Rattle.flow.specs.Packets.{Verdict, okay, again, broken, verdict}
 use Rattle.flow.specs.Plan.{plan, loops, acquisitions, mostTraffic}
-use Rattle.flow.specs.Session.{running, reported, moveAt, heardBy, stepOf}
-use Rattle.flow.specs.Session as Flow
+use Rattle.flow.specs.Session.{running, moveAt, heardBy, stepOf}
 use Rattle.flow.specs.declared.Answer.{Answer}
 use Rattle.flow.specs.declared.Entry.{Entry}
 use Rattle.flow.specs.declared.Entry.the-variants.{FromOpen, FromProtected}
@@ -20,13 +19,14 @@ use Rattle.flow.specs.declared.Move.{Move}
 use Rattle.flow.specs.declared.Purpose.{Purpose}
 use Rattle.image.specs.Image.{Image, imageOf}
 use Rattle.image.specs.declared.Header.{Header}
+use Rattle.moves.specs.Moves.{moveCount}
 use Rattle.parts.proofs.Table.{both, everywhere, at-found}
 use Rattle.parts.specs.Parts.{partTable, lookupOf}
 use Rattle.parts.specs.Sizes.{rowsOf, locksIn}
 use Rattle.parts.specs.declared.Geometry.{Geometry}
 use Rattle.parts.specs.declared.Lookup.the-variants.{Found}
-use Rattle.session.specs.Nexts.{nextOf, nextBy, resetNext, standAfter, actOn}
-use Rattle.session.specs.Possible.{movesIn, possibleIn}
+use Rattle.session.specs.Nexts.{nextBy, resetNext, standAfter, actOn}
+use Rattle.session.specs.Possible.{possibleIn}
 use Rattle.session.specs.Ranges.{InRange}
 use Rattle.session.specs.Sessions.{standOf, mostOf}
 use Rattle.session.specs.declared.Next.{Next}
@@ -34,12 +34,13 @@ use Rattle.session.specs.declared.Progress.{Progress}
 use Rattle.session.specs.declared.Session.{Session}
 use Rattle.session.proofs.Closed.{Within}
 use Rattle.session.proofs.Nexts.{judge-header, stand-heard}
+use Rattle.session.proofs.Places.{planned}
 use Rattle.session.proofs.Possibility.{parts, stands-of}
 
 -- ---- bounds of the table
 
 fits : Geometry → Bool
-fits g = ltb (mostOf g) (2 ^ 32) && (ltb (movesIn g FromOpen) (2 ^ 31) && ltb (movesIn g FromProtected) (2 ^ 31))
+fits g = ltb (mostOf g) (2 ^ 32) && (ltb (plan g FromOpen + 2) (2 ^ 31) && ltb (plan g FromProtected + 4) (2 ^ 31))
 
 table-fits : everywhere fits partTable ≡ true
 unfolding fits mostTraffic plan loops rowsOf locksIn
@@ -50,12 +51,16 @@ module _ (n m : ℕ) {g : Geometry} (found : lookupOf n m ≡ Found g) where
   unfolding fits
   most-small = ltb-true _ _ ((both (ltb (mostOf g) (2 ^ 32)) _ (at-found fits table-fits n m found)) .0)
 
-  pub moves-small : (y : Entry) → movesIn g y < 2 ^ 31
+  moves-small : (y : Entry) → moveCount g y < 2 ^ 31
   unfolding fits
-  moves-small FromOpen =
-      ltb-true _ _ ((both (ltb (movesIn g FromOpen) (2 ^ 31)) _ ((both (ltb (mostOf g) (2 ^ 32)) _ (at-found fits table-fits n m found)) .1)) .0)
-  moves-small FromProtected =
-      ltb-true _ _ ((both (ltb (movesIn g FromOpen) (2 ^ 31)) _ ((both (ltb (mostOf g) (2 ^ 32)) _ (at-found fits table-fits n m found)) .1)) .1)
+  moves-small y = by y (planned g (facts n m g found) y)
+    where
+      rest : (ltb (plan g FromOpen + 2) (2 ^ 31) && ltb (plan g FromProtected + 4) (2 ^ 31)) ≡ true
+      rest = (both (ltb (mostOf g) (2 ^ 32)) _ (at-found fits table-fits n m found)) .1
+
+      by : (y : Entry) → moveCount g y ≡ plan g y + 2 * acquisitions y → moveCount g y < 2 ^ 31
+      by FromOpen e = let s = ltb-true (plan g FromOpen + 2) (2 ^ 31) ((both (ltb (plan g FromOpen + 2) (2 ^ 31)) _ rest) .0) in omega arith
+      by FromProtected e = let s = ltb-true (plan g FromProtected + 4) (2 ^ 31) ((both (ltb (plan g FromOpen + 2) (2 ^ 31)) _ rest) .1) in omega arith
 
 -- a possible session's counts are in range
 pub in-range : (g : Geometry) (s : Session) → lookupOf (s .header .part) (s .header .macros) ≡ Found g → possibleIn g s ≡ true → s .finished ≡ false

@@ -1,19 +1,17 @@
 -- 13 is closed under steps: what an answer makes of a possible session is possible, also of one that nobody's start gave.
 -- Assumes nothing.
-use mathlib.Core.Bool.{Bool, true, false, false≢true, _&&_, _||_, cond}
-use mathlib.Core.List.{List}
+use mathlib.Core.Bool.{Bool, true, false, false≢true, cond}
 use mathlib.Core.Path.{_≡_, refl, sym, ap, _∙_}
-use Prim.Native.Nat.{ℕ, zero, suc, _+_, _*_, _-_, _/_, _%_, _≤_, _<_}
+use Prim.Native.Nat.{ℕ, suc, _-_, _≤_, _<_}
 use native.Mathlib.Omega.{arith}
-use borrow.Author.Tests.{lt-ltb, le-leb, eq-eqb, ne-eqb, ltb-true, leb-true}
-use lib.Dec.{eqb, leb, ltb, lit≤}
+use borrow.Author.Tests.{le-leb, eq-eqb, ne-eqb, ltb-true}
+use lib.Dec.{eqb, ltb, lit≤}
 use lib.ListN.{length}
-use Rattle.flow.proofs.Table.{Facts}
 use Rattle.flow.specs.Judge.{Judged, go, pollAgain, enter, report, judge, goIf, polled, entryBy, free, testBitSet, succeeded, idsFit, levelIn, storedIn, sumsFit}
 use Rattle.flow.specs.Monitor.{isReset, isAttempt}
 use Rattle.flow.specs.Packets.{Verdict, okay, again, broken, heard, verdict, isRead, replyIn}
-use Rattle.flow.specs.Sequence.{opening, endMove}
-use Rattle.flow.specs.Session.{running, reported, moveAt, settled, tryAgain, waitAgain, heardBy, act, stepOf}
+use Rattle.flow.specs.Sequence.{opening}
+use Rattle.flow.specs.Session.{running, reported, moveAt, settled, tryAgain, waitAgain, heardBy, stepOf}
 use Rattle.flow.specs.Session as Flow
 use Rattle.flow.specs.declared.Answer.{Answer}
 use Rattle.flow.specs.declared.Entry.{Entry}
@@ -23,15 +21,16 @@ use Rattle.flow.specs.declared.Purpose.{Purpose}
 use Rattle.flow.specs.declared.Purpose.the-variants.{Sent, Idcode, TestBit, Poll, Status, Keep, EntryLevel, Reopened, Same, StoredLevel, LastSum}
 use Rattle.flow.specs.declared.Request.{Request}
 use Rattle.image.specs.Image.{Image}
-use Rattle.session.specs.Possible.{movesIn, reportFits}
-use Rattle.session.proofs.Moves.{Proper, Reports}
-use Rattle.session.proofs.Places.{lastMove, has-next, opening-in, proper-at}
+use Rattle.session.specs.Possible.{reportFits}
+use Rattle.flow.proofs.Moves.{Proper, Reports, proper-at}
+use Rattle.moves.specs.Moves.{moveCount}
+use Rattle.session.proofs.Places.{has-next, opening-in}
 use Rattle.wire.specs.Wire.{parity, ackOf}
 use Rattle.wire.specs.declared.Ack.{Ack}
 use Rattle.wire.specs.declared.Ack.the-variants.{Okay, Wait, Fault, Silence}
 
 pub record Within (i : Image) (y : Entry) (n w p a : ℕ) : Type 0 where
-  pub at : n < movesIn (i .geometry) y
+  pub at : n < moveCount (i .geometry) y
   pub waits : w ≤ 16
   pub polls : p < 10000
   pub attempts : a < 30
@@ -89,33 +88,33 @@ line-verdict : (q : Request) (r : Answer) → Line (verdict q r)
 unfolding verdict
 line-verdict q r = line-heard (isRead q) (ackOf ((replyIn r) .ack)) ((replyIn r) .word) ((replyIn r) .parity)
 
-module _ (i : Image) (f : Facts (i .geometry)) (y : Entry) (n : ℕ) (inside : n < movesIn (i .geometry) y) where
-  p-at : Proper (n < length (opening i)) (moveAt i y n)
-  p-at = proper-at i f y n inside
+module _ (i : Image) (y : Entry) (n : ℕ) (inside : n < moveCount (i .geometry) y) where
+  p-at : Proper (suc n ≡ length (opening i)) (moveAt i y n)
+  p-at = proper-at i y n
 
   -- where a judged word leads, for the purpose of the move
   Allowed : Judged → (step : ℕ) → Type 0
-  Allowed (go p k) s = (suc n < movesIn (i .geometry) y) × (p < 10000)
+  Allowed (go p k) s = (suc n < moveCount (i .geometry) y) × (p < 10000)
   Allowed (pollAgain p k) s = p < 10000
-  Allowed (enter e p k) s = (suc n < movesIn (i .geometry) e) × (p < 10000)
+  Allowed (enter e p k) s = (suc n < moveCount (i .geometry) e) × (p < 10000)
   Allowed (report x) s = reportFits x s ≡ true
 
   module _ (s : ℕ) (low : 1 ≤ s) (high : s ≤ 9) (p k : ℕ) (small : p < 10000) where
-    allow-if : (b : Bool) (x : ℕ) → suc n < movesIn (i .geometry) y → Numbered x → Allowed (goIf b x p k) s
+    allow-if : (b : Bool) (x : ℕ) → suc n < moveCount (i .geometry) y → Numbered x → Allowed (goIf b x p k) s
     unfolding Allowed
     allow-if true x nx h = (nx, small)
     allow-if false x nx h = numbered x s h low high
 
-    allow-poll : (b c : Bool) → ltb (suc p) 10000 ≡ c → suc n < movesIn (i .geometry) y → Allowed (polled b c p k) s
+    allow-poll : (b c : Bool) → ltb (suc p) 10000 ≡ c → suc n < moveCount (i .geometry) y → Allowed (polled b c p k) s
     unfolding Allowed
     allow-poll true c e nx = (nx, lit≤ tt)
     allow-poll false true e nx = ltb-true (suc p) 10000 e
     allow-poll false false e nx = numbered 18 s (lit≤ tt, lit≤ tt) low high
 
-    allow-entry : (l : ℕ) (b c : Bool) → eqb l 1 ≡ b → eqb l 2 ≡ c → n < length (opening i) → Allowed (entryBy l p k) s
+    allow-entry : (l : ℕ) (b c : Bool) → eqb l 1 ≡ b → eqb l 2 ≡ c → suc n ≡ length (opening i) → Allowed (entryBy l p k) s
     unfolding Allowed
-    allow-entry l true c d e o = rw d (omega (arith, opening-in i f FromOpen), small)
-    allow-entry l false true d e o = rw (d, e) (omega (arith, opening-in i f FromProtected), small)
+    allow-entry l true c d e o = rw d (omega (arith, opening-in i FromOpen), small)
+    allow-entry l false true d e o = rw (d, e) (omega (arith, opening-in i FromProtected), small)
     allow-entry l false false d e o = rw (d, e) (numbered 21 s (lit≤ tt, lit≤ tt) low high)
 
     allow-either : (b : Bool) (j j′ : Judged) → Allowed j s → Allowed j′ s → Allowed (cond b j j′) s
@@ -126,7 +125,7 @@ module _ (i : Image) (f : Facts (i .geometry)) (y : Entry) (n : ℕ) (inside : n
     unfolding Allowed
     allow-report x h = numbered x s h low high
 
-    allowed : (u : Purpose) (w : ℕ) → Reports (n < length (opening i)) u s → (isLast u ≡ false → suc n < movesIn (i .geometry) y)
+    allowed : (u : Purpose) (w : ℕ) → Reports (suc n ≡ length (opening i)) u s → (isLast u ≡ false → suc n < moveCount (i .geometry) y)
         → Allowed (judge i u p k w) s
     unfolding judge Allowed
     allowed Sent w r nx = (nx refl, small)
@@ -151,8 +150,8 @@ module _ (i : Image) (f : Facts (i .geometry)) (y : Entry) (n : ℕ) (inside : n
     abbrev m : Move
     m = moveAt i y n
 
-    next-of : isLast (m .purpose) ≡ false → suc n < movesIn (i .geometry) y
-    next-of e = has-next i f y n inside (λ q. false≢true (sym e ∙ ap (λ (x : Move). isLast (x .purpose)) q))
+    next-of : isLast (m .purpose) ≡ false → suc n < moveCount (i .geometry) y
+    next-of e = has-next i y n inside (λ q. false≢true (sym e ∙ ap (λ (x : Move). isLast (x .purpose)) q))
 
     settle : (j : Judged) (a′ t : ℕ) → a′ < 30 → Allowed j (m .step) → Stands i (settled j y n (m .step) a′ t)
     unfolding Allowed
@@ -183,11 +182,11 @@ module _ (i : Image) (f : Facts (i .geometry)) (y : Entry) (n : ℕ) (inside : n
     reset-in : (b : Bool) (r : Answer) (t : ℕ) → isReset (m .request) ≡ b
         → Stands i (cond b (running y (suc n) w p a k t) (heardBy (isAttempt (m .request)) i m (verdict (m .request) r) y n w p a k (suc t)))
     reset-in true r t e =
-        record { at = has-next i f y n inside (λ q. false≢true (ap (λ (x : Move). isReset (x .request)) (sym q) ∙ e)); waits = h .waits; polls = h .polls; attempts = h .attempts }
+        record { at = has-next i y n inside (λ q. false≢true (ap (λ (x : Move). isReset (x .request)) (sym q) ∙ e)); waits = h .waits; polls = h .polls; attempts = h .attempts }
     reset-in false r t e = heard-in (isAttempt (m .request)) (verdict (m .request) r) (suc t) (line-verdict (m .request) r)
 
 -- a step keeps what 13 asks
-pub step-stands : (i : Image) → Facts (i .geometry) → (x : Flow.Session) (r : Answer) → Stands i x → Stands i (stepOf i x r)
+pub step-stands : (i : Image) (x : Flow.Session) (r : Answer) → Stands i x → Stands i (stepOf i x r)
 unfolding stepOf
-step-stands i f (running y n w p a k t) r h = reset-in i f y n (h .at) w p a k h (isReset ((moveAt i y n) .request)) r t refl
-step-stands i f (reported x s t) r h = h
+step-stands i (running y n w p a k t) r h = reset-in i y n (h .at) w p a k h (isReset ((moveAt i y n) .request)) r t refl
+step-stands i (reported x s t) r h = h

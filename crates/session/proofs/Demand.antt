@@ -1,47 +1,37 @@
 -- Demand 3 over calls, from demand 3 on the definitions. Assumes nothing.
-use mathlib.Core.Bool.{Bool, true, false, false≢true, _&&_, cond}
-use mathlib.Core.List.{List, _∷_}
-use mathlib.Core.Logic.{_⊎_, _↔_}
+use mathlib.Core.Bool.{Bool, true, false, cond}
+use mathlib.Core.List.{List}
 use mathlib.Core.Path.{_≡_, refl, sym, ap, subst, _∙_}
-use Prim.Native.Nat.{ℕ, zero, suc, _+_, _*_, _≤_, _<_}
+use Prim.Native.Nat.{ℕ, zero, suc, _≤_, _<_}
 use native.Mathlib.Omega.{arith}
-use borrow.Author.Tests.{eq-eqb, eqb-true, lt-ltb}
-use lib.Dec.{eqb, leb, lit≤}
-use lib.ListN.{length}
+use borrow.Author.Tests.{lt-ltb}
 use Rattle.flow.proofs.Demand.{demand3-holds}
-use Rattle.flow.proofs.Passing.{table-facts}
-use Rattle.flow.proofs.Table.{facts}
-use Rattle.flow.specs.Claim as Flows
-use Rattle.flow.specs.Claim.{Passes, Startable, RightPart, NoError, Calm, entryOf, delaysIn}
-use Rattle.flow.specs.Monitor.{linkError}
-use Rattle.flow.specs.Plan.{Traffic, counting, plan, loops, acquisitions, fromProtected, mostTraffic}
-use Rattle.flow.specs.Run.{Run, advance, after, started, handedOutBy, handedOut}
+use Rattle.flow.specs.Claim.{Passes, Startable, entryOf}
+use Rattle.flow.specs.Plan.{Traffic, counting, plan, loops, mostTraffic}
+use Rattle.flow.specs.Run.{Run, advance, after, started, handedOutBy}
 use Rattle.flow.specs.Sequence.{sequence, opening, acquire}
-use Rattle.flow.specs.Session.{running, reported, moveAt, firstSession}
+use Rattle.flow.specs.Session.{running, reported, moveAt}
 use Rattle.flow.specs.Session as Flow
 use Rattle.flow.specs.Target.{Target, Lists}
 use Rattle.flow.specs.declared.Entry.{Entry}
 use Rattle.flow.specs.declared.Entry.the-variants.{FromOpen, FromProtected}
 use Rattle.flow.specs.declared.Request.{Request}
 use Rattle.flow.specs.declared.Request.the-variants.{Xres, LineReset, ReadIdcode, ReadDrw, WriteTar, WriteDrw, WriteSetup}
-use Rattle.image.proofs.Refusals.{passes}
-use Rattle.image.specs.Checks.{versionFits, imageIdFits, levelFits, contentChecks, faultIn, imageFault}
+use Rattle.image.proofs.Refusals.{Passed, all-passed}
+use Rattle.image.specs.Checks.{imageFault}
 use Rattle.image.specs.Image.{Image, imageOf}
-use Rattle.image.specs.Refusals.{_unless_, firstRefusal}
 use Rattle.image.specs.declared.Header.{Header}
+use Rattle.moves.specs.Moves.{moveCount}
 use Rattle.parts.specs.Parts.{lookupOf}
-use Rattle.parts.specs.Sizes.{imageSize}
 use Rattle.parts.specs.declared.Geometry.{Geometry}
-use Rattle.parts.specs.declared.Lookup.{Lookup}
 use Rattle.parts.specs.declared.Lookup.the-variants.{Found}
-use Rattle.session.specs.Calls.{State, Steps, begun}
-use Rattle.session.specs.Claim.{most, Demand3, Demand3Holds}
+use Rattle.session.specs.Calls.{State, begun}
+use Rattle.session.specs.Claim.{Demand3, Demand3Holds}
 use Rattle.session.specs.Given.{startOf, startedOn, startRefused, wantsLeave, outcomeAt}
-use Rattle.session.specs.Possible.{headerFits, movesIn, progressFits, possibleIn}
-use Rattle.session.specs.Sessions.{standOf, mostOf, atStart, firstFor}
+use Rattle.session.specs.Possible.{headerFits, progressFits, possibleIn}
+use Rattle.session.specs.Sessions.{mostOf, atStart, firstFor}
 use Rattle.session.specs.declared.Given.{Given}
-use Rattle.session.specs.declared.Outcome.{Outcome}
-use Rattle.session.specs.declared.Outcome.the-variants.{Refused, Ask, Told}
+use Rattle.session.specs.declared.Outcome.the-variants.{Refused, Told}
 use Rattle.session.specs.declared.Report.{Report}
 use Rattle.session.proofs.Counted.{countIn, count-step}
 use Rattle.session.proofs.Following.{Follows, follow}
@@ -52,25 +42,17 @@ use Rattle.session.proofs.Stepping.{not-refused}
 -- ---- what an image that passes says
 
 module _ (g : Geometry) (h : Header) (bytes : List ℕ) (found : lookupOf (h .part) (h .macros) ≡ Found g) (none : imageFault h bytes ≡ 0) where
-  checked : firstRefusal ((12 unless eqb (length bytes) (imageSize g)) ∷ contentChecks g h bytes) ≡ 0
-  checked = ap (λ (x : Lookup). faultIn x h bytes) (sym found) ∙ none
-
-  size : length bytes ≡ imageSize g
-  size = eqb-true (length bytes) (imageSize g) ((passes 12 _ _ (lit≤ tt) checked) .0)
+  all : Passed g h bytes
+  all = all-passed g h bytes found none
 
   header : headerFits g h ≡ true
-  header =
-      let t₀ = passes 12 (eqb (length bytes) (imageSize g)) _ (lit≤ tt) checked in
-      let t₁ = passes 6 (versionFits h) _ (lit≤ tt) (t₀ .1) in
-      let t₂ = passes 7 (imageIdFits g h) _ (lit≤ tt) (t₁ .1) in
-      let t₃ = passes 8 (levelFits (h .level)) _ (lit≤ tt) (t₂ .1) in
-      both-true (both-true (t₁ .0) (t₂ .0)) (t₃ .0)
+  header = both-true (both-true (all .version) (all .id)) (all .level)
 
   -- the session that starting gives is possible
   pub first-possible : possibleIn g (firstFor h) ≡ true
   first-possible =
-      let room : 0 < movesIn g FromOpen = omega (arith, opening-in (imageOf g h bytes) (facts (h .part) (h .macros) g found) FromOpen) in
-      let stand : progressFits g FromOpen atStart ≡ true = both-true (both-true (both-true (lt-ltb 0 (movesIn g FromOpen) room) refl) refl) refl in
+      let room : 0 < moveCount g FromOpen = omega (arith, opening-in (imageOf g h bytes) FromOpen) in
+      let stand : progressFits g FromOpen atStart ≡ true = both-true (both-true (both-true (lt-ltb 0 (moveCount g FromOpen) room) refl) refl) refl in
       whole g (firstFor h) (record { header = header; count = omega arith; stands = stand })
 
 -- ---- what an unrefused start says
@@ -89,7 +71,7 @@ module _ (h : Header) (bytes : List ℕ) (none : imageFault h bytes ≡ 0) where
       by false e = is ∙ simp e
 
 module _ (g : Geometry) (h : Header) (bytes : List ℕ) (p : Passes g h bytes) where
-  first-follows : (b : Target) (l : Lists) → Follows g h bytes (table-facts g h bytes p) (p .found) (size g h bytes (p .found) (p .checked)) (begun (startedOn h) b l) (started b l)
+  first-follows : (b : Target) (l : Lists) → Follows g h bytes (p .found) ((all g h bytes (p .found) (p .checked)) .size) (begun (startedOn h) b l) (started b l)
   unfolding sequence opening acquire
   first-follows b l = record {
     header = refl;
@@ -150,7 +132,7 @@ module _ (g : Geometry) (h : Header) (bytes : List ℕ) (p : Passes g h bytes) (
       let d = demand3-holds g h bytes p b may l k in
       omega (arith, count-run i k (started b l) refl, handed-more i (r .session) (r .traffic), d .transfers, most-from g (entryOf b))
 
-  claim : (s : State) → Follows g h bytes (table-facts g h bytes p) (p .found) (size g h bytes (p .found) (p .checked)) s run → Demand3 i b l n s
+  claim : (s : State) → Follows g h bytes (p .found) ((all g h bytes (p .found) (p .checked)) .size) s run → Demand3 i b l n s
   claim s f =
       let d = demand3-holds g h bytes p b may l n in
       let told : (r : Report) → s .stands ≡ Told r → run .session ≡ reported (r .number) (r .step) (r .transfers)
@@ -178,7 +160,7 @@ pub demand3 : Demand3Holds
 demand3 g h bytes leave p free b may l n s steps =
     let i = imageOf g h bytes in
     claim g h bytes p b may l n s
-    (follow g h bytes (table-facts g h bytes p) (p .found) (size g h bytes (p .found) (p .checked)) n (begun (startOf h bytes leave) b l) s (started b l)
-    (subst (λ (r : Given). Follows g h bytes (table-facts g h bytes p) (p .found) (size g h bytes (p .found) (p .checked)) (begun r b l) (started b l))
+    (follow g h bytes (p .found) ((all g h bytes (p .found) (p .checked)) .size) n (begun (startOf h bytes leave) b l) s (started b l)
+    (subst (λ (r : Given). Follows g h bytes (p .found) ((all g h bytes (p .found) (p .checked)) .size) (begun r b l) (started b l))
     (sym (start-gives h bytes (p .checked) leave free)) (first-follows g h bytes p b l))
     (low g h bytes p b may l n) steps)

@@ -11,7 +11,6 @@ use Rattle.parts.specs.Levels.{levelOf}
 use Rattle.parts.specs.declared.Level.{Level}
 use Rattle.parts.specs.declared.Level.the-variants.{Virgin, Open, Protected, Kill, Unknown}
 use Rattle.session.specs.Nexts.{nextOf}
-use Rattle.session.specs.declared.Next.{Next}
 
 abbrev byLevel : Level → (polls kept : ℕ) → Judged
 byLevel Virgin p k = report 21

@@ -1,19 +1,16 @@
 -- Calls follow the run of the flow: what the calls gave is what the run has, step by step. Assumes nothing.
-use mathlib.Core.Bool.{Bool, true, false, false≢true, cond}
+use mathlib.Core.Bool.{Bool, true, false}
 use mathlib.Core.List.{List}
 use mathlib.Core.Path.{_≡_, refl, sym, ap, subst, _∙_}
-use Prim.Native.Nat.{ℕ, zero, suc, _≤_}
+use Prim.Native.Nat.{ℕ, suc, _≤_}
 use native.Mathlib.Omega.{arith}
 use lib.ListN.{length}
-use Rattle.flow.proofs.Table.{Facts}
-use Rattle.flow.specs.Exchange.{Decoded, known, decode, Met, meet, meetOn}
-use Rattle.flow.specs.Monitor.{Monitor, watch}
+use Rattle.flow.specs.Exchange.{known, decode, Met, meet}
 use Rattle.flow.specs.Packets.{packetOf}
-use Rattle.flow.specs.Plan.{Traffic, counting}
-use Rattle.flow.specs.Run.{Run, served, advanceBy, advance, after, handedOutBy, handedOut}
+use Rattle.flow.specs.Plan.{counting}
+use Rattle.flow.specs.Run.{Run, served, advanceBy, advance, after, handedOut}
 use Rattle.flow.specs.Session.{running, reported, moveAt, stepOf}
 use Rattle.flow.specs.Session as Flow
-use Rattle.flow.specs.Target.{Target, Lists}
 use Rattle.flow.specs.declared.Answer.{Answer}
 use Rattle.flow.specs.declared.Entry.{Entry}
 use Rattle.flow.specs.declared.Move.{Move}
@@ -24,7 +21,7 @@ use Rattle.parts.specs.Parts.{lookupOf}
 use Rattle.parts.specs.Sizes.{imageSize}
 use Rattle.parts.specs.declared.Geometry.{Geometry}
 use Rattle.parts.specs.declared.Lookup.the-variants.{Found}
-use Rattle.session.specs.Calls.{State, Steps, none, answer, refusal, later, handing, standing, watching, reaction, answered, called}
+use Rattle.session.specs.Calls.{State, Steps, none, answer, refusal, later, handing, reaction, answered, called}
 use Rattle.session.specs.Given.{answers, outcomeAt, giving, stepWith}
 use Rattle.session.specs.Possible.{possibleIn}
 use Rattle.session.specs.Sessions.{standOf, mostOf, resumed}
@@ -33,9 +30,9 @@ use Rattle.session.specs.declared.Outcome.{Outcome}
 use Rattle.session.specs.declared.Outcome.the-variants.{Refused, Ask, Told}
 use Rattle.session.specs.declared.Report.{Report}
 use Rattle.session.specs.declared.Session.{Session}
-use Rattle.session.proofs.Closed.{Within, Stands}
+use Rattle.session.proofs.Closed.{Within}
 use Rattle.session.proofs.Counted.{countIn, stand-resumed, count-step}
-use Rattle.session.proofs.Places.{proper-at}
+use Rattle.flow.proofs.Moves.{proper-at}
 use Rattle.session.proofs.Possibility.{parts, stands-of, step-possible}
 use Rattle.session.proofs.Stepping.{fits, handing-stands, standing-new, header-kept, step-running, step-finished, given-back}
 
@@ -70,7 +67,7 @@ is-finished s x t c e = by (s .finished) refl
     by true q = q
     by false q = absurd (clash (rw q at e))
 
-module _ (g : Geometry) (h : Header) (bytes : List ℕ) (facts : Facts g) (found : lookupOf (h .part) (h .macros) ≡ Found g)
+module _ (g : Geometry) (h : Header) (bytes : List ℕ) (found : lookupOf (h .part) (h .macros) ≡ Found g)
     (size : length bytes ≡ imageSize g) where
   abbrev i : Image
   i = imageOf g h bytes
@@ -102,7 +99,7 @@ module _ (g : Geometry) (h : Header) (bytes : List ℕ) (facts : Facts g) (found
     inside = rw (f .session ∙ is) at (stands-of g h bytes (s .session) (parts g (s .session) (f .can)))
 
     meant : decode (packetOf (m .request)) ≡ known (m .request)
-    meant = (proper-at i facts y n (inside .at)) .meant
+    meant = (proper-at i y n) .meant
 
     fitting : answers (m .request) (x .answer) ≡ true
     unfolding meet
@@ -130,7 +127,7 @@ module _ (g : Geometry) (h : Header) (bytes : List ℕ) (facts : Facts g) (found
         rw (qe, ee, ve)
         (record {
           header = header-kept g (s .session) new ∙ f .header;
-          can = ap (λ (z : Flow.Session). possibleIn g (resumed g (s .session) z)) (sym stepped) ∙ step-possible g bytes (s .session) (x .answer) facts (f .can);
+          can = ap (λ (z : Flow.Session). possibleIn g (resumed g (s .session) z)) (sym stepped) ∙ step-possible g bytes (s .session) (x .answer) (f .can);
           session = stood;
           stands = rw stood (standing-new i (s .stands) new);
           target = refl;

@@ -7,7 +7,6 @@ use native.Mathlib.Omega.{arith}
 use borrow.Author.Tests.{eqb-true}
 use lib.Dec.{eqb}
 use lib.ListN.{length}
-use Rattle.flow.proofs.Table.{facts}
 use Rattle.flow.specs.Session.{running, reported, moveAt, stepOf}
 use Rattle.flow.specs.Session as Flow
 use Rattle.flow.specs.declared.Answer.{Answer}
@@ -26,7 +25,7 @@ use Rattle.session.specs.Possible.{possibleIn, possibleFor, possible}
 use Rattle.session.specs.Sessions.{standOf, mostOf, firstFor, resumed}
 use Rattle.session.specs.declared.Given.{Given}
 use Rattle.session.specs.declared.Outcome.{Outcome}
-use Rattle.session.specs.declared.Outcome.the-variants.{Refused, Ask, Told}
+use Rattle.session.specs.declared.Outcome.the-variants.{Refused, Told}
 use Rattle.session.specs.declared.Report.{Report}
 use Rattle.session.specs.declared.Session.{Session}
 use Rattle.session.proofs.Counted.{countIn}
@@ -69,7 +68,7 @@ module _ (g : Geometry) (s : Session) (bytes : List ℕ) (a : Answer) (found : l
   unfolding Kept
   kept-on can true u e f = subst Kept (sym (on-finished g s bytes a e)) (λ h. can)
   kept-on can false true e f =
-      subst Kept (sym (on-fit g s bytes a e f)) (λ h. step-possible g bytes s a (facts (s .header .part) (s .header .macros) g found) can)
+      subst Kept (sym (on-fit g s bytes a e f)) (λ h. step-possible g bytes s a can)
   kept-on can false false e f = subst Kept (sym (on-misfit g s bytes a e f)) (kept-refusing 14)
 
   kept-for : (t u : Bool) → possibleIn g s ≡ t → eqb (length bytes) (imageSize g) ≡ u → Kept (stepFor (Found g) s bytes a)

@@ -1,7 +1,6 @@
 pub mod Counts
 pub mod Entries
 pub mod Nexts
-pub mod Moves
 pub mod Places
 pub mod Closed
 pub mod Possibility

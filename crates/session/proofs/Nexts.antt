@@ -7,8 +7,7 @@ use native.Mathlib.Numerals.{add-one}
 use lib.Dec.{ltb}
 use Rattle.flow.specs.Judge.{Judged, go, pollAgain, enter, report, judge, idsFit, sumsFit}
 use Rattle.flow.specs.Packets.{Verdict, okay, again, broken}
-use Rattle.flow.specs.Session.{running, reported, settled, tryAgain, waitAgain, heardBy}
-use Rattle.flow.specs.Session as Flow
+use Rattle.flow.specs.Session.{settled, tryAgain, waitAgain, heardBy}
 use Rattle.flow.specs.declared.Entry.{Entry}
 use Rattle.flow.specs.declared.Move.{Move}
 use Rattle.flow.specs.declared.Purpose.{Purpose}
@@ -17,8 +16,7 @@ use Rattle.image.specs.Image.{Image, imageOf}
 use Rattle.image.specs.declared.Header.{Header}
 use Rattle.parts.specs.declared.Geometry.{Geometry}
 use Rattle.session.specs.Nexts.{nextOf, tryNext, waitNext, nextBy, standAfter}
-use Rattle.session.specs.declared.Next.{Next}
-use Rattle.session.specs.declared.Next.the-variants.{Run, Stop}
+use Rattle.session.specs.declared.Next.the-variants.{Stop}
 use Rattle.session.specs.declared.Progress.{Progress}
 
 module _ (i : Image) (u : Purpose) (y : Entry) (p : Progress) where

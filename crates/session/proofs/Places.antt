@@ -1,47 +1,35 @@
--- Where moves stand in the sequence: its length, its last move, and that the entry is decided inside steps 1 and 2. Assumes nothing.
+-- Where moves stand in the sequence: its length, its last move. Assumes nothing.
 use mathlib.Core.Bool.{Bool, true, false}
 use mathlib.Core.List.{List, [], _∷_, _++_, append-assoc}
 use mathlib.Core.Path.{_≡_, refl, sym, ap, _∙_}
-use Prim.Native.Nat.{ℕ, zero, suc, _+_, _*_, _-_, _/_, _≤_, _<_}
+use Prim.Native.Nat.{ℕ, suc, _+_, _*_, _<_}
 use native.Mathlib.Omega.{arith}
 use borrow.Author.Tests.{ltb-true, ltb-false}
 use lib.Dec.{ltb}
-use lib.ListN.{length, getD, length-append, List·getD-append}
-use lib.Seq.{getD-append-add, getD-at}
-use Rattle.flow.proofs.Counting.{count-opening, plan-form, sequence-totals, Totals}
+use lib.ListN.{length, getD, length-append}
+use lib.Seq.{getD-at}
+use Rattle.flow.proofs.Counting.{total, one-more, sequence-totals}
 use Rattle.flow.proofs.Table.{Facts}
-use Rattle.flow.specs.Plan.{Traffic, counting, trafficIn, plan, fromProtected, acquisitions}
+use Rattle.flow.specs.Plan.{trafficIn, plan, acquisitions}
 use Rattle.flow.specs.Sequence.{move, read, call, listed, pieces, privileged, programRow, verifyFlash, lockMacro, verifyMacro, acquire, silicon, program, opening, afterwards, sequence, endMove, key}
 use Rattle.flow.specs.Session.{moveAt}
 use Rattle.flow.specs.declared.Entry.{Entry}
 use Rattle.flow.specs.declared.Entry.the-variants.{FromOpen, FromProtected}
 use Rattle.flow.specs.declared.Move.{Move}
-use Rattle.flow.specs.declared.Purpose.{Purpose}
 use Rattle.flow.specs.declared.Purpose.the-variants.{Sent, Keep, Reopened, StoredLevel, LastSum}
-use Rattle.flow.specs.declared.Request.{Request}
-use Rattle.flow.specs.declared.Request.the-variants.{Xres, LineReset, ReadIdcode, ReadDrw, WriteTar, WriteDrw, WriteSetup}
+use Rattle.flow.specs.declared.Request.the-variants.{ReadDrw, WriteTar}
 use Rattle.image.specs.Image.{Image}
+use Rattle.moves.proofs.Counts.{counted, opening-counted, count-open, count-reopen}
+use Rattle.moves.specs.Moves.{bare, moveCount}
 use Rattle.parts.specs.Sizes.{macrosOf, rowsOf, sysargOf, levelAt}
 use Rattle.parts.specs.declared.Geometry.{Geometry}
-use Rattle.session.specs.Possible.{movesIn}
-use Rattle.session.proofs.Moves.{at, Proper, relaxed, all-opening, all-afterwards}
 
 -- ---- the length
 
-one-more : (q : Request) (t : Traffic)
-    → suc (t .transfers + t .xresets + t .lineResets) ≡ (counting q t) .transfers + (counting q t) .xresets + (counting q t) .lineResets
-one-more Xres t = omega arith
-one-more LineReset t = omega arith
-one-more ReadIdcode t = omega arith
-one-more ReadDrw t = omega arith
-one-more (WriteTar w) t = omega arith
-one-more (WriteDrw w) t = omega arith
-one-more (WriteSetup r w) t = omega arith
-
-length-traffic : (ms : List Move) → length ms ≡ (trafficIn ms) .transfers + (trafficIn ms) .xresets + (trafficIn ms) .lineResets
+length-traffic : (ms : List Move) → length ms ≡ total (trafficIn ms)
 unfolding trafficIn
 length-traffic [] = refl
-length-traffic (m ∷ ms) = ap suc (length-traffic ms) ∙ one-more (m .request) (trafficIn ms)
+length-traffic (m ∷ ms) = ap suc (length-traffic ms) ∙ sym (one-more (m .request) (trafficIn ms))
 
 -- ---- the last move
 
@@ -83,47 +71,29 @@ ends-sequence i FromProtected =
 
 -- ---- places
 
-module _ (i : Image) (f : Facts (i .geometry)) where
-  pub length-moves : (y : Entry) → length (sequence i y) ≡ movesIn (i .geometry) y
-  length-moves y =
-      let t = sequence-totals i f y in
-      omega (arith, length-traffic (sequence i y), t .transfers, t .xresets, t .lineResets)
+-- the plan's reads and writes, and each acquisition's XRES and line reset
+pub planned : (g : Geometry) → Facts g → (y : Entry) → moveCount g y ≡ plan g y + 2 * acquisitions y
+planned g f y =
+    let i = bare g in
+    let t = sequence-totals i f y in
+    omega (arith, length-traffic (sequence i y), t .transfers, t .xresets, t .lineResets)
 
+module _ (i : Image) where
   -- steps 1 and 2 are not all, whatever the entry
-  pub opening-in : (e : Entry) → length (opening i) < movesIn (i .geometry) e
-  opening-in e =
-      let t = count-opening i f in
-      omega (arith, length-traffic (opening i), t .transfers, t .xresets, t .lineResets, plan-form i f e)
+  pub opening-in : (e : Entry) → length (opening i) < moveCount (i .geometry) e
+  opening-in FromOpen = omega (arith, opening-counted i, count-open (i .geometry))
+  opening-in FromProtected = omega (arith, opening-counted i, count-reopen (i .geometry))
 
   -- a move that is not the last has a next
-  pub has-next : (y : Entry) (n : ℕ) → n < movesIn (i .geometry) y → ¬ (moveAt i y n ≡ lastMove) → suc n < movesIn (i .geometry) y
-  has-next y n h not-last = by (ltb (suc n) (movesIn (i .geometry) y)) refl
+  pub has-next : (y : Entry) (n : ℕ) → n < moveCount (i .geometry) y → ¬ (moveAt i y n ≡ lastMove) → suc n < moveCount (i .geometry) y
+  has-next y n h not-last = by (ltb (suc n) (moveCount (i .geometry) y)) refl
     where
       e : Ends lastMove (sequence i y)
       e = ends-sequence i y
 
-      by : (t : Bool) → ltb (suc n) (movesIn (i .geometry) y) ≡ t → suc n < movesIn (i .geometry) y
+      by : (t : Bool) → ltb (suc n) (moveCount (i .geometry) y) ≡ t → suc n < moveCount (i .geometry) y
       by true q = ltb-true _ _ q
       by false q =
           let l : length (e .front) ≡ n =
-          omega (arith, length-moves y, ap length (e .is), length-append (e .front) (lastMove ∷ []), ltb-false (suc n) (movesIn (i .geometry) y) q) in
+          omega (arith, counted i y, ap length (e .is), length-append (e .front) (lastMove ∷ []), ltb-false (suc n) (moveCount (i .geometry) y) q) in
           absurd (not-last (ap (λ (ms : List Move). getD ms n endMove) (e .is) ∙ getD-at (e .front) lastMove [] endMove n l))
-
-  -- every move is proper, and only steps 1 and 2 decide the entry
-  pub proper-at : (y : Entry) (n : ℕ) → n < movesIn (i .geometry) y → Proper (n < length (opening i)) (moveAt i y n)
-  unfolding sequence
-  proper-at y n h = by (ltb n (length (opening i))) refl
-    where
-      by : (t : Bool) → ltb n (length (opening i)) ≡ t → Proper (n < length (opening i)) (getD (opening i ++ afterwards i y) n endMove)
-      by true q =
-          let l : n < length (opening i) = ltb-true _ _ q in
-          rw (List·getD-append (opening i) (afterwards i y) endMove n l) (relaxed (λ x. l) (at endMove (all-opening i) n l))
-      by false q =
-          let l : length (opening i) ≤ n = ltb-false _ _ q in
-          let e : n ≡ length (opening i) + (n - length (opening i)) = omega arith in
-          let r : n - length (opening i) < length (afterwards i y) =
-          omega (arith, length-moves y, length-append (opening i) (afterwards i y)) in
-          let is : getD (opening i ++ afterwards i y) n endMove ≡ getD (afterwards i y) (n - length (opening i)) endMove =
-          ap (λ (k : ℕ). getD (opening i ++ afterwards i y) k endMove) e
-          ∙ getD-append-add (opening i) (afterwards i y) (n - length (opening i)) endMove in
-          rw is (relaxed (λ x. absurd x) (at endMove (all-afterwards i y) (n - length (opening i)) r))

@@ -1,23 +1,21 @@
 -- A possible session as facts; the session that starting gives and what a step makes of a possible one are possible. Assumes nothing.
 use mathlib.Core.Bool.{Bool, true, false, _&&_, cond}
 use mathlib.Core.List.{List}
-use mathlib.Core.Path.{_≡_, refl, sym, ap, _∙_}
-use Prim.Native.Nat.{ℕ, suc, _+_, _*_, _≤_, _<_, min}
+use mathlib.Core.Path.{_≡_, refl}
+use Prim.Native.Nat.{ℕ, _≤_}
 use native.Mathlib.Omega.{arith}
-use borrow.Author.Tests.{lt-ltb, le-leb, ltb-true, leb-true, eqb-true}
-use lib.Dec.{eqb, leb, ltb, lit≤}
-use Rattle.flow.proofs.Table.{Facts}
-use Rattle.flow.specs.Plan.{plan, acquisitions}
-use Rattle.flow.specs.Session.{running, reported, stepOf, firstSession}
+use borrow.Author.Tests.{lt-ltb, le-leb, ltb-true, leb-true}
+use lib.Dec.{leb, ltb}
+use Rattle.flow.specs.Session.{running, reported, stepOf}
 use Rattle.flow.specs.Session as Flow
 use Rattle.flow.specs.declared.Answer.{Answer}
-use Rattle.image.specs.Checks.{versionFits, imageIdFits, levelFits}
-use Rattle.image.specs.Image.{Image, imageOf}
+use Rattle.image.specs.Image.{imageOf}
 use Rattle.image.specs.declared.Header.{Header}
+use Rattle.moves.specs.Moves.{moveCount}
 use Rattle.parts.proofs.Table.{both}
 use Rattle.parts.specs.declared.Geometry.{Geometry}
-use Rattle.session.specs.Possible.{headerFits, movesIn, progressFits, reportFits, possibleIn}
-use Rattle.session.specs.Sessions.{standOf, mostOf, resumed, firstFor}
+use Rattle.session.specs.Possible.{headerFits, progressFits, reportFits, possibleIn}
+use Rattle.session.specs.Sessions.{standOf, mostOf, resumed}
 use Rattle.session.specs.declared.Session.{Session}
 use Rattle.session.proofs.Closed.{Within, Stands, step-stands}
 
@@ -50,9 +48,9 @@ module _ (g : Geometry) (h : Header) (bytes : List ℕ) where
       by true e = rw e (rw e at (p .stands))
       by false e =
           let q : progressFits g (s .entry) (s .progress) ≡ true = rw e at (p .stands) in
-          let t = both (ltb (s .progress .at) (movesIn g (s .entry)) && leb (s .progress .waits) 16 && ltb (s .progress .polls) 10000) _ q in
-          let u = both (ltb (s .progress .at) (movesIn g (s .entry)) && leb (s .progress .waits) 16) _ (t .0) in
-          let v = both (ltb (s .progress .at) (movesIn g (s .entry))) _ (u .0) in
+          let t = both (ltb (s .progress .at) (moveCount g (s .entry)) && leb (s .progress .waits) 16 && ltb (s .progress .polls) 10000) _ q in
+          let u = both (ltb (s .progress .at) (moveCount g (s .entry)) && leb (s .progress .waits) 16) _ (t .0) in
+          let v = both (ltb (s .progress .at) (moveCount g (s .entry))) _ (u .0) in
           let w : Within (imageOf g h bytes) (s .entry) (s .progress .at) (s .progress .waits) (s .progress .polls) (s .progress .attempts) =
           record { at = ltb-true _ _ (v .0); waits = leb-true _ _ (v .1); polls = ltb-true _ _ (u .1); attempts = ltb-true _ _ (t .1) } in
           rw e w
@@ -69,9 +67,9 @@ module _ (g : Geometry) (h : Header) (bytes : List ℕ) where
   resumed-parts s e (reported x r t) q = record { header = e; count = omega arith; stands = q }
 
 -- a step keeps a session possible
-pub step-possible : (g : Geometry) (bytes : List ℕ) (s : Session) (a : Answer) → Facts g → possibleIn g s ≡ true
+pub step-possible : (g : Geometry) (bytes : List ℕ) (s : Session) (a : Answer) → possibleIn g s ≡ true
     → possibleIn g (resumed g s (stepOf (imageOf g (s .header) bytes) (standOf s) a)) ≡ true
-step-possible g bytes s a f h =
+step-possible g bytes s a h =
     let i = imageOf g (s .header) bytes in
     let p = parts g s h in
-    whole g _ (resumed-parts g (s .header) bytes s (p .header) (stepOf i (standOf s) a) (step-stands i f (standOf s) a (stands-of g (s .header) bytes s p)))
+    whole g _ (resumed-parts g (s .header) bytes s (p .header) (stepOf i (standOf s) a) (step-stands i (standOf s) a (stands-of g (s .header) bytes s p)))

@@ -1,49 +1,38 @@
 -- What a step gives, and what it hands out. Assumes nothing.
-use mathlib.Core.Bool.{Bool, true, false, false≢true, _&&_, not, cond}
+use mathlib.Core.Bool.{Bool, true, false, _&&_, not, cond}
 use mathlib.Core.List.{List}
-use mathlib.Core.Path.{_≡_, refl, sym, ap, _∙_}
-use Prim.Native.Nat.{ℕ, zero, suc, _≤_}
+use mathlib.Core.Path.{_≡_, refl, ap, _∙_}
+use Prim.Native.Nat.{ℕ}
 use native.Mathlib.Omega.{arith}
 use borrow.Author.Tests.{eq-eqb}
 use lib.Dec.{eqb}
 use lib.ListN.{length}
-use Rattle.flow.proofs.Table.{Facts}
-use Rattle.flow.specs.Exchange.{Decoded, known, unknown, decode, Met, meet, meetOn, transferred, met, dead, barred, carriedOut}
-use Rattle.flow.specs.Monitor.{Monitor, watch, isReset}
+use Rattle.flow.specs.Exchange.{known, meetOn, transferred, met, dead, barred, carriedOut}
+use Rattle.flow.specs.Monitor.{isReset}
 use Rattle.flow.specs.Packets.{packetOf}
 use Rattle.flow.specs.Plan.{Traffic, counting}
-use Rattle.flow.specs.Run.{Run, served, advanceBy, advance, after, handedOutBy, handedOut}
+use Rattle.flow.specs.Run.{handedOutBy}
 use Rattle.flow.specs.Session.{running, reported, moveAt, stepOf}
 use Rattle.flow.specs.Session as Flow
 use Rattle.flow.specs.Target.{Target, LineEvent, Lists, eventOf}
 use Rattle.flow.specs.declared.Answer.{Answer}
-use Rattle.flow.specs.declared.Answer.the-variants.{ResetDone, Transferred}
-use Rattle.flow.specs.declared.Move.{Move}
-use Rattle.flow.specs.declared.Packet.{Packet}
 use Rattle.flow.specs.declared.Reply.{Reply}
 use Rattle.flow.specs.declared.Request.{Request}
 use Rattle.flow.specs.declared.Request.the-variants.{Xres, LineReset, ReadIdcode, ReadDrw, WriteTar, WriteDrw, WriteSetup}
 use Rattle.image.specs.Image.{Image, imageOf}
-use Rattle.image.specs.declared.Header.{Header}
 use Rattle.parts.specs.Parts.{lookupOf}
 use Rattle.parts.specs.Sizes.{imageSize}
 use Rattle.parts.specs.declared.Geometry.{Geometry}
 use Rattle.parts.specs.declared.Lookup.{Lookup}
 use Rattle.parts.specs.declared.Lookup.the-variants.{Found, Refused as NotFound}
-use Rattle.session.specs.Calls.{State, Steps, none, answer, refusal, later, sent, handing, standing, watching, reaction, answered, called}
+use Rattle.session.specs.Calls.{answer, sent, handing, standing}
 use Rattle.session.specs.Given.{answers, refusing, outcomeAt, giving, stepOn, stepFor, stepWith}
 use Rattle.session.specs.Possible.{possibleIn}
-use Rattle.session.specs.Sessions.{standOf, mostOf, resumed}
+use Rattle.session.specs.Sessions.{standOf, resumed}
 use Rattle.session.specs.declared.Given.{Given}
 use Rattle.session.specs.declared.Outcome.{Outcome}
-use Rattle.session.specs.declared.Outcome.the-variants.{Refused, Ask, Told}
-use Rattle.session.specs.declared.Report.{Report}
+use Rattle.session.specs.declared.Outcome.the-variants.{Refused}
 use Rattle.session.specs.declared.Session.{Session}
-use Rattle.session.proofs.Closed.{Within, Stands}
-use Rattle.session.proofs.Counted.{countIn, stand-resumed, count-step}
-use Rattle.session.proofs.Moves.{Proper}
-use Rattle.session.proofs.Places.{proper-at}
-use Rattle.session.proofs.Possibility.{Parts, parts, stands-of, step-possible}
 
 -- ---- the target answers a reset with 'reset done', and every other request by an acknowledgement
 

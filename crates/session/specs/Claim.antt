@@ -3,7 +3,7 @@ use mathlib.Core.Bool.{Bool}
 use mathlib.Core.List.{List}
 use mathlib.Core.Logic.{_⊎_, _↔_}
 use mathlib.Core.Path.{_≡_}
-use Prim.Native.Nat.{ℕ, _+_, _*_, _≤_}
+use Prim.Native.Nat.{ℕ, _+_, _≤_}
 use Rattle.flow.specs.Claim.{Passes, Startable, RightPart, NoError, Calm, entryOf, delaysIn}
 use Rattle.flow.specs.Monitor.{linkError}
 use Rattle.flow.specs.Plan.{Traffic, plan, mostTraffic}
@@ -13,7 +13,7 @@ use Rattle.image.specs.declared.Header.{Header}
 use Rattle.parts.specs.declared.Geometry.{Geometry}
 use Rattle.session.specs.Calls.{State, Steps, begun}
 use Rattle.session.specs.Given.{startOf}
-use Rattle.session.specs.declared.Outcome.the-variants.{Refused, Ask, Told}
+use Rattle.session.specs.declared.Outcome.the-variants.{Refused, Told}
 use Rattle.session.specs.declared.Report.{Report}
 
 -- the most that document 01's count allows for this target

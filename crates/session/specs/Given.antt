@@ -1,5 +1,5 @@
 -- What starting and a step give: document 01, 'Who brings a number about', last paragraph. Assumes nothing.
-use mathlib.Core.Bool.{Bool, true, false, _&&_, not, cond}
+use mathlib.Core.Bool.{Bool, _&&_, not, cond}
 use mathlib.Core.List.{List}
 use Prim.Native.Nat.{ℕ}
 use lib.Dec.{eqb}
@@ -10,7 +10,6 @@ use Rattle.flow.specs.Session.{running, reported, moveAt, stepOf}
 use Rattle.flow.specs.Session as Flow
 use Rattle.flow.specs.declared.Answer.{Answer}
 use Rattle.flow.specs.declared.Answer.the-variants.{ResetDone, Transferred}
-use Rattle.flow.specs.declared.Move.{Move}
 use Rattle.flow.specs.declared.Packet as Packets
 use Rattle.flow.specs.declared.Request.{Request}
 use Rattle.image.specs.Checks.{imageFault}

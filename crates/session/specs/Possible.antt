@@ -1,11 +1,11 @@
 -- 13: 'session impossible for its part (never one that starting or a step gave)'. Assumes nothing.
-use mathlib.Core.Bool.{Bool, true, false, _&&_, _||_, cond}
-use Prim.Native.Nat.{ℕ, _+_, _*_}
+use mathlib.Core.Bool.{Bool, false, _&&_, _||_, cond}
+use Prim.Native.Nat.{ℕ}
 use lib.Dec.{eqb, leb, ltb}
-use Rattle.flow.specs.Plan.{plan, acquisitions}
 use Rattle.flow.specs.declared.Entry.{Entry}
 use Rattle.image.specs.Checks.{versionFits, imageIdFits, levelFits}
 use Rattle.image.specs.declared.Header.{Header}
+use Rattle.moves.specs.Moves.{moveCount}
 use Rattle.parts.specs.Parts.{lookupOf}
 use Rattle.parts.specs.declared.Geometry.{Geometry}
 use Rattle.parts.specs.declared.Lookup.{Lookup}
@@ -18,13 +18,9 @@ use Rattle.session.specs.declared.Session.{Session}
 abbrev pub headerFits : Geometry → Header → Bool
 headerFits g h = versionFits h && imageIdFits g h && levelFits (h .level)
 
--- the moves of the sequence: the plan's reads and writes, and each acquisition's XRES and line reset
-abbrev pub movesIn : Geometry → Entry → ℕ
-movesIn g y = plan g y + 2 * acquisitions y
-
--- 'WAIT repeats the transfer, 16 times running at most'; 'at most 10,000 polls'; 'up to 30 attempts'
+-- inside the sequence; 'WAIT repeats the transfer, 16 times running at most'; 'at most 10,000 polls'; 'up to 30 attempts'
 abbrev pub progressFits : Geometry → Entry → Progress → Bool
-progressFits g y p = ltb (p .at) (movesIn g y) && leb (p .waits) 16 && ltb (p .polls) 10000 && ltb (p .attempts) 30
+progressFits g y p = ltb (p .at) (moveCount g y) && leb (p .waits) 16 && ltb (p .polls) 10000 && ltb (p .attempts) 30
 
 -- 0 at step 9, or 16 to 30 at steps 1 to 9
 abbrev pub reportFits : (number step : ℕ) → Bool

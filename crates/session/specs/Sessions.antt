@@ -1,12 +1,12 @@
 -- A session's fields as the session of the flow, and the session of zeros. Assumes nothing.
-use mathlib.Core.Bool.{Bool, true, false, cond}
+use mathlib.Core.Bool.{true, false, cond}
 use Prim.Native.Nat.{ℕ, min}
-use lib.ListN.{replicate}
 use Rattle.flow.specs.Plan.{mostTraffic}
 use Rattle.flow.specs.Session.{running, reported}
 use Rattle.flow.specs.Session as Flow
 use Rattle.flow.specs.declared.Entry.{Entry}
 use Rattle.flow.specs.declared.Entry.the-variants.{FromOpen, FromProtected}
+use Rattle.image.specs.Image.{noHeader}
 use Rattle.image.specs.declared.Header.{Header}
 use Rattle.parts.specs.declared.Geometry.{Geometry}
 use Rattle.session.specs.declared.Progress.{Progress}
@@ -22,9 +22,6 @@ abbrev pub atStart : Progress
 atStart = record { at = 0; waits = 0; polls = 0; attempts = 0; kept = 0 }
 
 -- 'A record, session or length given with a refusal is all 0.'
-abbrev pub noHeader : Header
-noHeader = record { part = 0; macros = 0; sum = 0; metadata = replicate 12 0; level = 0 }
-
 abbrev pub noSession : Session
 noSession = record { header = noHeader; entry = FromOpen; progress = atStart; transfers = 0; finished = false; number = 0; step = 0 }
 

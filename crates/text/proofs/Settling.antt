@@ -7,9 +7,10 @@ use borrow.Author.Tests.{ne-eqb, le-leb}
 use lib.ListN.{length}
 use lib.Seq.{drop-length}
 use Rattle.image.specs.Checks.{imageFault}
+use Rattle.image.specs.Image.{noHeader}
 use Rattle.image.specs.Sections.{headerOf}
 use Rattle.image.specs.declared.Header.{Header}
-use Rattle.text.specs.Reading.{Taken, Cleared, noHeader, answerOf, bufferAfter}
+use Rattle.text.specs.Reading.{Taken, Cleared, answerOf, bufferAfter}
 use Rattle.text.specs.Storing.{cleared, settled}
 
 module _ (part macros : ℕ) (header image : List ℕ) where

@@ -5,6 +5,7 @@ use Prim.Native.Nat.{ℕ}
 use lib.Dec.{eqb, leb}
 use lib.ListN.{length, drop, replicate}
 use Rattle.image.specs.Checks.{imageFault}
+use Rattle.image.specs.Image.{noHeader}
 use Rattle.image.specs.Sections.{sectionsOf, headerOf}
 use Rattle.image.specs.declared.Header.{Header}
 use Rattle.image.specs.declared.Home.the-variants.{InImage, InHeader}
@@ -45,10 +46,6 @@ readFor (Found g) part macros room outcome =
 -- 'Reading checks 11, 12, then 1 to 5 per record in that order, then 6 to 10'; room is the size of the lent buffer
 abbrev pub readingOf : (part macros room : ℕ) → (List Section → Outcome) → Reading
 readingOf part macros room outcome = readFor (lookupOf part macros) part macros room outcome
-
--- 'A record .. given with a refusal is all 0'
-abbrev pub noHeader : Header
-noHeader = record { part = 0; macros = 0; sum = 0; metadata = replicate 12 0; level = 0 }
 
 abbrev pub answerOf : Reading → ReadAnswer
 answerOf (Untouched n) = record { number = n; header = noHeader }

@@ -1,5 +1,5 @@
 -- SWD packets: document 01, 'Wire', by Arm's rule (Arm Debug Interface v5). Assumes nothing.
-use mathlib.Core.Bool.{Bool, true, false, _||_, not, cond}
+use mathlib.Core.Bool.{Bool, _||_, not, cond}
 use mathlib.Core.List.{List, [], _∷_, _++_}
 use Prim.Native.Nat.{ℕ, _+_, _*_, _/_, _%_}
 use lib.Count.{ones}

@@ -1,0 +1,65 @@
+// Whether a session is possible for its part: number 13.
+ghost use mathlib.Core.Path.{_≡_};
+ghost use Rattle.session.specs.Possible.{headerFits, progressFits, reportFits, possibleIn};
+use crate::Progress;
+use crate::Session;
+use crate::plan::most_of;
+use flow::Entry;
+use image::Header;
+use parts::Geometry;
+
+// Whether a header is one that 6, 7 and 8 let pass.
+fn header_fits(g: Geometry, h: Header) -> bool
+    ensures { λ r. ⌜ r ≡ headerFits g h ⌝ }
+{
+    if image::version_fits(h) {
+        if image::id_fits(g, h) {
+            return image::level_fits(h.level);
+        }
+    }
+    false
+}
+
+// Whether a running session's index and counts are in range.
+fn progress_fits(g: Geometry, y: Entry, p: Progress) -> bool
+    ensures { λ r. ⌜ r ≡ progressFits g y p ⌝ }
+{
+    if (p.at as usize) < moves::move_count(g, y) {
+        if p.waits <= 16 {
+            if p.polls < 10000 {
+                return p.attempts < 30;
+            }
+        }
+    }
+    false
+}
+
+// Whether a report has a number and a step that a report can have.
+fn report_fits(number: u8, step: u8) -> bool
+    ensures { λ r. ⌜ r ≡ reportFits number step ⌝ }
+{
+    match number {
+        0 => step == 9,
+        16..=30 => 1 <= step && step <= 9,
+        _ => false,
+    }
+}
+
+// Whether a session is possible for its part (13).
+pub(crate) fn possible_in(g: Geometry, s: Session) -> bool
+    ensures { λ r. ⌜ r ≡ possibleIn g s ⌝ }
+{
+    let h = s.header;
+    let y = s.entry;
+    if !header_fits(g, h) {
+        return false;
+    }
+    if most_of(g) < (s.transfers as u64) {
+        return false;
+    }
+    if s.finished {
+        return report_fits(s.number, s.step);
+    }
+    let p = s.progress;
+    progress_fits(g, y, p)
+}
