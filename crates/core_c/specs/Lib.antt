@@ -1,0 +1,4 @@
+pub mod Records
+pub mod Sessions
+pub mod Outcomes
+pub mod Calls
