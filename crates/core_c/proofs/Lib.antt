@@ -1,2 +1,4 @@
 pub mod Putting
 pub mod Called
+pub mod Spelled
+pub mod Backs

@@ -2,3 +2,4 @@ pub mod Records
 pub mod Sessions
 pub mod Outcomes
 pub mod Calls
+pub mod Claims
