@@ -5,7 +5,8 @@ use mathlib.Core.Path.{_≡_, refl, sym, ap, subst, _∙_}
 use Prim.Native.Nat.{ℕ, _+_, _*_, _/_, _%_, _≤_, _<_}
 use lib.Dec.{leb}
 use Rattle.core_c.proofs.Spelled.{low32, low-same, sum-same, entry-same, flag-same}
-use Rattle.core_c.specs.Claims.{Twelve, InWords}
+use Rattle.core_c.specs.Claims.{Twelve, Word, InWords, packetWord, outcomeWord}
+use Rattle.core_c.specs.Outcomes.{packetBytes, outcomeBytes, outcomeIn}
 use Rattle.core_c.specs.Records.{lowFirst, recordBytes, recordIn}
 use Rattle.core_c.specs.Sessions.{entryByte, flagByte, sessionBytes, sessionIn, isSession}
 use Rattle.flow.specs.declared.Entry.{Entry}
@@ -13,7 +14,12 @@ use Rattle.flow.specs.declared.Entry.the-variants.{FromOpen, FromProtected}
 use Rattle.image.proofs.Sections.{spread, spread-all, headerWith}
 use Rattle.image.specs.Words.{wordAt}
 use Rattle.image.specs.declared.Header.{Header}
+use Rattle.flow.specs.declared.Packet.{Packet}
+use Rattle.flow.specs.declared.Packet.the-variants.{Xres, LineReset, Read, Write}
+use Rattle.session.specs.declared.Outcome.{Outcome}
+use Rattle.session.specs.declared.Outcome.the-variants.{Refused, Ask, Told}
 use Rattle.session.specs.declared.Progress.{Progress}
+use Rattle.session.specs.declared.Report.{Report}
 use Rattle.session.specs.declared.Session.{Session}
 
 -- the same with this metadata
@@ -120,3 +126,16 @@ is-with s m = is-entry (s .entry) (s .finished)
 
 pub is-session : (s : Session) → Twelve (s .header) → isSession (sessionBytes s) ≡ true
 is-session s n = twelve-of (λ (t : Session). isSession (sessionBytes t) ≡ true) s n (is-with s)
+
+packet-back : (p : Packet) → Word (packetWord p) → outcomeIn (packetBytes p) ≡ Ask p
+unfolding wordAt
+packet-back Xres h = refl
+packet-back LineReset h = refl
+packet-back (Read request) h = refl
+packet-back (Write request word parity) h = ap (λ (w : ℕ). Ask (Write request w parity)) (low-same word h)
+
+pub outcome-back : (o : Outcome) → Word (outcomeWord o) → outcomeIn (outcomeBytes o) ≡ o
+unfolding wordAt
+outcome-back (Refused n) h = refl
+outcome-back (Ask p) h = packet-back p h
+outcome-back (Told r) h = ap (λ (w : ℕ). Told (record { number = r .number; step = r .step; transfers = w })) (low-same (r .transfers) h)

@@ -8,7 +8,7 @@ use borrow.Author.Tests.{eqb-true}
 use lib.Dec.{eqb}
 use lib.ListN.{length, take, drop, length-drop}
 use lib.Seq.{length-take-le}
-use Rattle.core_c.proofs.Backs.{record-back, session-back}
+use Rattle.core_c.proofs.Backs.{record-back, session-back, outcome-back}
 use Rattle.core_c.proofs.Numbers.{either, is-refused, step-free, start-free}
 use Rattle.core_c.proofs.Onward.{next-step}
 use Rattle.core_c.proofs.Spelled.{record-whole, session-whole}
@@ -104,6 +104,7 @@ pub byte-claims : ByteClaims
 byte-claims = record {
   recordBack = record-back;
   sessionBack = session-back;
+  outcomeBack = outcome-back;
   recordWhole = record-whole;
   sessionWhole = session-whole;
   refused = refused-stays;

@@ -1,9 +1,13 @@
 -- What starting or a step gives beside the session, as 8 bytes. Assumes nothing.
-use mathlib.Core.List.{List, [], _∷_, _++_}
+use mathlib.Core.Bool.{cond}
+use mathlib.Core.List.{List, _∷_}
 use Prim.Native.Nat.{ℕ}
+use lib.Dec.{eqb}
+use lib.ListN.{getD}
 use Rattle.core_c.specs.Records.{lowFirst}
 use Rattle.flow.specs.declared.Packet.{Packet}
 use Rattle.flow.specs.declared.Packet.the-variants.{Xres, LineReset, Read, Write}
+use Rattle.image.specs.Words.{wordAt}
 use Rattle.session.specs.declared.Outcome.{Outcome}
 use Rattle.session.specs.declared.Outcome.the-variants.{Refused, Ask, Told}
 
@@ -23,6 +27,18 @@ abbrev pub outcomeBytes : Outcome → List ℕ
 outcomeBytes (Refused n) = eightBytes 0 n 0 0
 outcomeBytes (Ask p) = packetBytes p
 outcomeBytes (Told r) = eightBytes 5 (r .number) (r .step) (r .transfers)
+
+-- what a caller finds in the bytes
+abbrev pub outcomeBy : (kind first second word : ℕ) → Outcome
+outcomeBy kind first second word =
+    cond (eqb kind 1) (Ask Xres)
+    (cond (eqb kind 2) (Ask LineReset)
+    (cond (eqb kind 3) (Ask (Read first))
+    (cond (eqb kind 4) (Ask (Write first word second))
+    (cond (eqb kind 5) (Told (record { number = first; step = second; transfers = word })) (Refused first)))))
+
+abbrev pub outcomeIn : List ℕ → Outcome
+outcomeIn bs = outcomeBy (getD bs 0 0) (getD bs 1 0) (getD bs 2 0) (wordAt bs 4)
 
 -- 'every call returns 0, or the refusal's number'
 abbrev pub numberOf : Outcome → ℕ

@@ -36,7 +36,7 @@ loop-less c = omega arith
 loop-again : tie.Need-loop-again Inv-loop μ-loop
 loop-again c =
     let l = c .before .loop in
-    (omega arith, length-set (l .bytes) (l .at) _ ∙ l .inv .1, l .inv .2 ∙ put-more (l .bytes) (l .at) (l .rest) (c .loop-test .taken))
+    (omega arith, length-set (l .bytes) (l .at) _ ∙ l .inv .1, l .inv .2 ∙ put-more (l .bytes) (l .at) (l .rest) (omega arith))
 
 same-length : tie.Need-same-length Inv-loop μ-loop
 same-length c = c .before .loop .inv .1 ∙ sym (c .before .before .pre)
