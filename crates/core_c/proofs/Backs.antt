@@ -1,13 +1,13 @@
 -- What is decoded of encoded bytes. Assumes nothing.
-use mathlib.Core.Bool.{Bool, true, false, _&&_, cond}
-use mathlib.Core.List.{List, [], _∷_, _++_}
-use mathlib.Core.Path.{_≡_, refl, sym, ap, subst, _∙_}
-use Prim.Native.Nat.{ℕ, _+_, _*_, _/_, _%_, _≤_, _<_}
+use mathlib.Core.Bool.{Bool, true, false, _&&_}
+use mathlib.Core.List.{List}
+use mathlib.Core.Path.{_≡_, refl, ap, subst, _∙_}
+use Prim.Native.Nat.{ℕ}
 use lib.Dec.{leb}
 use Rattle.core_c.proofs.Spelled.{low32, low-same, sum-same, entry-same, flag-same}
 use Rattle.core_c.specs.Claims.{Twelve, Word, InWords, packetWord, outcomeWord}
 use Rattle.core_c.specs.Outcomes.{packetBytes, outcomeBytes, outcomeIn}
-use Rattle.core_c.specs.Records.{lowFirst, recordBytes, recordIn}
+use Rattle.core_c.specs.Records.{recordBytes, recordIn}
 use Rattle.core_c.specs.Sessions.{entryByte, flagByte, sessionBytes, sessionIn, isSession}
 use Rattle.flow.specs.declared.Entry.{Entry}
 use Rattle.flow.specs.declared.Entry.the-variants.{FromOpen, FromProtected}
@@ -19,7 +19,6 @@ use Rattle.flow.specs.declared.Packet.the-variants.{Xres, LineReset, Read, Writ
 use Rattle.session.specs.declared.Outcome.{Outcome}
 use Rattle.session.specs.declared.Outcome.the-variants.{Refused, Ask, Told}
 use Rattle.session.specs.declared.Progress.{Progress}
-use Rattle.session.specs.declared.Report.{Report}
 use Rattle.session.specs.declared.Session.{Session}
 
 -- the same with this metadata

@@ -1,18 +1,18 @@
 -- The claims on bytes hold. Assumes nothing.
 use mathlib.Core.Bool.{Bool, true, false, _&&_, cond}
 use mathlib.Core.List.{List}
-use mathlib.Core.Path.{_≡_, refl, sym, ap, _∙_}
+use mathlib.Core.Path.{_≡_, refl, ap, _∙_}
 use Prim.Native.Nat.{ℕ, _≤_}
 use native.Mathlib.Omega.{arith}
 use borrow.Author.Tests.{eqb-true}
 use lib.Dec.{eqb}
-use lib.ListN.{length, take, drop, length-drop}
+use lib.ListN.{length, drop, length-drop}
 use lib.Seq.{length-take-le}
 use Rattle.core_c.proofs.Backs.{record-back, session-back, outcome-back}
 use Rattle.core_c.proofs.Numbers.{either, is-refused, step-free, start-free}
 use Rattle.core_c.proofs.Onward.{next-step}
 use Rattle.core_c.proofs.Spelled.{record-whole, session-whole}
-use Rattle.core_c.specs.Calls.{Left, left, wrongLength, yes, givenInto, startCall, stepInto, stepCall}
+use Rattle.core_c.specs.Calls.{left, wrongLength, yes, givenInto, startCall, stepInto, stepCall}
 use Rattle.core_c.specs.Claims.{Bytes, Twelve, Never13, ByteClaims}
 use Rattle.core_c.specs.Outcomes.{numberOf, outcomeBytes}
 use Rattle.core_c.specs.Records.{recordIn}
@@ -24,7 +24,6 @@ use Rattle.session.proofs.Kept.{session-claims, header-stays}
 use Rattle.session.specs.Given.{startRefused, startedOn, wantsLeave, startOf, stepWith}
 use Rattle.session.specs.declared.Given.{Given}
 use Rattle.session.specs.declared.Outcome.the-variants.{Refused}
-use Rattle.session.specs.declared.Session.{Session}
 
 -- bytes that are long enough hold twelve metadata bytes
 twelve-in : (bs : List ℕ) → 17 ≤ length bs → Twelve (recordIn bs)

@@ -1,6 +1,5 @@
 -- The bytes of a possible session hold a possible session. Assumes nothing.
 use mathlib.Core.Bool.{Bool, true, false, false≢true, _&&_, cond}
-use mathlib.Core.List.{List}
 use mathlib.Core.Path.{_≡_, refl, sym, ap, _∙_}
 use Prim.Native.Nat.{ℕ, _≤_}
 use native.Mathlib.Omega.{arith}
@@ -11,10 +10,9 @@ use Rattle.core_c.proofs.Backs.{Near, near, is-session}
 use Rattle.core_c.proofs.Called.{step-taken}
 use Rattle.core_c.proofs.Numbers.{not-thirteen}
 use Rattle.core_c.proofs.Spelled.{low-less}
-use Rattle.core_c.specs.Calls.{Left, wrongLength, givenInto, stepInto, stepCall}
+use Rattle.core_c.specs.Calls.{Left, wrongLength, stepInto, stepCall}
 use Rattle.core_c.specs.Claims.{Twelve, Never13}
 use Rattle.core_c.specs.Sessions.{sessionBytes, sessionIn}
-use Rattle.flow.specs.declared.Answer.{Answer}
 use Rattle.flow.specs.declared.Entry.{Entry}
 use Rattle.image.specs.declared.Header.{Header}
 use Rattle.parts.specs.Parts.{lookupOf}
@@ -22,9 +20,7 @@ use Rattle.parts.specs.declared.Geometry.{Geometry}
 use Rattle.parts.specs.declared.Lookup.{Lookup}
 use Rattle.parts.specs.declared.Lookup.the-variants.{Found, Refused as NotFound}
 use Rattle.session.proofs.Possibility.{Parts, parts, whole}
-use Rattle.session.specs.Given.{stepWith}
 use Rattle.session.specs.Possible.{headerFits, movesIn, progressFits, reportFits, possibleIn, possibleFor, possible}
-use Rattle.session.specs.declared.Given.{Given}
 use Rattle.session.specs.declared.Progress.{Progress}
 use Rattle.session.specs.declared.Session.{Session}
 

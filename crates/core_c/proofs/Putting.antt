@@ -1,9 +1,9 @@
 -- Laws of putting records, sessions and outcomes into bytes. Assumes nothing.
 use mathlib.Core.List.{List, [], _∷_, _++_, append-nil}
-use mathlib.Core.Path.{_≡_, refl, sym, ap, _∙_}
-use Prim.Native.Nat.{ℕ, zero, suc, _+_, _-_, _/_, _%_, _≤_, _<_}
+use mathlib.Core.Path.{_≡_, sym, ap, _∙_}
+use Prim.Native.Nat.{ℕ, suc, _+_, _-_, _/_, _%_, _≤_, _<_}
 use native.Mathlib.Omega.{arith}
-use lib.ListN.{length, set, take, drop, drop-of-length-le, length-append}
+use lib.ListN.{length, set, drop-of-length-le, length-append}
 use lib.Seq.{sets, sets-eq, take-all}
 use Rattle.core_c.specs.Records.{lowFirst, recordBytes}
 use Rattle.core_c.specs.Sessions.{progressBytes, singles, sessionBytes}

@@ -6,7 +6,7 @@ use Prim.Native.Nat.{ℕ, _+_, _*_, _/_, _%_, _≤_, _<_}
 use native.Mathlib.Omega.{arith}
 use borrow.Author.Tests.{eqb-true, eqb-false, leb-true}
 use lib.Dec.{eqb, leb}
-use lib.ListN.{length, getD, take, drop}
+use lib.ListN.{length, getD}
 use Rattle.core_c.specs.Claims.{Bytes, Word}
 use Rattle.core_c.specs.Records.{lowFirst, recordBytes, recordIn}
 use Rattle.core_c.specs.Sessions.{entryByte, entryIn, flagByte, singles, progressBytes, progressIn, sessionBytes, sessionIn, isSession}

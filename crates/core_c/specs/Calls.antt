@@ -1,5 +1,5 @@
 -- What the calls over bytes return, and what they leave in the bytes lent to them. Assumes nothing.
-use mathlib.Core.Bool.{Bool, true, false, _&&_, not, cond}
+use mathlib.Core.Bool.{Bool, _&&_, not, cond}
 use mathlib.Core.List.{List}
 use Prim.Native.Nat.{ℕ}
 use lib.Dec.{eqb}
@@ -11,12 +11,10 @@ use Rattle.flow.specs.declared.Answer.{Answer}
 use Rattle.flow.specs.declared.Answer.the-variants.{ResetDone, Transferred}
 use Rattle.hex.specs.Texts.{hexReading}
 use Rattle.hex_writer.specs.Writing.{writeOf, textAfter}
-use Rattle.hex_writer.specs.declared.WriteAnswer.{WriteAnswer}
 use Rattle.session.specs.Given.{startOf, stepWith}
 use Rattle.session.specs.declared.Given.{Given}
 use Rattle.session.specs.declared.Outcome.the-variants.{Refused}
 use Rattle.text.specs.Reading.{Reading, answerOf, bufferAfter}
-use Rattle.text.specs.declared.ReadAnswer.{ReadAnswer}
 
 -- the number that a call returns, and the two buffers lent to it for writing, in the order of its parameters, at its end
 pub record Left : Type 0 where

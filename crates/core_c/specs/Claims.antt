@@ -1,10 +1,10 @@
 -- What the bytes promise: nothing is lost either way, and a session that a call wrote is never refused as none. Assumes nothing.
-use mathlib.Core.Bool.{Bool, true}
+use mathlib.Core.Bool.{true}
 use mathlib.Core.List.{List}
 use mathlib.Core.Path.{_≡_}
 use Prim.Native.Nat.{ℕ, _<_}
 use lib.ListN.{length, getD}
-use Rattle.core_c.specs.Calls.{Left, startCall, stepCall}
+use Rattle.core_c.specs.Calls.{startCall, stepCall}
 use Rattle.core_c.specs.Outcomes.{outcomeBytes, outcomeIn}
 use Rattle.core_c.specs.Records.{recordBytes, recordIn}
 use Rattle.core_c.specs.Sessions.{sessionBytes, sessionIn, isSession}
@@ -14,7 +14,6 @@ use Rattle.flow.specs.declared.Packet.the-variants.{Xres, LineReset, Read, Writ
 use Rattle.image.specs.declared.Header.{Header}
 use Rattle.session.specs.declared.Outcome.{Outcome}
 use Rattle.session.specs.declared.Outcome.the-variants.{Refused, Ask, Told}
-use Rattle.session.specs.declared.Report.{Report}
 use Rattle.session.specs.declared.Session.{Session}
 
 -- each element is a byte

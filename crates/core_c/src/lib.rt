@@ -1,9 +1,7 @@
 // The calls for programs in other languages: records, sessions and outcomes stand in the caller's bytes (include/halzuqeen.h).
 ghost use mathlib.Core.Path.{_≡_};
 ghost use lib.ListN.{length};
-ghost use Rattle.core_c.specs.Calls.{answerIn, yes, givenInto, readInto, writeInto, stepInto, readCall, writeCall, startCall, stepCall};
-ghost use Rattle.hex.specs.Texts.{hexReading};
-ghost use Rattle.session.specs.Given.{startOf};
+ghost use Rattle.core_c.specs.Calls.{answerIn, givenInto, stepInto, readCall, writeCall, startCall, stepCall};
 
 mod decode;
 mod encode;

@@ -1,15 +1,8 @@
 -- 12, then starting. Assumes nothing.
-use mathlib.Core.Path.{_≡_, sym, ap, _∙_}
-use Rattle.core_c.specs.Calls.{yes, givenInto, Left}
-use Rattle.core_c.proofs.Called.{Leaves, leaves, leaves-as, start-wrong, start-wrong-session, start-wrong-outcome, start-right}
+use Rattle.core_c.proofs.Called.{leaves, leaves-as, start-wrong, start-wrong-session, start-wrong-outcome, start-right}
 use borrow.Author.Needs.{needs}
 use Rattle.core_c.proofs.halzuqeen_start.Statement.{statement}
 use Rattle.core_c.proofs.halzuqeen_start.Tie as tie
-use Rattle.core_c.proofs.halzuqeen_start.Reads as reads
-use Rattle.core_c.proofs.halzuqeen_start.Lts as lts
-use Rattle.core_c.proofs.decode.record_in.Reads as record-in-reads
-use Rattle.core_c.proofs.put_given.Reads as put-given-reads
-use Rattle.session.proofs.start.Reads as start-reads
 
 returns : tie.Need-returns
 returns c =
@@ -26,21 +19,6 @@ returns-3 c =
     let a = c .before .before .before .before .before .before .before .args in
     leaves _ _ _ _ (start-wrong-outcome (a .header .now) (a .image .now) (a .leave) (a .session .now) (a .outcome .now) (c .before .before .if1 .left) (c .before .if2 .left) (c .if3 .taken))
 
-record-in-requires : tie.Need-record-in-requires
-record-in-requires c κs = search needs
-
-start-requires : tie.Need-start-requires
-start-requires c κs = search needs
-
-put-given-requires : tie.Need-put-given-requires
-put-given-requires c κs = search needs
-
-same-length : tie.Need-same-length
-same-length c = search needs
-
-same-length-2 : tie.Need-same-length-2
-same-length-2 c = search needs
-
 returns-4 : tie.Need-returns-4
 returns-4 c =
     let a = c .before .before .before .before .before .before .before .before .before .before .before .before .before .before .before .before .args in
@@ -54,9 +32,9 @@ halzuqeen-start-spec =
     returns
     returns-2
     returns-3
-    record-in-requires
-    start-requires
-    put-given-requires
-    same-length
-    same-length-2
+    (λ c κs. search needs)
+    (λ c κs. search needs)
+    (λ c κs. search needs)
+    (λ c. search needs)
+    (λ c. search needs)
     returns-4)

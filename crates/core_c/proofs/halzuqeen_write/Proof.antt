@@ -3,11 +3,6 @@ use Rattle.core_c.proofs.Called.{leaves, write-wrong, write-wrong-size,
 use borrow.Author.Needs.{needs}
 use Rattle.core_c.proofs.halzuqeen_write.Statement.{statement}
 use Rattle.core_c.proofs.halzuqeen_write.Tie as tie
-use Rattle.core_c.proofs.halzuqeen_write.Reads as reads
-use Rattle.core_c.proofs.halzuqeen_write.Lts as lts
-use Rattle.core_c.proofs.decode.record_in.Reads as record-in-reads
-use Rattle.core_c.proofs.encode.put_length.Reads as put-length-reads
-use Rattle.hex_writer.proofs.write.Reads as write-reads
 
 returns : tie.Need-returns
 returns c =
@@ -18,24 +13,6 @@ returns-2 : tie.Need-returns-2
 returns-2 c =
     let a = c .before .before .before .before .before .before .args in
     leaves _ _ _ _ (write-wrong-size (a .header .now) (a .image .now) (a .text .now) (a .size .now) (c .before .if1 .left) (c .if2 .taken))
-
-record-in-requires : tie.Need-record-in-requires
-record-in-requires c κs = search needs
-
-write-requires : tie.Need-write-requires
-write-requires c κs = search needs
-
-put-length-requires : tie.Need-put-length-requires
-put-length-requires c κs = search needs
-
-cast-result : tie.Need-cast-result
-cast-result c = search needs
-
-same-length : tie.Need-same-length
-same-length c = search needs
-
-same-length-2 : tie.Need-same-length-2
-same-length-2 c = search needs
 
 returns-3 : tie.Need-returns-3
 returns-3 c =
@@ -49,10 +26,10 @@ halzuqeen-write-spec =
     (tie.spec
     returns
     returns-2
-    record-in-requires
-    write-requires
-    put-length-requires
-    cast-result
-    same-length
-    same-length-2
+    (λ c κs. search needs)
+    (λ c κs. search needs)
+    (λ c κs. search needs)
+    (λ c. search needs)
+    (λ c. search needs)
+    (λ c. search needs)
     returns-3)

@@ -8,24 +8,6 @@ use Rattle.core_c.proofs.Putting.{sets-whole}
 use borrow.Author.Needs.{needs}
 use Rattle.core_c.proofs.encode.put_eight.Statement.{statement}
 use Rattle.core_c.proofs.encode.put_eight.Tie as tie
-use Rattle.core_c.proofs.encode.put_eight.Reads as reads
-use Rattle.core_c.proofs.encode.put_eight.Lts as lts
-use Rattle.core_c.proofs.encode.put32.Reads as put32-reads
-
-slice-write-bytes : tie.Need-slice-write-bytes
-slice-write-bytes c = search needs
-
-slice-write-bytes-2 : tie.Need-slice-write-bytes-2
-slice-write-bytes-2 c = search needs
-
-slice-write-bytes-3 : tie.Need-slice-write-bytes-3
-slice-write-bytes-3 c = search needs
-
-slice-write-bytes-4 : tie.Need-slice-write-bytes-4
-slice-write-bytes-4 c = search needs
-
-put32-requires : tie.Need-put32-requires
-put32-requires c κs = simp length-set (omega arith)
 
 same-length : tie.Need-same-length
 same-length c =
@@ -41,10 +23,10 @@ pub put-eight-spec : {M : Type 1} → statement M
 put-eight-spec =
     tie.close
     (tie.spec
-    slice-write-bytes
-    slice-write-bytes-2
-    slice-write-bytes-3
-    slice-write-bytes-4
-    put32-requires
+    (λ c. search needs)
+    (λ c. search needs)
+    (λ c. search needs)
+    (λ c. search needs)
+    (λ c κs. simp length-set (omega arith))
     same-length
     returns)

@@ -1,6 +1,6 @@
 -- The loop puts what is left. Assumes nothing.
-use mathlib.Core.Path.{_≡_, refl, sym, ap, _∙_}
-use Prim.Native.Nat.{ℕ, _-_, _≤_}
+use mathlib.Core.Path.{_≡_, refl, sym, _∙_}
+use Prim.Native.Nat.{_-_, _≤_}
 use native.Mathlib.Omega.{arith}
 use lib.ListN.{length, length-set}
 use lib.Seq.{sets}
@@ -8,8 +8,6 @@ use Rattle.core_c.specs.Records.{lowFirst}
 use Rattle.core_c.proofs.Putting.{sets-whole, put-more}
 use Rattle.core_c.proofs.encode.put_length.Statement.{statement}
 use Rattle.core_c.proofs.encode.put_length.Tie as tie
-use Rattle.core_c.proofs.encode.put_length.Reads as reads
-use Rattle.core_c.proofs.encode.put_length.Lts as lts
 
 abbrev Inv-loop : tie.InvT-loop
 Inv-loop bytes₀ n rest₀ at₀ bytes rest at =
@@ -18,28 +16,10 @@ Inv-loop bytes₀ n rest₀ at₀ bytes rest at =
 abbrev μ-loop : tie.MeasureT-loop
 μ-loop bytes₀ n rest₀ at₀ bytes rest at = 8 - at
 
-loop-holds : tie.Need-loop-holds Inv-loop μ-loop
-loop-holds c = (omega arith, c .pre, refl)
-
-cast-bytes : tie.Need-cast-bytes Inv-loop μ-loop
-cast-bytes c = omega arith
-
-slice-write-bytes : tie.Need-slice-write-bytes Inv-loop μ-loop
-slice-write-bytes c = omega (arith, c .before .loop .inv .1, c .loop-test .taken)
-
-add-at : tie.Need-add-at Inv-loop μ-loop
-add-at c = omega arith
-
-loop-less : tie.Need-loop-less Inv-loop μ-loop
-loop-less c = omega arith
-
 loop-again : tie.Need-loop-again Inv-loop μ-loop
 loop-again c =
     let l = c .before .loop in
     (omega arith, length-set (l .bytes) (l .at) _ ∙ l .inv .1, l .inv .2 ∙ put-more (l .bytes) (l .at) (l .rest) (omega arith))
-
-same-length : tie.Need-same-length Inv-loop μ-loop
-same-length c = c .before .loop .inv .1 ∙ sym (c .before .before .pre)
 
 returns : tie.Need-returns Inv-loop μ-loop
 returns c =
@@ -55,11 +35,11 @@ put-length-spec =
     (tie.spec
     Inv-loop
     μ-loop
-    loop-holds
-    cast-bytes
-    slice-write-bytes
-    add-at
-    loop-less
+    (λ c. (omega arith, c .pre, refl))
+    (λ c. omega arith)
+    (λ c. omega (arith, c .before .loop .inv .1, c .loop-test .taken))
+    (λ c. omega arith)
+    (λ c. omega arith)
     loop-again
-    same-length
+    (λ c. c .before .loop .inv .1 ∙ sym (c .before .before .pre))
     returns)
