@@ -125,6 +125,9 @@ module _ (s : Session) (bytes : List ℕ) (a : Answer) where
   right-step : Right (stepWith s bytes a)
   right-step = subst Right (sym (looked-up s bytes a (lookupOf (s .header .part) (s .header .macros)) refl)) (right-for (lookupOf (s .header .part) (s .header .macros)))
 
+pub header-stays : (s : Session) (bytes : List ℕ) (a : Answer) → (stepWith s bytes a) .session .header ≡ s .header
+header-stays s bytes a = (right-step s bytes a) .header
+
 -- ---- the claims
 
 kept : (s : Session) (bytes : List ℕ) (a : Answer) → Unrefused (stepWith s bytes a) → possible ((stepWith s bytes a) .session) ≡ true

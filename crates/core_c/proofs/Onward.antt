@@ -1,0 +1,83 @@
+-- The bytes of a possible session hold a possible session. Assumes nothing.
+use mathlib.Core.Bool.{Bool, true, false, false≢true, _&&_, cond}
+use mathlib.Core.Path.{_≡_, refl, sym, ap, _∙_}
+use Prim.Native.Nat.{ℕ, _≤_}
+use native.Mathlib.Omega.{arith}
+use borrow.Author.Tests.{lt-ltb, ltb-true, le-leb, leb-true}
+use lib.Dec.{eqb, leb, ltb}
+use lib.ListN.{length}
+use Rattle.core_c.proofs.Backs.{Near, near, is-session}
+use Rattle.core_c.proofs.Called.{step-taken}
+use Rattle.core_c.proofs.Numbers.{not-thirteen}
+use Rattle.core_c.proofs.Spelled.{low-less}
+use Rattle.core_c.specs.Calls.{Left, wrongLength, stepInto, stepCall}
+use Rattle.core_c.specs.Claims.{Twelve, Never13}
+use Rattle.core_c.specs.Sessions.{sessionBytes, sessionIn}
+use Rattle.flow.specs.declared.Entry.{Entry}
+use Rattle.image.specs.declared.Header.{Header}
+use Rattle.parts.specs.Parts.{lookupOf}
+use Rattle.parts.specs.declared.Geometry.{Geometry}
+use Rattle.parts.specs.declared.Lookup.{Lookup}
+use Rattle.parts.specs.declared.Lookup.the-variants.{Found, Refused as NotFound}
+use Rattle.session.proofs.Possibility.{Parts, parts, whole}
+use Rattle.session.specs.Possible.{headerFits, movesIn, progressFits, reportFits, possibleIn, possibleFor, possible}
+use Rattle.session.specs.declared.Progress.{Progress}
+use Rattle.session.specs.declared.Session.{Session}
+
+-- tests that smaller numbers pass too
+and-both : (a a′ b b′ : Bool) → (a ≡ true → a′ ≡ true) → (b ≡ true → b′ ≡ true) → (a && b) ≡ true → (a′ && b′) ≡ true
+and-both true a′ true b′ f g e = rw (f refl, g refl)
+and-both true a′ false b′ f g e = absurd (false≢true e)
+and-both false a′ b b′ f g e = absurd (false≢true e)
+
+under : (x y m : ℕ) → y ≤ x → ltb x m ≡ true → ltb y m ≡ true
+under x y m h e = lt-ltb y m (omega (arith, h, ltb-true x m e))
+
+within : (x y m : ℕ) → y ≤ x → leb x m ≡ true → leb y m ≡ true
+within x y m h e = le-leb y m (omega (arith, h, leb-true x m e))
+
+smaller : (g : Geometry) (y : Entry) (p q : Progress) → q .at ≤ p .at → q .waits ≤ p .waits → q .polls ≤ p .polls → q .attempts ≤ p .attempts
+    → progressFits g y p ≡ true
+    → progressFits g y q ≡ true
+smaller g y p q a b c d =
+    and-both (ltb (p .at) (movesIn g y) && leb (p .waits) 16 && ltb (p .polls) 10000) _ (ltb (p .attempts) 30) _
+    (and-both (ltb (p .at) (movesIn g y) && leb (p .waits) 16) _ (ltb (p .polls) 10000) _
+    (and-both (ltb (p .at) (movesIn g y)) _ (leb (p .waits) 16) _ (under (p .at) (q .at) (movesIn g y) a) (within (p .waits) (q .waits) 16 b))
+    (under (p .polls) (q .polls) 10000 c))
+    (under (p .attempts) (q .attempts) 30 d)
+
+module _ (g : Geometry) (s d : Session) (k : Near s d) where
+  stands-near : (t : Bool) → s .finished ≡ t → cond t (reportFits (s .number) (s .step)) (progressFits g (s .entry) (s .progress)) ≡ true
+      → cond t (reportFits (d .number) (d .step)) (progressFits g (d .entry) (d .progress)) ≡ true
+  stands-near true e f = rw (k .number, k .step) f
+  stands-near false e f =
+      rw (k .entry)
+      (smaller g (s .entry) (s .progress) (d .progress) (omega (arith, k .at, low-less (s .progress .at))) (omega (arith, k .waits, low-less (s .progress .waits))) (omega (arith, k .polls, low-less (s .progress .polls))) (omega (arith, k .attempts, low-less (s .progress .attempts))) f)
+
+  near-parts : Parts g s → Parts g d
+  near-parts p = record {
+    header = ap (headerFits g) (k .header) ∙ p .header;
+    count = omega (arith, k .transfers, low-less (s .transfers), p .count);
+    stands = ap (λ (t : Bool). cond t (reportFits (d .number) (d .step)) (progressFits g (d .entry) (d .progress))) (k .finished) ∙ stands-near (s .finished) refl (p .stands);
+  }
+
+near-possible : (s d : Session) → Near s d → possible s ≡ true → possible d ≡ true
+near-possible s d k can = by (lookupOf (s .header .part) (s .header .macros)) refl
+  where
+    by : (l : Lookup) → lookupOf (s .header .part) (s .header .macros) ≡ l → possible d ≡ true
+    by (NotFound n) e = absurd (false≢true (sym (ap (λ (l : Lookup). possibleFor l s) e) ∙ can))
+    by (Found g) e =
+        let is : possibleIn g s ≡ true = sym (ap (λ (l : Lookup). possibleFor l s) e) ∙ can in
+        let found : lookupOf (d .header .part) (d .header .macros) ≡ Found g = ap (λ (h : Header). lookupOf (h .part) (h .macros)) (k .header) ∙ e in
+        ap (λ (l : Lookup). possibleFor l d) found ∙ whole g d (near-parts g s d k (parts g s is))
+
+-- the next step on a possible session's bytes
+pub next-step : (s : Session) → Twelve (s .header) → possible s ≡ true → Never13 (sessionBytes s)
+unfolding stepCall
+next-step s n can image a outcome = by (eqb (length (sessionBytes s)) 45 && eqb (length outcome) 8)
+  where
+    by : (t : Bool) → ¬ ((cond t (stepInto (sessionBytes s) image a) (wrongLength (sessionBytes s) outcome)) .number ≡ 13)
+    by true e =
+        not-thirteen (sessionIn (sessionBytes s)) image a (near-possible s (sessionIn (sessionBytes s)) (near s n) can)
+        (sym (ap (λ (x : Left). x .number) (step-taken (sessionBytes s) image a (is-session s n))) ∙ e)
+    by false e = omega (arith, e)

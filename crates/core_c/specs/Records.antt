@@ -1,0 +1,24 @@
+-- An image's record as 17 bytes. Assumes nothing.
+use mathlib.Core.List.{List, [], _∷_, _++_}
+use Prim.Native.Nat.{ℕ, zero, suc, _+_, _*_, _/_, _%_}
+use lib.ListN.{getD, take, drop}
+use Rattle.image.specs.declared.Header.{Header}
+
+-- 'Words have the low byte first': a number in n bytes
+abbrev pub lowFirst : (n value : ℕ) → List ℕ
+lowFirst zero v = []
+lowFirst (suc n) v = v % 256 ∷ lowFirst n (v / 256)
+
+-- part at 0, macros at 1, sum at 2, metadata at 4, level at 16
+unfoldable pub recordBytes : Header → List ℕ
+recordBytes h = h .part ∷ h .macros ∷ h .sum % 256 ∷ h .sum / 256 ∷ (h .metadata ++ (h .level ∷ []))
+
+-- the record that bytes hold from their start on
+unfoldable pub recordIn : List ℕ → Header
+recordIn bs = record {
+  part = getD bs 0 0;
+  macros = getD bs 1 0;
+  sum = getD bs 2 0 + 256 * getD bs 3 0;
+  metadata = take 12 (drop 4 bs);
+  level = getD bs 16 0;
+}

@@ -1,0 +1,186 @@
+// Records, sessions and outcomes put into a caller's bytes.
+ghost use mathlib.Core.List.{[], _∷_, _++_};
+ghost use mathlib.Core.Path.{_≡_};
+ghost use Prim.Native.Nat.{_+_, _≤_};
+ghost use lib.ListN.{length};
+ghost use lib.Seq.{sets};
+ghost use Rattle.core_c.specs.Outcomes.{eightBytes, packetBytes, outcomeBytes, numberOf};
+ghost use Rattle.core_c.specs.Records.{lowFirst, recordBytes};
+ghost use Rattle.core_c.specs.Sessions.{entryByte, flagByte, singles, progressBytes, sessionBytes};
+use flow::Entry;
+use flow::Packet;
+use image::Header;
+use session::Outcome;
+use session::Progress;
+use session::Session;
+
+// Puts a word, the low byte first.
+fn put32(bytes: &mut [u8], at: usize, word: u32)
+    requires { ⌜ at + 4 ≤ length (now bytes) ⌝ }
+    ensures { λ _. ⌜ now (bytes .exit) ≡ sets (now (bytes .entry)) at (lowFirst 4 word) ⌝ }
+{
+    let second = word / 256;
+    let third = second / 256;
+    let fourth = third / 256;
+    bytes[at] = (word % 256) as u8;
+    bytes[at + 1] = (second % 256) as u8;
+    bytes[at + 2] = (third % 256) as u8;
+    bytes[at + 3] = (fourth % 256) as u8;
+}
+
+// Puts a length, the low byte first.
+pub(crate) fn put_length(bytes: &mut [u8], n: usize)
+    requires { ⌜ length (now bytes) ≡ 8 ⌝ }
+    ensures { λ _. ⌜ now (bytes .exit) ≡ lowFirst 8 n ⌝ }
+{
+    let mut rest = n;
+    let mut at: usize = 0;
+    while at < 8 {
+        bytes[at] = (rest % 256) as u8;
+        rest = rest / 256;
+        at += 1;
+    }
+}
+
+// The bytes of a record in a row.
+fn record_row(part: u8, macros: u8, low: u8, high: u8, m: [u8; 12], level: u8) -> [u8; 17]
+    ensures { λ r. ⌜ r ≡ part ∷ macros ∷ low ∷ high ∷ (m ++ (level ∷ [])) ⌝ }
+{
+    [
+        part,
+        macros,
+        low,
+        high,
+        m[0],
+        m[1],
+        m[2],
+        m[3],
+        m[4],
+        m[5],
+        m[6],
+        m[7],
+        m[8],
+        m[9],
+        m[10],
+        m[11],
+        level,
+    ]
+}
+
+// Puts a record at the start.
+pub(crate) fn put_record(bytes: &mut [u8], h: Header)
+    requires { ⌜ 17 ≤ length (now bytes) ⌝ }
+    ensures { λ _. ⌜ now (bytes .exit) ≡ sets (now (bytes .entry)) 0 (recordBytes h) ⌝ ∗ ⌜ length (recordBytes h) ≡ 17 ⌝ }
+{
+    let m = h.metadata;
+    let sum = h.sum;
+    let row = record_row(
+        h.part,
+        h.macros,
+        (sum % 256) as u8,
+        (sum / 256) as u8,
+        m,
+        h.level,
+    );
+    text::store(bytes, 0, &row, 0, 17);
+}
+
+fn entry_byte(y: Entry) -> u8
+    ensures { λ r. ⌜ r ≡ entryByte y ⌝ }
+{
+    match y {
+        Entry::FromOpen => 0,
+        Entry::FromProtected => 1,
+    }
+}
+
+fn flag_byte(b: bool) -> u8
+    ensures { λ r. ⌜ r ≡ flagByte b ⌝ }
+{
+    if b { 1 } else { 0 }
+}
+
+// Puts the single bytes of a session.
+fn put_singles(bytes: &mut [u8], s: Session)
+    requires { ⌜ length (now bytes) ≡ 45 ⌝ }
+    ensures { λ _. ⌜ now (bytes .exit) ≡ sets (now (bytes .entry)) 17 (singles s) ⌝ }
+{
+    let y = s.entry;
+    bytes[17] = entry_byte(y);
+    bytes[18] = flag_byte(s.finished);
+    bytes[19] = s.number;
+    bytes[20] = s.step;
+}
+
+// Puts the words of a session's progress.
+fn put_progress(bytes: &mut [u8], p: Progress)
+    requires { ⌜ length (now bytes) ≡ 45 ⌝ }
+    ensures { λ _. ⌜ now (bytes .exit) ≡ sets (now (bytes .entry)) 21 (progressBytes p) ⌝ }
+{
+    put32(bytes, 21, p.at);
+    put32(bytes, 25, p.waits);
+    put32(bytes, 29, p.polls);
+    put32(bytes, 33, p.attempts);
+    put32(bytes, 37, p.kept);
+}
+
+// Puts a session.
+pub(crate) fn put_session(bytes: &mut [u8], s: Session)
+    requires { ⌜ length (now bytes) ≡ 45 ⌝ }
+    ensures { λ _. ⌜ now (bytes .exit) ≡ sessionBytes s ⌝ }
+{
+    let h = s.header;
+    let p = s.progress;
+    put_record(bytes, h);
+    put_singles(bytes, s);
+    put_progress(bytes, p);
+    put32(bytes, 41, s.transfers);
+}
+
+// Puts the eight bytes of an outcome.
+fn put_eight(bytes: &mut [u8], kind: u8, first: u8, second: u8, word: u32)
+    requires { ⌜ length (now bytes) ≡ 8 ⌝ }
+    ensures { λ _. ⌜ now (bytes .exit) ≡ eightBytes kind first second word ⌝ }
+{
+    bytes[0] = kind;
+    bytes[1] = first;
+    bytes[2] = second;
+    bytes[3] = 0;
+    put32(bytes, 4, word);
+}
+
+// Puts a request.
+fn put_packet(bytes: &mut [u8], p: Packet)
+    requires { ⌜ length (now bytes) ≡ 8 ⌝ }
+    ensures { λ _. ⌜ now (bytes .exit) ≡ packetBytes p ⌝ }
+{
+    match p {
+        Packet::Xres => put_eight(bytes, 1, 0, 0, 0),
+        Packet::LineReset => put_eight(bytes, 2, 0, 0, 0),
+        Packet::Read(request) => put_eight(bytes, 3, request, 0, 0),
+        Packet::Write(request, word, parity) => put_eight(bytes, 4, request, parity, word),
+    }
+}
+
+// Puts an outcome.
+pub(crate) fn put_outcome(bytes: &mut [u8], o: Outcome)
+    requires { ⌜ length (now bytes) ≡ 8 ⌝ }
+    ensures { λ _. ⌜ now (bytes .exit) ≡ outcomeBytes o ⌝ }
+{
+    match o {
+        Outcome::Refused(n) => put_eight(bytes, 0, n, 0, 0),
+        Outcome::Ask(p) => put_packet(bytes, p),
+        Outcome::Told(r) => put_eight(bytes, 5, r.number, r.step, r.transfers),
+    }
+}
+
+// The number of a refusal, and 0 of anything else.
+pub(crate) fn number_of(o: Outcome) -> u32
+    ensures { λ r. ⌜ r ≡ numberOf o ⌝ }
+{
+    match o {
+        Outcome::Refused(n) => n as u32,
+        Outcome::Ask(_) => 0,
+        Outcome::Told(_) => 0,
+    }
+}
