@@ -2,9 +2,11 @@
 //! request. Implement `Core` for the core in question and call `texts` and `sessions`.
 
 mod runs;
+mod steps;
 mod texts;
 
-pub use runs::{one_session, random_run, sessions, Run, Tampered};
+pub use runs::{random_run, Run, Tampered};
+pub use steps::{one_session, sessions, Tally};
 pub use texts::{damage, texts};
 
 use crate::hex;
@@ -12,10 +14,11 @@ use crate::image::Header;
 use crate::session::{self, Outcome, Session};
 use crate::wire::Answer;
 use std::collections::BTreeMap;
+use std::fmt::Debug;
 
 /// The calls of a core, as DESIGN's table of calls has them.
 pub trait Core {
-    type Session: Clone;
+    type Session: Clone + PartialEq + Debug;
     fn read(&self, part: u32, macros: u32, text: &[u8], buffer: &mut [u8]) -> (u8, Header);
     fn write(&self, header: &Header, image: &[u8], text: &mut [u8]) -> (u8, usize);
     fn start(&self, header: &Header, image: &[u8], leave: bool) -> (Self::Session, Outcome);
@@ -62,8 +65,8 @@ mod tests {
 
     #[test]
     fn sessions_reach_every_number() {
-        let counts = sessions(&Reference, 2, 500);
-        println!("{counts:?}");
-        assert!((15..=30).chain([0]).all(|number| counts.contains_key(&number)), "{counts:?}");
+        let tally = sessions(&Reference, 2, 500);
+        println!("{tally:?}");
+        assert!((15..=30).chain([0]).all(|number| tally.numbers.contains_key(&number)), "{tally:?}");
     }
 }

@@ -22,6 +22,9 @@ pub fn texts(core: &impl Core, seed: u64, rounds: usize) -> Counts {
             base = base_text(&mut rng);
         }
         let (mut part, mut macros, mut text) = (base.0, base.1, base.2.clone());
+        if rng.chance(5) {
+            text = random_text(&mut rng, &text);
+        }
         for _ in 0..rng.below(3) {
             damage(&mut rng, &mut text);
         }
@@ -104,6 +107,28 @@ fn base_text(rng: &mut Rng) -> (u32, u32, Vec<u8>) {
     let (small, lf) = (*rng.pick(&choices), *rng.pick(&choices));
     let text = texts::text(rng, &lines, small, lf);
     (part, macros, text)
+}
+
+/// A text that nobody meant: any bytes, the alphabet's characters, or whole records of any kind, at
+/// times after the first lines of a good text.
+fn random_text(rng: &mut Rng, good: &[u8]) -> Vec<u8> {
+    let lines = good.split_inclusive(|&b| b == b'\n').take(rng.below(4));
+    let mut text: Vec<u8> = if rng.bit() { lines.flatten().copied().collect() } else { vec![] };
+    match rng.below(3) {
+        0 => text.extend(rng.bytes(rng.clone().below(600))),
+        1 => (0..rng.below(600)).for_each(|_| text.push(*rng.pick(b"0123456789ABCDEFabcdef:\r\n"))),
+        _ => {
+            for _ in 0..rng.below(8) {
+                let (kind, count) = (rng.below(7) as u8, rng.below(20));
+                let address = if rng.bit() { 0 } else { rng.word() as u16 };
+                let line = texts::Line::new(address, kind, &rng.bytes(count)).text();
+                text.extend(line.as_bytes());
+                text.extend_from_slice(if rng.bit() { b"\n" } else { b"\r\n" });
+            }
+            text.extend(texts::Line::end().text().bytes().chain(*b"\r\n"));
+        }
+    }
+    text
 }
 
 /// One damage: bytes changed, put in or taken out, lines repeated, lost or exchanged, or a record
