@@ -2,8 +2,9 @@
 
 use super::outcome_bytes;
 use crate::hex::text_length;
+use crate::image::Header;
 use crate::indexed::{header_bytes, started};
-use crate::parts::SIZES;
+use crate::parts::{KILL, SIZES};
 use crate::rng::Rng;
 use crate::session::Outcome;
 use crate::texts::sample_image;
@@ -63,6 +64,15 @@ fn start_and_step(rng: &mut Rng, part: u32, macros: u32) -> u64 {
             }
             calls += 2;
         }
+    }
+    // Any byte but 0 is leave for KILL.
+    let killing = Header { level: KILL, ..header };
+    for leave in 0..=255 {
+        let (mut session, mut outcome) = ([LEFT; raw::SESSION], [LEFT; raw::OUTCOME]);
+        let number = raw::start(&header_bytes(&killing), &image, leave, &mut session, &mut outcome);
+        assert_eq!(number, if leave == 0 { 15 } else { 0 });
+        assert_eq!(session, if leave == 0 { [0; raw::SESSION] } else { started(&killing) });
+        calls += 1;
     }
     // Entry or finished over 1: 13, said by the outcome too.
     for (at, mark) in (17..19).flat_map(|at| (2..=255).map(move |mark| (at, mark))) {

@@ -43,7 +43,14 @@ impl Bench {
     }
 
     /// Both step these bytes; gives what came.
-    fn step(&mut self, bytes: &mut [u8; BYTES], lent: &[u8], answer: Answer, tally: &mut Forged) -> Outcome {
+    fn step(
+        &mut self,
+        rng: &mut Rng,
+        bytes: &mut [u8; BYTES],
+        lent: &[u8],
+        answer: Answer,
+        tally: &mut Forged,
+    ) -> Outcome {
         let (mut theirs, mut got) = (*bytes, [UNWRITTEN; raw::OUTCOME]);
         let before = *bytes;
         // The lists of every entry that the step may look at.
@@ -55,7 +62,7 @@ impl Bench {
         }
         let key = |entry| (header.part, header.macros, header.level, entry);
         let outcome = indexed::step(bytes, lent.len(), answer, |_, entry| &self.lists[&key(entry)]);
-        let number = raw::step(&mut theirs, lent, abi_answer(answer), &mut got);
+        let number = raw::step(&mut theirs, lent, spelled(rng, answer), &mut got);
         assert_eq!(got, outcome_bytes(outcome), "{before:?} {answer:?}");
         assert_eq!(theirs, *bytes, "{before:?} {answer:?}");
         tally.steps += 1;
@@ -105,6 +112,21 @@ impl Bench {
         };
         let word = if rng.chance(20) { rng.word() } else { fitting };
         Answer::Wire { ack, word, parity: parity(word) != rng.chance(40) }
+    }
+}
+
+/// An answer in any of the ABI's spellings: a reset is done by any byte but 0, whatever stands beside it, and
+/// a parity byte over 1 is no word's parity.
+fn spelled(rng: &mut Rng, answer: Answer) -> raw::Answer {
+    let any = rng.byte();
+    match (abi_answer(answer), answer) {
+        (_, Answer::ResetDone) => {
+            raw::Answer { reset_done: any.max(1), ack: rng.byte(), word: rng.word(), parity: rng.byte() }
+        }
+        (wire, Answer::Wire { word, parity: bit, .. }) if bit != parity(word) && any > 1 => {
+            raw::Answer { parity: any, ..wire }
+        }
+        (wire, _) => wire,
     }
 }
 
@@ -190,7 +212,7 @@ fn one(
         let answer = bench.answer(rng, &bytes);
         let lent = if rng.chance(30) { &image[..rng.below(image.len())] } else { &image[..] };
         let finished = bytes[18] == 1;
-        match bench.step(&mut bytes, lent, answer, tally) {
+        match bench.step(rng, &mut bytes, lent, answer, tally) {
             Outcome::Refused(13) => return,
             Outcome::Report(_) if finished => return,
             _ => {}
