@@ -27,7 +27,8 @@ fn painted(mut call: &mut dyn FnMut()) -> usize {
             clobber_abi("C"),
         );
     }
-    BYTES - stack.iter().position(|&byte| byte != PAINT).unwrap_or(BYTES)
+    let left = stack.iter().position(|&byte| byte != PAINT).unwrap_or(BYTES);
+    (BYTES - left).next_multiple_of(16)
 }
 
 /// What the call needs beyond an empty one.
