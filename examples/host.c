@@ -11,7 +11,7 @@
 #include "halzuqeen.h"
 #include "wire.h"
 
-enum { RECORD = 17, SESSION = 45, OUTCOME = 8, REPORT = 5 };
+enum { RECORD = HALZUQEEN_RECORD_SIZE, SESSION = HALZUQEEN_SESSION_SIZE, OUTCOME = HALZUQEEN_OUTCOME_SIZE };
 enum { MOST_TEXT = 1 << 20, MOST_IMAGE = 131200 }; /* part 3 with two macros */
 
 static uint8_t text[MOST_TEXT], image[MOST_IMAGE];
@@ -44,13 +44,15 @@ static int refused(uint32_t number)
 /* The report in an outcome of kind 5. */
 static int told(const uint8_t *outcome)
 {
-    unsigned long transfers = outcome[4] | (unsigned long)outcome[5] << 8 | (unsigned long)outcome[6] << 16
-        | (unsigned long)outcome[7] << 24;
-    if (outcome[1] == 0) {
+    const uint8_t *bytes = outcome + HALZUQEEN_OUTCOME_TRANSFERS;
+    unsigned long transfers = bytes[0] | (unsigned long)bytes[1] << 8 | (unsigned long)bytes[2] << 16
+        | (unsigned long)bytes[3] << 24;
+    int number = outcome[HALZUQEEN_OUTCOME_NUMBER];
+    if (number == 0) {
         printf("done %lu\n", transfers);
         return 0;
     }
-    printf("failed %d step %d transfers %lu\n", outcome[1], outcome[2], transfers);
+    printf("failed %d step %d transfers %lu\n", number, outcome[HALZUQEEN_OUTCOME_STEP], transfers);
     return 1;
 }
 
@@ -59,7 +61,7 @@ static int program(const uint8_t *record, size_t size, int leave)
 {
     uint8_t session[SESSION], outcome[OUTCOME];
     uint32_t number = halzuqeen_start(record, RECORD, image, size, leave != 0, session, SESSION, outcome, OUTCOME);
-    while (number == 0 && outcome[0] != REPORT) {
+    while (number == 0 && outcome[HALZUQEEN_OUTCOME_KIND] != HALZUQEEN_REPORT) {
         struct answer answer = exchange(outcome);
         number = halzuqeen_step(session, SESSION, image, size, answer.reset_done, answer.ack, answer.word,
             answer.parity, outcome, OUTCOME);

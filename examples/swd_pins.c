@@ -1,10 +1,10 @@
 /* exchange() on pins: SWD as Arm's Debug Interface v5 has it and source document 004 in its appendix C.
  * SWDIO changes and is sampled while SWDCLK is low; the board samples and changes it on the rising edge.
  * Between packets SWDCLK rests high and SWDIO low. */
+#include "halzuqeen.h"
 #include "pins.h"
 #include "wire.h"
 
-enum { XRES = 1, LINE_RESET = 2, READ = 3, WRITE = 4 };
 enum { OK = 1, WAIT = 2, FAULT = 4 };
 
 /* An attempt of step 1 must be rare enough for thirty of them to span the board's start (5 ms), and often
@@ -62,8 +62,9 @@ static void xres(void)
 static struct answer transfer(const uint8_t *outcome)
 {
     struct answer answer = {0, 0, 0, 0};
-    int reads = outcome[0] == READ;
-    put(outcome[1], 8);
+    const uint8_t *word = outcome + HALZUQEEN_OUTCOME_WORD;
+    int reads = outcome[HALZUQEEN_OUTCOME_KIND] == HALZUQEEN_READ;
+    put(outcome[HALZUQEEN_OUTCOME_REQUEST], 8);
     pins_release();
     cycle();
     answer.ack = (uint8_t)get(3);
@@ -75,8 +76,8 @@ static struct answer transfer(const uint8_t *outcome)
     }
     cycle();
     if (answer.ack == OK && !reads) {
-        put(outcome[4] | (uint32_t)outcome[5] << 8 | (uint32_t)outcome[6] << 16 | (uint32_t)outcome[7] << 24, 32);
-        put(outcome[2], 1);
+        put(word[0] | (uint32_t)word[1] << 8 | (uint32_t)word[2] << 16 | (uint32_t)word[3] << 24, 32);
+        put(outcome[HALZUQEEN_OUTCOME_PARITY], 1);
     }
     put(0, 3); /* idle, so that the board can finish */
     return answer;
@@ -85,9 +86,9 @@ static struct answer transfer(const uint8_t *outcome)
 struct answer exchange(const uint8_t outcome[8])
 {
     struct answer done = {1, 0, 0, 0};
-    if (outcome[0] == XRES)
+    if (outcome[HALZUQEEN_OUTCOME_KIND] == HALZUQEEN_XRES)
         xres();
-    else if (outcome[0] == LINE_RESET)
+    else if (outcome[HALZUQEEN_OUTCOME_KIND] == HALZUQEEN_LINE_RESET)
         line_reset();
     else
         return transfer(outcome);

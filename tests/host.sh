@@ -8,6 +8,10 @@ library=$1 header=$2
 export CARGO_TARGET_DIR=${CARGO_TARGET_DIR:-$PWD/target/cargo}
 out=$PWD/target/host
 mkdir -p "$out"
+# The loop that docs/EMBEDDING.md shows is the host's own.
+sed -n '/^```c$/,/^```$/p' docs/EMBEDDING.md | grep -v '^```' | while read -r line; do
+    grep -qF -- "$line" examples/host.c || { echo "docs/EMBEDDING.md has a line that examples/host.c hasn't: $line" >&2; exit 1; }
+done
 cargo build --quiet --offline --release --manifest-path tests/pins/Cargo.toml
 cc -std=c99 -O2 -Wall -Wextra -Wpedantic -Wconversion -Werror -I "$header" examples/host.c examples/swd_pins.c \
     "$CARGO_TARGET_DIR/release/libpins.a" "$library/libcore_c.a" -lpthread -ldl -lm -o "$out/host"
