@@ -5,13 +5,14 @@ use crate::hex;
 use crate::image::{flash_sum, Header};
 use crate::parts::{Sizes, SIZES};
 use crate::rng::Rng;
+use crate::session;
 use crate::texts::{self, sample_image, Choice};
 
 /// Bytes lent beyond the image, to see that they stay.
 const SPARE: usize = 40;
 
 /// Reads `rounds` texts with both cores: numbers, records and every byte of the buffer must agree.
-/// Taken texts are written again by both.
+/// Each twentieth image, taken or not, is written and started by both.
 pub fn texts(core: &impl Core, seed: u64, rounds: usize) -> Counts {
     let mut rng = Rng(seed);
     let mut counts = Counts::new();
@@ -53,7 +54,7 @@ pub fn texts(core: &impl Core, seed: u64, rounds: usize) -> Counts {
     counts
 }
 
-/// Both writers on this record and image, at times with a field changed or too little room.
+/// Both writers on this record and image, at times with a field changed or too little room, and starting.
 fn written(core: &impl Core, rng: &mut Rng, sizes: &Sizes, header: &Header, image: &[u8]) {
     let (mut header, mut image) = (*header, image.to_vec());
     match rng.below(12) {
@@ -74,6 +75,10 @@ fn written(core: &impl Core, rng: &mut Rng, sizes: &Sizes, header: &Header, imag
     let expected = hex::write(&header, &image, &mut ours);
     assert_eq!(core.write(&header, &image, &mut theirs), expected);
     assert!(ours == theirs, "texts differ, number {}", expected.0);
+    // Starting checks the same, then 15.
+    let leave = rng.bit();
+    let expected = session::start(&header, &image, leave).1;
+    assert_eq!(core.start(&header, &image, leave).1, expected);
 }
 
 /// A text that is taken, or one with a fault in its contents that 6 to 10 see.

@@ -86,8 +86,29 @@ fn start_and_step(rng: &mut Rng, part: u32, macros: u32) -> u64 {
     calls
 }
 
+/// Every part and M that a byte can name: 11, but for those of the table, where the empty buffer is 12.
+fn parts() -> u64 {
+    for (part, macros) in (0..=255).flat_map(|part| (0..=255).map(move |macros| (part, macros))) {
+        let number = if SIZES.contains(&(u32::from(part), u32::from(macros))) { 12 } else { 11 };
+        let (mut record, mut length) = ([LEFT; raw::RECORD], [LEFT; raw::LENGTH]);
+        assert_eq!(raw::read(part, macros, b":00000001FF\n", &mut [], &mut record), number);
+        assert_eq!(record, [0; raw::RECORD]);
+        (record[0], record[1]) = (part, macros);
+        assert_eq!(raw::write(&record, &[], &mut [], &mut length), number);
+        let (mut session, mut outcome) = ([LEFT; raw::SESSION], [LEFT; raw::OUTCOME]);
+        assert_eq!(raw::start(&record, &[], 1, &mut session, &mut outcome), number);
+        assert_eq!((length, session), ([0; raw::LENGTH], [0; raw::SESSION]));
+        assert_eq!(outcome, outcome_bytes(Outcome::Refused(number as u8)));
+    }
+    3 * 65_536
+}
+
 /// Gives the number of calls made.
 pub fn edges() -> u64 {
     let mut rng = Rng(51);
-    SIZES.iter().map(|&(p, m)| read_and_write(&mut rng, p, m) + start_and_step(&mut rng, p, m)).sum()
+    let mut calls = parts();
+    for (part, macros) in SIZES {
+        calls += read_and_write(&mut rng, part, macros) + start_and_step(&mut rng, part, macros);
+    }
+    calls
 }
