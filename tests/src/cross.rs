@@ -7,7 +7,7 @@ mod texts;
 
 pub use runs::{random_run, Run, Tampered};
 pub use steps::{one_session, sessions, Tally};
-pub use texts::{damage, texts};
+pub use texts::{damage, texts, TextTally};
 
 use crate::hex;
 use crate::image::Header;
@@ -58,9 +58,11 @@ mod tests {
     /// The generators reach every number: the counts that a cross-check will show.
     #[test]
     fn texts_reach_every_number() {
-        let counts = texts(&Reference, 1, 4_000);
-        println!("{counts:?}");
-        assert!((0..=12).all(|number| counts.contains_key(&number)), "{counts:?}");
+        let tally = texts(&Reference, 1, 8_000);
+        println!("{tally:?}");
+        assert!((0..=12).all(|number| tally.read.contains_key(&number)), "{tally:?}");
+        assert!((6..=12).chain([0]).all(|number| tally.written.contains_key(&number)), "{tally:?}");
+        assert!((6..=12).chain([0, 15]).all(|number| tally.started.contains_key(&number)), "{tally:?}");
     }
 
     #[test]

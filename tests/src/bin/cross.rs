@@ -1,7 +1,7 @@
 //! The cross-checks: the proved core's static library held to this crate. `cross [--long] [SEED]`.
 //! The same seed is the same run; any difference ends it with a panic.
 
-use reference::cross::{sessions, texts, Counts, Tally};
+use reference::cross::{sessions, texts, Counts, Tally, TextTally};
 use reference::linked::{edges, forged, tools, Forged, Linked};
 use std::time::Instant;
 use std::{env, thread};
@@ -38,12 +38,14 @@ fn show(what: &str, counts: &Counts, wanted: impl IntoIterator<Item = u8>) {
 }
 
 fn check_texts(seed: u64, sizes: &Sizes) {
-    let mut counts = Counts::new();
+    let mut tally = TextTally::default();
     for part in shared(seed, |seed| texts(&Linked, seed, sizes.texts / THREADS)) {
-        part.into_iter().for_each(|(number, count)| *counts.entry(number).or_default() += count);
+        tally.add(&part);
     }
-    println!("texts: {} damaged or random ones read alike", counts.values().sum::<u64>());
-    show("texts", &counts, 0..=12);
+    println!("texts: {} damaged or random ones read alike", tally.read.values().sum::<u64>());
+    show("read", &tally.read, 0..=12);
+    show("written", &tally.written, (6..=12).chain([0]));
+    show("started", &tally.started, (6..=12).chain([0, 15]));
 }
 
 fn check_sessions(seed: u64, sizes: &Sizes) {
