@@ -3,7 +3,7 @@
 use crate::parts::Sizes;
 
 /// How step 3 found the board.
-#[derive(Clone, Copy, PartialEq, Eq, Debug)]
+#[derive(Clone, Copy, PartialEq, Eq, Hash, Debug)]
 pub enum Entry {
     Open,
     Protected,

@@ -2,20 +2,23 @@
 //! request. Implement `Core` for the core in question and call `texts` and `sessions`.
 
 mod runs;
+mod steps;
 mod texts;
 
-pub use runs::{one_session, random_run, sessions, Run, Tampered};
-pub use texts::{damage, texts};
+pub use runs::{random_run, Run, Tampered};
+pub use steps::{one_session, sessions, Tally};
+pub use texts::{damage, texts, TextTally};
 
 use crate::hex;
 use crate::image::Header;
 use crate::session::{self, Outcome, Session};
 use crate::wire::Answer;
 use std::collections::BTreeMap;
+use std::fmt::Debug;
 
 /// The calls of a core, as DESIGN's table of calls has them.
 pub trait Core {
-    type Session: Clone;
+    type Session: Clone + PartialEq + Debug;
     fn read(&self, part: u32, macros: u32, text: &[u8], buffer: &mut [u8]) -> (u8, Header);
     fn write(&self, header: &Header, image: &[u8], text: &mut [u8]) -> (u8, usize);
     fn start(&self, header: &Header, image: &[u8], leave: bool) -> (Self::Session, Outcome);
@@ -55,15 +58,17 @@ mod tests {
     /// The generators reach every number: the counts that a cross-check will show.
     #[test]
     fn texts_reach_every_number() {
-        let counts = texts(&Reference, 1, 4_000);
-        println!("{counts:?}");
-        assert!((0..=12).all(|number| counts.contains_key(&number)), "{counts:?}");
+        let tally = texts(&Reference, 1, 8_000);
+        println!("{tally:?}");
+        assert!((0..=12).all(|number| tally.read.contains_key(&number)), "{tally:?}");
+        assert!((6..=12).chain([0]).all(|number| tally.written.contains_key(&number)), "{tally:?}");
+        assert!((6..=12).chain([0, 15]).all(|number| tally.started.contains_key(&number)), "{tally:?}");
     }
 
     #[test]
     fn sessions_reach_every_number() {
-        let counts = sessions(&Reference, 2, 500);
-        println!("{counts:?}");
-        assert!((15..=30).chain([0]).all(|number| counts.contains_key(&number)), "{counts:?}");
+        let tally = sessions(&Reference, 2, 500);
+        println!("{tally:?}");
+        assert!((15..=30).chain([0]).all(|number| tally.numbers.contains_key(&number)), "{tally:?}");
     }
 }

@@ -4,12 +4,16 @@
 pub mod board;
 pub mod cases_hex;
 pub mod cases_session;
+pub mod claims;
 pub mod counts;
 pub mod cross;
 pub mod flow;
 pub mod fnv;
 pub mod hex;
 pub mod image;
+pub mod indexed;
+#[cfg(feature = "linked")]
+pub mod linked;
 pub mod monitor;
 pub mod parts;
 pub mod play;

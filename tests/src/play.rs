@@ -1,12 +1,11 @@
 //! Whole sessions against a board, with demand 3's claims asserted on the way.
 
 use crate::board::{Board, CallOutcome, Fate, Line, LineEvent};
-use crate::counts::{acquisitions, bound, plan, Entry};
+use crate::claims::Claims;
 use crate::flow::{self, Report};
 use crate::fnv::Fnv;
 use crate::image::Header;
 use crate::monitor::Monitor;
-use crate::parts::{PROTECTED, VIRGIN};
 use crate::rng::Rng;
 use crate::session::{start, Outcome, Session};
 use crate::wire::{Answer, Request};
@@ -174,41 +173,18 @@ fn after_report(session: &mut Session, image: &[u8], report: Report) {
 
 /// Plays a session on a plain board and asserts demand 3. The board starts OPEN or PROTECTED.
 pub fn play(header: &Header, image: &[u8], board: &Board, fate: &Hitches) -> Played {
-    let entry = if board.stored == PROTECTED { Entry::Protected } else { Entry::Open };
-    let sizes = header.sizes().expect("a part of the table");
-    let mut monitor = Monitor::new(&sizes);
+    let mut claims = Claims::new(header, board);
     let (mut met, mut lists) = (board.clone(), fate.clone());
     let mut rng = Rng(fate.rng.0 ^ 0x5EED);
     let (report, requests) = step_through(header, image, Some((&mut rng, 5_000)), |request| {
-        monitor.hand_out(request);
+        claims.handed_out(request);
         let answer = met.answer(request, &mut lists);
-        monitor.observe(request, answer);
-        // "it isn't in VIRGIN after any such list"
-        assert_ne!(met.stored, VIRGIN);
-        // "A report comes within document 01's count of transfers and resets."
-        assert!(monitor.transfers <= bound(&sizes, entry));
-        assert!(monitor.xres <= acquisitions(entry) && monitor.line_resets <= 30 * acquisitions(entry));
+        claims.answered(request, answer, &met);
         answer
     });
-    assert_eq!(met.malformed, 0);
-    // "The report's transfers are those handed out in the list."
-    assert_eq!(u64::from(report.transfers), monitor.transfers);
-    let right = board.ids.right_for(header);
-    // "It says done exactly when the board is the right part and nothing in document 01's list of
-    // mishaps has occurred."
-    assert_eq!(report.number == 0, right && monitor.mishap.is_none(), "{report:?} {:?}", monitor.mishap);
-    match (report.number, monitor.mishap) {
-        (0, _) => {
-            let (flash, locks) = image.split_at(sizes.flash());
-            assert!(met.flash == flash && met.locks == locks && met.stored == header.level);
-            assert_eq!(report.step, 9);
-            assert_eq!(monitor.transfers, plan(&sizes, entry) + monitor.delays());
-        }
-        (number, Some(mishap)) => assert_eq!(number, mishap),
-        (number, None) => assert!(!right && [16, 20].contains(&number)),
-    }
+    claims.reported(report, header, image, &met);
     assert_same_as_flow(header, image, board, fate, report, requests);
-    Played { report, requests, monitor, board: met }
+    Played { report, requests, monitor: claims.monitor, board: met }
 }
 
 /// The waiting programme hands out the same requests and ends with the same report.

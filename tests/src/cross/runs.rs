@@ -1,13 +1,12 @@
-//! Whole sessions with hitches and tampered answers, stepped by both cores.
+//! Boards with hitches of every kind, and answers tampered with.
 
-use super::{Core, Counts};
 use crate::board::{Board, CallOutcome, Ids, Line};
-use crate::counts::{loops, plan, Entry};
+use crate::claims::entry_of;
+use crate::counts::{loops, plan};
 use crate::image::Header;
-use crate::parts::{LOCKS, OPEN, PROTECTED, SIZES, TEST_MODE};
+use crate::parts::{LOCKS, OPEN, PROTECTED, TEST_MODE};
 use crate::play::Hitches;
 use crate::rng::Rng;
-use crate::session::{self, Outcome, Session};
 use crate::texts::sample_image;
 use crate::wire::{parity, Answer, Request};
 
@@ -18,6 +17,8 @@ pub struct Run {
     pub board: Board,
     pub lists: Hitches,
     pub tampered: Option<Tampered>,
+    /// One answer in so many is anything at all; 0 for none.
+    pub wild_one_in: usize,
 }
 
 /// The nth Read of an address gives its word with these bits turned.
@@ -38,7 +39,7 @@ pub fn random_run(rng: &mut Rng, part: u32, macros: u32) -> Run {
         board.ids.low = rng.byte();
     }
     let lists = Hitches::calm(rng.draw());
-    let mut run = Run { header, image, board, lists, tampered: None };
+    let mut run = Run { header, image, board, lists, tampered: None, wild_one_in: 0 };
     for _ in 0..1 + rng.below(2) {
         run.hitch(rng);
     }
@@ -48,7 +49,7 @@ pub fn random_run(rng: &mut Rng, part: u32, macros: u32) -> Run {
 impl Run {
     fn hitch(&mut self, rng: &mut Rng) {
         let sizes = self.header.sizes().unwrap();
-        let entry = if self.board.stored == PROTECTED { Entry::Protected } else { Entry::Open };
+        let entry = entry_of(&self.board);
         let (transfers, calls) = (plan(&sizes, entry), loops(&sizes, entry));
         // An early place half of the time, so that every step has its failures.
         let near = rng.bit();
@@ -94,6 +95,23 @@ impl Run {
         }
     }
 
+    /// Whether every answer is the plain board's own.
+    pub fn is_plain(&self) -> bool {
+        self.tampered.is_none() && self.wild_one_in == 0
+    }
+
+    /// Answers that no plain board gives: on a calm board of the image's IDs, a Read's word changed or
+    /// now and then anything.
+    pub fn unplain(&mut self, rng: &mut Rng) {
+        self.lists = Hitches::calm(rng.draw());
+        self.board.ids = Ids::of(&self.header);
+        if rng.chance(6) {
+            self.wild_one_in = 10 + rng.below(10_000);
+        } else {
+            self.tamper(rng);
+        }
+    }
+
     /// Turns bits of one Read's word: what no plain board does.
     fn tamper(&mut self, rng: &mut Rng) {
         let sizes = self.header.sizes().unwrap();
@@ -120,18 +138,31 @@ impl Run {
     }
 }
 
-/// Answers requests from a board and its lists, with at most one Read's word changed.
-struct Transport {
-    board: Board,
+/// Answers requests from a run's board and lists, tampering as the run says.
+pub(super) struct Transport {
+    pub(super) board: Board,
     lists: Hitches,
     tampered: Option<Tampered>,
+    wild: Option<(usize, Rng)>,
     address: u32,
     reads: u32,
 }
 
 impl Transport {
-    fn answer(&mut self, request: Request) -> Answer {
+    pub(super) fn of(run: &Run) -> Transport {
+        let wild = (run.wild_one_in > 0).then_some((run.wild_one_in, Rng(run.lists.rng.0 ^ 0x311D)));
+        let (board, lists) = (run.board.clone(), run.lists.clone());
+        Transport { board, lists, tampered: run.tampered, wild, address: 0, reads: 0 }
+    }
+
+    pub(super) fn answer(&mut self, request: Request) -> Answer {
         let answer = self.board.answer(request, &mut self.lists);
+        if let (Some((one_in, rng)), Answer::Wire { .. }) = (&mut self.wild, answer) {
+            if rng.chance(*one_in) {
+                let (ack, word) = (*rng.pick(&[1, 1, 1, 1, 2, 4, 0, 7]), rng.word());
+                return Answer::Wire { ack, word, parity: parity(word) != rng.chance(20) };
+            }
+        }
         let Answer::Wire { ack: 1, word, parity: bit } = answer else {
             return answer;
         };
@@ -157,68 +188,6 @@ impl Transport {
                 }
             }
             _ => answer,
-        }
-    }
-}
-
-/// Steps `rounds` sessions with both cores, refused steps between: every request, refusal and report
-/// must agree.
-pub fn sessions(core: &impl Core, seed: u64, rounds: usize) -> Counts {
-    let mut rng = Rng(seed);
-    let mut counts = Counts::new();
-    for round in 0..rounds {
-        let (part, macros) = SIZES[[0, 0, 0, 1, 0, 2, 0, 3][round % 8]];
-        let mut run = random_run(&mut rng, part, macros);
-        if rng.chance(3) {
-            run.lists = Hitches::calm(rng.draw());
-            run.board.ids = Ids::of(&run.header);
-            run.tamper(&mut rng);
-        }
-        let number = one_session(core, &mut rng, &run);
-        *counts.entry(number).or_default() += 1;
-    }
-    counts
-}
-
-/// Plays one run on both cores; gives the report's number, or the refusal's.
-pub fn one_session(core: &impl Core, rng: &mut Rng, run: &Run) -> u8 {
-    let Run { header, image, .. } = run;
-    let leave = !rng.chance(10);
-    let (mut ours, mut outcome) = session::start(header, image, leave);
-    let (mut theirs, got) = core.start(header, image, leave);
-    assert_eq!(got, outcome);
-    let (board, lists, tampered) = (run.board.clone(), run.lists.clone(), run.tampered);
-    let mut transport = Transport { board, lists, tampered, address: 0, reads: 0 };
-    loop {
-        let request = match outcome {
-            Outcome::Refused(number) => return number,
-            Outcome::Report(report) => {
-                refused(core, rng, &mut ours, &mut theirs, image);
-                return report.number;
-            }
-            Outcome::Request(request) => request,
-        };
-        if rng.chance(2_000) {
-            refused(core, rng, &mut ours, &mut theirs, image);
-        }
-        let answer = transport.answer(request);
-        outcome = ours.step(image, answer);
-        assert_eq!(core.step(&mut theirs, image, answer), outcome);
-    }
-}
-
-/// Steps that 12 or 14 may refuse, on copies, so that whatever they give the session stays; and the
-/// refused ones on the sessions themselves.
-fn refused<C: Core>(core: &C, rng: &mut Rng, ours: &mut Session, theirs: &mut C::Session, image: &[u8]) {
-    for _ in 0..4 {
-        let cut = if rng.bit() { image.len() } else { rng.below(image.len()) };
-        let wire = Answer::Wire { ack: rng.below(9) as u32, word: rng.word(), parity: rng.bit() };
-        let answer = if rng.bit() { wire } else { Answer::ResetDone };
-        let (mut copy, mut their_copy) = (*ours, theirs.clone());
-        let outcome = copy.step(&image[..cut], answer);
-        assert_eq!(core.step(&mut their_copy, &image[..cut], answer), outcome);
-        if let Outcome::Refused(_) = outcome {
-            (*ours, *theirs) = (copy, their_copy);
         }
     }
 }

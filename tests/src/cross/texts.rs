@@ -5,16 +5,38 @@ use crate::hex;
 use crate::image::{flash_sum, Header};
 use crate::parts::{Sizes, SIZES};
 use crate::rng::Rng;
+use crate::session::{self, Outcome};
 use crate::texts::{self, sample_image, Choice};
 
 /// Bytes lent beyond the image, to see that they stay.
 const SPARE: usize = 40;
 
+/// How often each number came.
+#[derive(Clone, Default, Debug)]
+pub struct TextTally {
+    pub read: Counts,
+    pub written: Counts,
+    pub started: Counts,
+}
+
+impl TextTally {
+    pub fn add(&mut self, other: &TextTally) {
+        let pairs = [
+            (&mut self.read, &other.read),
+            (&mut self.written, &other.written),
+            (&mut self.started, &other.started),
+        ];
+        for (to, from) in pairs {
+            from.iter().for_each(|(&number, count)| *to.entry(number).or_default() += count);
+        }
+    }
+}
+
 /// Reads `rounds` texts with both cores: numbers, records and every byte of the buffer must agree.
-/// Taken texts are written again by both.
-pub fn texts(core: &impl Core, seed: u64, rounds: usize) -> Counts {
+/// Some images, taken or not, are written and started by both.
+pub fn texts(core: &impl Core, seed: u64, rounds: usize) -> TextTally {
     let mut rng = Rng(seed);
-    let mut counts = Counts::new();
+    let mut tally = TextTally::default();
     let mut base = (0, 0, Vec::new());
     let (mut ours, mut theirs) = (Vec::new(), Vec::new());
     for round in 0..rounds {
@@ -22,6 +44,9 @@ pub fn texts(core: &impl Core, seed: u64, rounds: usize) -> Counts {
             base = base_text(&mut rng);
         }
         let (mut part, mut macros, mut text) = (base.0, base.1, base.2.clone());
+        if rng.chance(5) {
+            text = random_text(&mut rng, &text);
+        }
         for _ in 0..rng.below(3) {
             damage(&mut rng, &mut text);
         }
@@ -41,17 +66,25 @@ pub fn texts(core: &impl Core, seed: u64, rounds: usize) -> Counts {
         let got = core.read(part, macros, &text, &mut theirs);
         assert_eq!(got, expected, "round {round}");
         assert!(ours == theirs, "buffers differ, round {round}, number {}", expected.0);
-        *counts.entry(expected.0).or_default() += 1;
-        if round % 20 == 0 {
+        *tally.read.entry(expected.0).or_default() += 1;
+        if round % 50 == 0 || expected.0 == 0 && rng.chance(5) {
             let sizes = Sizes::of(base.0, base.1).unwrap();
-            written(core, &mut rng, &sizes, &expected.1, &ours[..room.min(sizes.image())]);
+            let image = &ours[..room.min(sizes.image())];
+            written(core, &mut rng, &sizes, &expected.1, image, &mut tally);
         }
     }
-    counts
+    tally
 }
 
-/// Both writers on this record and image, at times with a field changed or too little room.
-fn written(core: &impl Core, rng: &mut Rng, sizes: &Sizes, header: &Header, image: &[u8]) {
+/// Both writers on this record and image, at times with a field changed or too little room, and starting.
+fn written(
+    core: &impl Core,
+    rng: &mut Rng,
+    sizes: &Sizes,
+    header: &Header,
+    image: &[u8],
+    tally: &mut TextTally,
+) {
     let (mut header, mut image) = (*header, image.to_vec());
     match rng.below(12) {
         0 => header.part = rng.below(5) as u32,
@@ -64,6 +97,10 @@ fn written(core: &impl Core, rng: &mut Rng, sizes: &Sizes, header: &Header, imag
             let at = rng.below(image.len());
             image[at] = rng.byte();
         }
+        7 if image.len() == sizes.image() => {
+            lose_row(&mut image[..sizes.row_bytes()]);
+            header.sum = flash_sum(&image[..sizes.flash()]);
+        }
         _ => {}
     }
     let room = hex::text_length(sizes) + rng.below(4) - usize::from(rng.chance(8));
@@ -71,6 +108,19 @@ fn written(core: &impl Core, rng: &mut Rng, sizes: &Sizes, header: &Header, imag
     let expected = hex::write(&header, &image, &mut ours);
     assert_eq!(core.write(&header, &image, &mut theirs), expected);
     assert!(ours == theirs, "texts differ, number {}", expected.0);
+    *tally.written.entry(expected.0).or_default() += 1;
+    // Starting checks the same, then 15.
+    let leave = rng.bit();
+    let expected = session::start(&header, &image, leave).1;
+    assert_eq!(core.start(&header, &image, leave).1, expected);
+    let number = if let Outcome::Refused(number) = expected { number } else { 0 };
+    *tally.started.entry(number).or_default() += 1;
+}
+
+/// Makes the row one that 10 refuses.
+fn lose_row(row: &mut [u8]) {
+    row.fill(0);
+    (row[3], row[row.len() - 1]) = (128, 128);
 }
 
 /// A text that is taken, or one with a fault in its contents that 6 to 10 see.
@@ -85,9 +135,7 @@ fn base_text(rng: &mut Rng) -> (u32, u32, Vec<u8>) {
         3 => {
             let (row, length) =
                 (rng.below(header.sizes().unwrap().rows()), header.sizes().unwrap().row_bytes());
-            let row = &mut sections[0][row * length..][..length];
-            row.fill(0);
-            (row[3], row[length - 1]) = (128, 128);
+            lose_row(&mut sections[0][row * length..][..length]);
             sections[1] = flash_sum(&sections[0]).to_be_bytes().to_vec();
         }
         _ => {}
@@ -104,6 +152,28 @@ fn base_text(rng: &mut Rng) -> (u32, u32, Vec<u8>) {
     let (small, lf) = (*rng.pick(&choices), *rng.pick(&choices));
     let text = texts::text(rng, &lines, small, lf);
     (part, macros, text)
+}
+
+/// A text that nobody meant: any bytes, the alphabet's characters, or whole records of any kind, at
+/// times after the first lines of a good text.
+fn random_text(rng: &mut Rng, good: &[u8]) -> Vec<u8> {
+    let lines = good.split_inclusive(|&b| b == b'\n').take(rng.below(4));
+    let mut text: Vec<u8> = if rng.bit() { lines.flatten().copied().collect() } else { vec![] };
+    match rng.below(3) {
+        0 => text.extend(rng.bytes(rng.clone().below(600))),
+        1 => (0..rng.below(600)).for_each(|_| text.push(*rng.pick(b"0123456789ABCDEFabcdef:\r\n"))),
+        _ => {
+            for _ in 0..rng.below(8) {
+                let (kind, count) = (rng.below(7) as u8, rng.below(20));
+                let address = if rng.bit() { 0 } else { rng.word() as u16 };
+                let line = texts::Line::new(address, kind, &rng.bytes(count)).text();
+                text.extend(line.as_bytes());
+                text.extend_from_slice(if rng.bit() { b"\n" } else { b"\r\n" });
+            }
+            text.extend(texts::Line::end().text().bytes().chain(*b"\r\n"));
+        }
+    }
+    text
 }
 
 /// One damage: bytes changed, put in or taken out, lines repeated, lost or exchanged, or a record

@@ -1,0 +1,131 @@
+//! The four calls on bytes, as the C ABI has them: slices of any length, and the refusal's number or 0.
+//! `lib.rs` puts types around them.
+
+pub const RECORD: usize = 17;
+pub const SESSION: usize = 45;
+pub const OUTCOME: usize = 8;
+pub const LENGTH: usize = 8;
+
+#[allow(clippy::too_many_arguments)]
+mod abi {
+    extern "C" {
+        pub fn halzuqeen_read(
+            part: u8,
+            macros: u8,
+            text: *const u8,
+            text_bytes: usize,
+            image: *mut u8,
+            image_bytes: usize,
+            record: *mut u8,
+            record_bytes: usize,
+        ) -> u32;
+        pub fn halzuqeen_write(
+            record: *const u8,
+            record_bytes: usize,
+            image: *const u8,
+            image_bytes: usize,
+            text: *mut u8,
+            text_bytes: usize,
+            length: *mut u8,
+            length_bytes: usize,
+        ) -> u32;
+        pub fn halzuqeen_start(
+            record: *const u8,
+            record_bytes: usize,
+            image: *const u8,
+            image_bytes: usize,
+            leave: u8,
+            session: *mut u8,
+            session_bytes: usize,
+            outcome: *mut u8,
+            outcome_bytes: usize,
+        ) -> u32;
+        pub fn halzuqeen_step(
+            session: *mut u8,
+            session_bytes: usize,
+            image: *const u8,
+            image_bytes: usize,
+            reset_done: u8,
+            ack: u8,
+            word: u32,
+            parity: u8,
+            outcome: *mut u8,
+            outcome_bytes: usize,
+        ) -> u32;
+    }
+}
+
+// SAFETY, for all four: each pointer is a slice's own with its length, the mutable ones are
+// borrowed as such for the call, and the callee keeps none of them.
+
+pub fn read(part: u8, macros: u8, text: &[u8], image: &mut [u8], record: &mut [u8]) -> u32 {
+    unsafe {
+        abi::halzuqeen_read(
+            part,
+            macros,
+            text.as_ptr(),
+            text.len(),
+            image.as_mut_ptr(),
+            image.len(),
+            record.as_mut_ptr(),
+            record.len(),
+        )
+    }
+}
+
+pub fn write(record: &[u8], image: &[u8], text: &mut [u8], length: &mut [u8]) -> u32 {
+    unsafe {
+        abi::halzuqeen_write(
+            record.as_ptr(),
+            record.len(),
+            image.as_ptr(),
+            image.len(),
+            text.as_mut_ptr(),
+            text.len(),
+            length.as_mut_ptr(),
+            length.len(),
+        )
+    }
+}
+
+pub fn start(record: &[u8], image: &[u8], leave: u8, session: &mut [u8], outcome: &mut [u8]) -> u32 {
+    unsafe {
+        abi::halzuqeen_start(
+            record.as_ptr(),
+            record.len(),
+            image.as_ptr(),
+            image.len(),
+            leave,
+            session.as_mut_ptr(),
+            session.len(),
+            outcome.as_mut_ptr(),
+            outcome.len(),
+        )
+    }
+}
+
+/// An answer as the ABI takes it.
+#[derive(Clone, Copy, PartialEq, Eq, Debug)]
+pub struct Answer {
+    pub reset_done: u8,
+    pub ack: u8,
+    pub word: u32,
+    pub parity: u8,
+}
+
+pub fn step(session: &mut [u8], image: &[u8], answer: Answer, outcome: &mut [u8]) -> u32 {
+    unsafe {
+        abi::halzuqeen_step(
+            session.as_mut_ptr(),
+            session.len(),
+            image.as_ptr(),
+            image.len(),
+            answer.reset_done,
+            answer.ack,
+            answer.word,
+            answer.parity,
+            outcome.as_mut_ptr(),
+            outcome.len(),
+        )
+    }
+}

@@ -1,0 +1,92 @@
+/* A small host: reads a hex file, programs one board, prints the report.
+ *
+ *     host PART MACROS FILE [kill]
+ *
+ * 'kill' is the leave that an image of level KILL needs. It prints 'done TRANSFERS', 'refused NUMBER'
+ * or 'failed NUMBER step STEP transfers TRANSFERS', and ends with status 0, 2 or 1. */
+#include <stdio.h>
+#include <stdlib.h>
+#include <string.h>
+
+#include "halzuqeen.h"
+#include "wire.h"
+
+enum { RECORD = HALZUQEEN_RECORD_SIZE, SESSION = HALZUQEEN_SESSION_SIZE, OUTCOME = HALZUQEEN_OUTCOME_SIZE };
+enum { MOST_TEXT = 1 << 20, MOST_IMAGE = 131200 }; /* part 3 with two macros */
+
+static uint8_t text[MOST_TEXT], image[MOST_IMAGE];
+
+/* The image's bytes: 'image lent .. of exact size' (12). */
+static size_t image_bytes(unsigned part, unsigned macros)
+{
+    return part == 1 ? 16416 : part == 2 ? 32800 : macros * 65600u;
+}
+
+static size_t load(const char *path)
+{
+    FILE *file = fopen(path, "rb");
+    size_t length;
+    if (file == NULL) {
+        perror(path);
+        exit(3);
+    }
+    length = fread(text, 1, sizeof text, file);
+    fclose(file);
+    return length;
+}
+
+static int refused(uint32_t number)
+{
+    printf("refused %u\n", (unsigned)number);
+    return 2;
+}
+
+/* The report in an outcome of kind 5. */
+static int told(const uint8_t *outcome)
+{
+    const uint8_t *bytes = outcome + HALZUQEEN_OUTCOME_TRANSFERS;
+    unsigned long transfers = bytes[0] | (unsigned long)bytes[1] << 8 | (unsigned long)bytes[2] << 16
+        | (unsigned long)bytes[3] << 24;
+    int number = outcome[HALZUQEEN_OUTCOME_NUMBER];
+    if (number == 0) {
+        printf("done %lu\n", transfers);
+        return 0;
+    }
+    printf("failed %d step %d transfers %lu\n", number, outcome[HALZUQEEN_OUTCOME_STEP], transfers);
+    return 1;
+}
+
+/* One request out, one answer in, until the report. */
+static int program(const uint8_t *record, size_t size, int leave)
+{
+    uint8_t session[SESSION], outcome[OUTCOME];
+    uint32_t number = halzuqeen_start(record, RECORD, image, size, leave != 0, session, SESSION, outcome, OUTCOME);
+    while (number == 0 && outcome[HALZUQEEN_OUTCOME_KIND] != HALZUQEEN_REPORT) {
+        struct answer answer = exchange(outcome);
+        number = halzuqeen_step(session, SESSION, image, size, answer.reset_done, answer.ack, answer.word,
+            answer.parity, outcome, OUTCOME);
+    }
+    return number == 0 ? told(outcome) : refused(number);
+}
+
+int main(int count, char **words)
+{
+    uint8_t record[RECORD];
+    unsigned part, macros;
+    size_t length, size;
+    uint32_t number;
+    if (count < 4) {
+        fputs("host PART MACROS FILE [kill]\n", stderr);
+        return 3;
+    }
+    part = (unsigned)strtoul(words[1], NULL, 10);
+    macros = (unsigned)strtoul(words[2], NULL, 10);
+    length = load(words[3]);
+    size = image_bytes(part, macros);
+    if (size > MOST_IMAGE)
+        return refused(11);
+    number = halzuqeen_read((uint8_t)part, (uint8_t)macros, text, length, image, size, record, RECORD);
+    if (number != 0)
+        return refused(number);
+    return program(record, size, count > 4 && strcmp(words[4], "kill") == 0);
+}

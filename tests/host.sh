@@ -1,0 +1,53 @@
+#!/usr/bin/env bash
+# Compiles the C host of examples/ with the core's static library and a board on pins, and runs it.
+#     tests/host.sh LIBRARY_FOLDER HEADER_FOLDER
+# It needs a C compiler and cargo.
+set -euo pipefail
+cd "$(dirname "$0")/.."
+library=$1 header=$2
+export CARGO_TARGET_DIR=${CARGO_TARGET_DIR:-$PWD/target/cargo}
+out=$PWD/target/host
+mkdir -p "$out"
+# The loop that docs/EMBEDDING.md shows is the host's own.
+sed -n '/^```c$/,/^```$/p' docs/EMBEDDING.md | grep -v '^```' | while read -r line; do
+    grep -qF -- "$line" examples/host.c || { echo "docs/EMBEDDING.md has a line that examples/host.c hasn't: $line" >&2; exit 1; }
+done
+cargo build --quiet --offline --release --manifest-path tests/pins/Cargo.toml
+cc -std=c99 -O2 -Wall -Wextra -Wpedantic -Wconversion -Werror -I "$header" examples/host.c examples/swd_pins.c \
+    "$CARGO_TARGET_DIR/release/libpins.a" "$library/libcore_c.a" -lpthread -ldl -lm -o "$out/host"
+
+runs=0
+# expect LINE NAME=VALUE.. -- WORDS..: what the host prints on the board that the environment says.
+expect() {
+    local line=$1 board=() got
+    shift
+    while [ "$1" != -- ]; do
+        board+=("$1")
+        shift
+    done
+    shift
+    got=$(env "${board[@]}" "$out/host" "$@" || true)
+    if [ "$got" != "$line" ]; then
+        echo "host $* on ${board[*]}: '$got', not '$line'" >&2
+        exit 1
+    fi
+    runs=$((runs + 1))
+}
+tools=tests/vectors/tools
+one=$tools/part1-m1/srec_cat-64-crlf.hex
+# A board that hears at once takes the plan; one that starts up for longer, an attempt more each 185 us.
+expect 'done 27279' BOOT_US=0 -- 1 1 "$one" kill
+expect 'done 27295' BOOT_US=3000 -- 1 1 "$one" kill
+expect 'done 27305' BOOT_US=4990 -- 1 1 "$one" kill
+expect 'failed 26 step 1 transfers 30' BOOT_US=9000 -- 1 1 "$one" kill
+expect 'done 47775' BOOT_US=0 BOARD='2 1 2' -- 2 1 "$tools/part2-m1/intelhex-64-crlf.hex" kill
+expect 'done 190741' BOOT_US=0 BOARD='3 2 1' -- 3 2 "$tools/part3-m2/srec_cat-64-crlf.hex" kill
+# The line: a WAIT is one transfer more, a clip that slips is silence.
+expect 'done 27280' BOOT_US=0 WAIT=5000 -- 1 1 "$one" kill
+expect 'failed 29 step 5 transfers 5001' BOOT_US=0 SLIP=5000 -- 1 1 "$one" kill
+# Another part on the clip, a text that can't be used, KILL without leave.
+expect 'failed 20 step 2 transfers 38' BOOT_US=0 BOARD='3 1 1' -- 1 1 "$one" kill
+expect 'refused 3' BOOT_US=0 -- 1 1 "$tools/part1-m1/objcopy-start.hex" kill
+expect 'refused 15' BOOT_US=0 -- 2 1 "$tools/part2-m1/srec_cat-64-crlf.hex"
+expect 'refused 11' BOOT_US=0 -- 4 1 "$one"
+echo "C host: $runs runs as said"

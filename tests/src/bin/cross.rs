@@ -1,0 +1,95 @@
+//! The cross-checks: the proved core's static library held to this crate. `cross [--long] [SEED]`.
+//! The same seed is the same run; any difference ends it with a panic.
+
+use reference::cross::{sessions, texts, Counts, Tally, TextTally};
+use reference::linked::{edges, forged, tools, Forged, Linked};
+use std::time::Instant;
+use std::{env, thread};
+
+/// How much is checked, in all threads together.
+struct Sizes {
+    texts: usize,
+    sessions: usize,
+    bases: usize,
+    forged: usize,
+}
+
+const SHORT: Sizes = Sizes { texts: 120_000, sessions: 2_400, bases: 16, forged: 200_000 };
+const LONG: Sizes = Sizes { texts: 3_000_000, sessions: 60_000, bases: 400, forged: 10_000_000 };
+const THREADS: usize = 2;
+
+/// A share of the work on each thread, with a seed of its own.
+fn shared<T: Send>(seed: u64, work: impl Fn(u64) -> T + Sync) -> Vec<T> {
+    let work = &work;
+    thread::scope(|scope| {
+        let workers: Vec<_> =
+            (0..THREADS as u64).map(|n| scope.spawn(move || work(seed * 1_000 + n))).collect();
+        workers.into_iter().map(|worker| worker.join().expect("the cores agree")).collect()
+    })
+}
+
+/// Numbers with their counts; each of `wanted` must have come.
+fn show(what: &str, counts: &Counts, wanted: impl IntoIterator<Item = u8>) {
+    let line: Vec<String> = counts.iter().map(|(number, count)| format!("{number}: {count}")).collect();
+    println!("  {what} by number: {}", line.join(", "));
+    for number in wanted {
+        assert!(counts.contains_key(&number), "{number} was never reached");
+    }
+}
+
+fn check_texts(seed: u64, sizes: &Sizes) {
+    let mut tally = TextTally::default();
+    for part in shared(seed, |seed| texts(&Linked, seed, sizes.texts / THREADS)) {
+        tally.add(&part);
+    }
+    println!("texts: {} damaged or random ones read alike", tally.read.values().sum::<u64>());
+    show("read", &tally.read, 0..=12);
+    show("written", &tally.written, (6..=12).chain([0]));
+    show("started", &tally.started, (6..=12).chain([0, 15]));
+}
+
+fn check_sessions(seed: u64, sizes: &Sizes) {
+    let mut tally = Tally::default();
+    for part in shared(seed, |seed| sessions(&Linked, seed, sizes.sessions / THREADS)) {
+        tally.add(&part);
+    }
+    let Tally { plain, requests, refused, .. } = tally;
+    println!("sessions: {} alike, request by request: {requests} requests", tally.sessions());
+    println!("  {plain} on a plain board, demand 3's claims asserted; {refused} refused steps between");
+    show("sessions", &tally.numbers, (15..=30).chain([0]));
+    for ((part, macros, protected, level), (all, done)) in &tally.kinds {
+        let entry = if *protected { "PROTECTED" } else { "OPEN" };
+        println!("  part {part}, M {macros}, from {entry}, level {level}: {all}, done {done}");
+        assert!(*done > 0 && done < all);
+    }
+    assert_eq!(tally.kinds.len(), 4 * 2 * 3);
+}
+
+fn check_forged(seed: u64, sizes: &Sizes) {
+    let mut sum = Forged::default();
+    for part in shared(seed, |seed| forged(seed, sizes.bases / THREADS, sizes.forged / THREADS)) {
+        sum.steps += part.steps;
+        sum.impossible += part.impossible;
+        sum.refused += part.refused;
+        sum.reports += part.reports;
+        sum.requests += part.requests;
+    }
+    let Forged { steps, impossible, refused, reports, requests } = sum;
+    println!("forged sessions: {steps} steps alike: 13 {impossible}, 12 or 14 {refused}, reports {reports}, requests {requests}");
+    assert!([impossible, refused, reports, requests].iter().all(|&count| count > 0));
+}
+
+fn main() {
+    let arguments: Vec<String> = env::args().skip(1).collect();
+    let long = arguments.iter().any(|word| word == "--long");
+    let seed = arguments.iter().find_map(|word| word.parse().ok()).unwrap_or(7);
+    let sizes = if long { &LONG } else { &SHORT };
+    let start = Instant::now();
+    println!("edges of the C ABI: {} calls as said", edges());
+    let (read, equal) = tools();
+    println!("texts by other tools: {read} read as said, {equal} equal to what the writer writes");
+    check_forged(seed, sizes);
+    check_texts(seed, sizes);
+    check_sessions(seed, sizes);
+    println!("cross-checks passed in {:.0} s, seed {seed}", start.elapsed().as_secs_f64());
+}

@@ -1,0 +1,114 @@
+//! The ABI's own edges: buffers of other sizes are 12 with nothing written, and impossible marks 13.
+
+use super::outcome_bytes;
+use crate::hex::text_length;
+use crate::image::Header;
+use crate::indexed::{header_bytes, started};
+use crate::parts::{KILL, SIZES};
+use crate::rng::Rng;
+use crate::session::Outcome;
+use crate::texts::sample_image;
+use halzuqeen::raw;
+
+/// What a buffer holds that a refused call must leave.
+const LEFT: u8 = 0x5A;
+
+/// Sizes about the right one, the right one left out.
+fn other_sizes(right: usize) -> impl Iterator<Item = usize> {
+    (0..2 * right + 2).filter(move |&size| size != right)
+}
+
+fn read_and_write(rng: &mut Rng, part: u32, macros: u32) -> u64 {
+    let (header, image) = sample_image(rng, part, macros);
+    let (record, mut calls) = (header_bytes(&header), 0);
+    let mut text = vec![0; text_length(&header.sizes().expect("a part of the table"))];
+    assert_eq!(raw::write(&record, &image, &mut text, &mut [0; raw::LENGTH]), 0);
+    for size in other_sizes(raw::RECORD) {
+        let (mut buffer, mut other) = (vec![LEFT; image.len()], vec![LEFT; size]);
+        assert_eq!(raw::read(part as u8, macros as u8, &text, &mut buffer, &mut other), 12);
+        assert!(buffer.iter().chain(&other).all(|&b| b == LEFT));
+        let (mut written, mut length) = (vec![LEFT; text.len()], [LEFT; raw::LENGTH]);
+        assert_eq!(raw::write(&other, &image, &mut written, &mut length), 12);
+        assert!(written.iter().chain(&length).all(|&b| b == LEFT));
+        calls += 2;
+    }
+    for size in other_sizes(raw::LENGTH) {
+        let (mut written, mut length) = (vec![LEFT; text.len()], vec![LEFT; size]);
+        assert_eq!(raw::write(&record, &image, &mut written, &mut length), 12);
+        assert!(written.iter().chain(&length).all(|&b| b == LEFT));
+        calls += 1;
+    }
+    calls
+}
+
+fn start_and_step(rng: &mut Rng, part: u32, macros: u32) -> u64 {
+    let (header, image) = sample_image(rng, part, macros);
+    let (record, mut calls) = (header_bytes(&header), 0);
+    let done = raw::Answer { reset_done: 1, ack: 0, word: 0, parity: 0 };
+    let sizes = [raw::RECORD, raw::SESSION, raw::OUTCOME];
+    for (which, right) in sizes.into_iter().enumerate() {
+        for size in other_sizes(right) {
+            let mut given = sizes;
+            given[which] = size;
+            let mut lent = record.to_vec();
+            lent.resize(given[0], LEFT);
+            let (mut session, mut outcome) = (vec![LEFT; given[1]], vec![LEFT; given[2]]);
+            assert_eq!(raw::start(&lent, &image, 1, &mut session, &mut outcome), 12);
+            assert!(session.iter().chain(&outcome).all(|&b| b == LEFT));
+            if which > 0 {
+                let mut session = started(&header).to_vec();
+                session.resize(given[1], LEFT);
+                let before = session.clone();
+                assert_eq!(raw::step(&mut session, &image, done, &mut outcome), 12);
+                assert!(session == before && outcome.iter().all(|&b| b == LEFT));
+            }
+            calls += 2;
+        }
+    }
+    // Any byte but 0 is leave for KILL.
+    let killing = Header { level: KILL, ..header };
+    for leave in 0..=255 {
+        let (mut session, mut outcome) = ([LEFT; raw::SESSION], [LEFT; raw::OUTCOME]);
+        let number = raw::start(&header_bytes(&killing), &image, leave, &mut session, &mut outcome);
+        assert_eq!(number, if leave == 0 { 15 } else { 0 });
+        assert_eq!(session, if leave == 0 { [0; raw::SESSION] } else { started(&killing) });
+        calls += 1;
+    }
+    // Entry or finished over 1: 13, said by the outcome too.
+    for (at, mark) in (17..19).flat_map(|at| (2..=255).map(move |mark| (at, mark))) {
+        let (mut session, mut outcome) = (started(&header), [LEFT; raw::OUTCOME]);
+        session[at] = mark;
+        let before = session;
+        assert_eq!(raw::step(&mut session, &image, done, &mut outcome), 13);
+        assert_eq!((session, outcome), (before, outcome_bytes(Outcome::Refused(13))));
+        calls += 1;
+    }
+    calls
+}
+
+/// Every part and M that a byte can name: 11, but for those of the table, where the empty buffer is 12.
+fn parts() -> u64 {
+    for (part, macros) in (0..=255).flat_map(|part| (0..=255).map(move |macros| (part, macros))) {
+        let number = if SIZES.contains(&(u32::from(part), u32::from(macros))) { 12 } else { 11 };
+        let (mut record, mut length) = ([LEFT; raw::RECORD], [LEFT; raw::LENGTH]);
+        assert_eq!(raw::read(part, macros, b":00000001FF\n", &mut [], &mut record), number);
+        assert_eq!(record, [0; raw::RECORD]);
+        (record[0], record[1]) = (part, macros);
+        assert_eq!(raw::write(&record, &[], &mut [], &mut length), number);
+        let (mut session, mut outcome) = ([LEFT; raw::SESSION], [LEFT; raw::OUTCOME]);
+        assert_eq!(raw::start(&record, &[], 1, &mut session, &mut outcome), number);
+        assert_eq!((length, session), ([0; raw::LENGTH], [0; raw::SESSION]));
+        assert_eq!(outcome, outcome_bytes(Outcome::Refused(number as u8)));
+    }
+    3 * 65_536
+}
+
+/// Gives the number of calls made.
+pub fn edges() -> u64 {
+    let mut rng = Rng(51);
+    let mut calls = parts();
+    for (part, macros) in SIZES {
+        calls += read_and_write(&mut rng, part, macros) + start_and_step(&mut rng, part, macros);
+    }
+    calls
+}
