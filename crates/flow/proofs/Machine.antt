@@ -9,7 +9,7 @@ use lib.Dec.{eqb, ltb}
 use lib.ListN.{length, getD, length-reverse, List·getD-append}
 use lib.Seq.{getD-append-add}
 use Rattle.flow.specs.Judge.{Judged, go, pollAgain, enter, report, judge, goIf, polled, entryBy, free, testBitSet, succeeded, idsFit, levelIn, storedIn, sumsFit}
-use Rattle.flow.specs.Machine.{Tape, facing, onward, back, entering, Machine, facingAt, ended, judgedOn, heardOn, answerOn, machineStep, Placed, StandsFor, placed, over, sessionMove, machineMove, Agrees}
+use Rattle.flow.specs.Machine.{Cursor, standingMove, onward, back, entering, Machine, underWay, ended, judgedOn, heardOn, answerOn, machineStep, Placed, StandsFor, placed, finished, sessionMove, machineMove, Agrees}
 use Rattle.flow.specs.Monitor.{isAttempt, isReset}
 use Rattle.flow.specs.Packets.{Verdict, okay, again, broken, verdict}
 use Rattle.flow.specs.Sequence.{sequence, opening, afterwards, endMove}
@@ -54,17 +54,17 @@ same-behind (m ∷ a) r r′ h (suc j) = same-behind a r r′ h j
 -- ---- places
 
 module _ (i : Image) (y : Entry) where
-  pub facing-at : (t : Tape) (n : ℕ) → Placed i t y n → moveAt i y n ≡ facing t
-  facing-at t n p =
+  pub standingMove-at : (t : Cursor) (n : ℕ) → Placed i t y n → moveAt i y n ≡ standingMove t
+  standingMove-at t n p =
       let e : length (t .passed) + 0 ≡ n = omega (arith, p .count) in
       sym (p .moves n) ∙ ap (λ (k : ℕ). getD (reverse (t .passed) ++ t .rest) k endMove) (sym e) ∙ behind (t .passed) (t .rest) 0
 
-  onward-placed : (t : Tape) (n : ℕ) → Placed i t y n → Placed i (onward t) y (suc n)
+  onward-placed : (t : Cursor) (n : ℕ) → Placed i t y n → Placed i (onward t) y (suc n)
   onward-placed t n p = record {
     count = ap suc (p .count);
     moves = λ j.
-        ap (λ (l : List Move). getD l j endMove) (latest (facing t) (t .passed) (tail (t .rest)))
-        ∙ same-behind (reverse (t .passed)) (facing t ∷ tail (t .rest)) (t .rest) (refilled (t .rest)) j
+        ap (λ (l : List Move). getD l j endMove) (latest (standingMove t) (t .passed) (tail (t .rest)))
+        ∙ same-behind (reverse (t .passed)) (standingMove t ∷ tail (t .rest)) (t .rest) (refilled (t .rest)) j
         ∙ p .moves j;
   }
 
@@ -76,21 +76,21 @@ module _ (i : Image) (y : Entry) where
     moves = λ j. ap (λ (x : List Move). getD x j endMove) (sym (latest m l r)) ∙ p .moves j;
   }
 
-  back-placed : (t : Tape) (n : ℕ) → Placed i t y n → Placed i (back t) y (n - 1)
+  back-placed : (t : Cursor) (n : ℕ) → Placed i t y n → Placed i (back t) y (n - 1)
   back-placed t n p = back-from (t .passed) (t .rest) n p
 
-  again-placed : (t : Tape) (n : ℕ) → Placed i t y n → Placed i (back (back t)) y (n - 2)
+  again-placed : (t : Cursor) (n : ℕ) → Placed i t y n → Placed i (back (back t)) y (n - 2)
   again-placed t n p =
       let e : n - 1 - 1 ≡ n - 2 = omega arith in
       rw e at (back-placed (back t) (n - 1) (back-placed t n p))
 
   -- the last move of step 2: both entries have the same moves up to it
-  entering-placed : (e : Entry) (t : Tape) (n : ℕ) → suc n ≡ length (opening i) → Placed i t y n → Placed i (entering i e t) e (suc n)
+  entering-placed : (e : Entry) (t : Cursor) (n : ℕ) → suc n ≡ length (opening i) → Placed i t y n → Placed i (entering i e t) e (suc n)
   unfolding sequence
   entering-placed e t n last p = record { count = ap suc (p .count); moves = λ j. by j (ltb j (suc n)) refl }
     where
       passed : List Move
-      passed = facing t ∷ t .passed
+      passed = standingMove t ∷ t .passed
 
       by : (j : ℕ) (b : Bool) → ltb j (suc n) ≡ b → getD (reverse passed ++ afterwards i e) j endMove ≡ getD (opening i ++ afterwards i e) j endMove
       by j true h =
@@ -149,21 +149,21 @@ module _ (E : Type 0) where
   judged i StoredLevel s p k w r = go-if (eqb (storedIn w) (i .header .level)) 24 p k
   judged i LastSum s p k w r = either (sumsFit i w k) (report 0) (report 25) tt tt
 
-module _ (i : Image) (y : Entry) (n : ℕ) (t : Tape) (at : Placed i t y n) where
+module _ (i : Image) (y : Entry) (n : ℕ) (t : Cursor) (at : Placed i t y n) where
   settles : (j : Judged) (s a h : ℕ) → Enters (suc n ≡ length (opening i)) j → StandsFor i (settled j y n s a h) (judgedOn i j t s a h)
   settles (go p k) s a h last = placed (onward-placed i y t n at)
   settles (pollAgain p k) s a h last = placed (again-placed i y t n at)
   settles (enter e p k) s a h last = placed (entering-placed i y e t n last at)
-  settles (report x) s a h last = over
+  settles (report x) s a h last = finished
 
   tries : (b : Bool) (s p a k h : ℕ)
-      → StandsFor i (tryAgain b y n s p a k h) (cond b (facingAt (back t) 0 p (suc a) k h) (ended 26 s h))
+      → StandsFor i (tryAgain b y n s p a k h) (cond b (underWay (back t) 0 p (suc a) k h) (ended 26 s h))
   tries true s p a k h = placed (back-placed i y t n at)
-  tries false s p a k h = over
+  tries false s p a k h = finished
 
-  waits : (b : Bool) (s w p a k h : ℕ) → StandsFor i (waitAgain b y n s w p a k h) (cond b (facingAt t (suc w) p a k h) (ended 27 s h))
+  waits : (b : Bool) (s w p a k h : ℕ) → StandsFor i (waitAgain b y n s w p a k h) (cond b (underWay t (suc w) p a k h) (ended 27 s h))
   waits true s w p a k h = placed at
-  waits false s w p a k h = over
+  waits false s w p a k h = finished
 
   module _ (m : Move) (fits : Proper (suc n ≡ length (opening i)) m) (w p a k : ℕ) where
     hears : (b : Bool) (v : Verdict) (h : ℕ) → StandsFor i (heardBy b i m v y n w p a k h) (heardOn b i m v t w p a k h)
@@ -172,11 +172,11 @@ module _ (i : Image) (y : Entry) (n : ℕ) (t : Tape) (at : Placed i t y n) wher
     hears true again h = tries (ltb (suc a) 30) (m .step) p a k h
     hears true (broken x) h = tries (ltb (suc a) 30) (m .step) p a k h
     hears false again h = waits (ltb w 16) (m .step) w p a k h
-    hears false (broken x) h = over
+    hears false (broken x) h = finished
 
     acts : (b : Bool) (v : Verdict) (c : Bool) (h : ℕ)
         → StandsFor i (cond b (running y (suc n) w p a k h) (heardBy c i m v y n w p a k (suc h)))
-        (cond b (facingAt (onward t) w p a k h) (heardOn c i m v t w p a k (suc h)))
+        (cond b (underWay (onward t) w p a k h) (heardOn c i m v t w p a k (suc h)))
     acts true v c h = placed (onward-placed i y t n at)
     acts false v c h = hears c v (suc h)
 
@@ -185,16 +185,16 @@ module _ (i : Image) (y : Entry) (n : ℕ) (t : Tape) (at : Placed i t y n) wher
 answered : (i : Image) (s : Session) (m : Machine) (r : Answer) → StandsFor i s m → StandsFor i (stepOf i s r) (machineStep i m r)
 unfolding stepOf machineStep
 answered i s m r (placed {t = t} {y = y} {n = n} {w = w} {p = p} {a = a} {k = k} {h = h} at) =
-    let x = facing t in
-    let e = facing-at i y t n at in
+    let x = standingMove t in
+    let e = standingMove-at i y t n at in
     subst (λ (z : Move). StandsFor i (act i z r y n w p a k h) (answerOn i x r t w p a k h)) (sym e)
     (acts i y n t at x (subst (Proper (suc n ≡ length (opening i))) e (proper-at i y n)) w p a k
     (isReset (x .request)) (verdict (x .request) r) (isAttempt (x .request)) h)
-answered i s m r over = over
+answered i s m r finished = finished
 
 same-move : (i : Image) (s : Session) (m : Machine) → StandsFor i s m → sessionMove i s ≡ machineMove m
-same-move i s m (placed {t = t} {y = y} {n = n} at) = facing-at i y t n at
-same-move i s m over = refl
+same-move i s m (placed {t = t} {y = y} {n = n} at) = standingMove-at i y t n at
+same-move i s m finished = refl
 
 pub machine-agrees : (i : Image) → Agrees i
 machine-agrees i = record { first = placed (record { count = refl; moves = λ j. refl }); move = same-move i; answer = answered i }

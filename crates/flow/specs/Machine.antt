@@ -18,51 +18,51 @@ use Rattle.flow.specs.declared.Move.{Move}
 use Rattle.image.specs.Image.{Image}
 
 -- the moves passed, latest first, and the rest: the standing move, then those to come
-pub record Tape : Type 0 where
+pub record Cursor : Type 0 where
   pub passed : List Move
   pub rest : List Move
 
 -- the standing move
-abbrev pub facing : Tape → Move
-facing t = getD (t .rest) 0 endMove
+abbrev pub standingMove : Cursor → Move
+standingMove t = getD (t .rest) 0 endMove
 
-abbrev pub onward : Tape → Tape
-onward t = record { passed = facing t ∷ t .passed; rest = tail (t .rest) }
+abbrev pub onward : Cursor → Cursor
+onward t = record { passed = standingMove t ∷ t .passed; rest = tail (t .rest) }
 
 -- one move back; before the first there is none
-abbrev pub backFrom : (passed rest : List Move) → Tape
+abbrev pub backFrom : (passed rest : List Move) → Cursor
 backFrom [] r = record { passed = []; rest = r }
 backFrom (m ∷ p) r = record { passed = p; rest = m ∷ r }
 
-abbrev pub back : Tape → Tape
+abbrev pub back : Cursor → Cursor
 back t = backFrom (t .passed) (t .rest)
 
 -- step 2 has found the entry: what follows is step 3 of that entry and the steps after it
-abbrev pub entering : Image → Entry → Tape → Tape
-entering i e t = record { passed = facing t ∷ t .passed; rest = afterwards i e }
+abbrev pub entering : Image → Entry → Cursor → Cursor
+entering i e t = record { passed = standingMove t ∷ t .passed; rest = afterwards i e }
 
 -- the counters are those of a session
 pub data Machine : Type 0 where
-  facingAt : Tape → (waits polls attempts kept transfers : ℕ) → Machine
+  underWay : Cursor → (waits polls attempts kept transfers : ℕ) → Machine
   ended : (number step transfers : ℕ) → Machine
 
 -- a busy poll goes back to its Read's first transfer
-abbrev pub judgedOn : Image → Judged → Tape → (step attempts transfers : ℕ) → Machine
-judgedOn i (go p k) t s a h = facingAt (onward t) 0 p a k h
-judgedOn i (pollAgain p k) t s a h = facingAt (back (back t)) 0 p a k h
-judgedOn i (enter e p k) t s a h = facingAt (entering i e t) 0 p a k h
+abbrev pub judgedOn : Image → Judged → Cursor → (step attempts transfers : ℕ) → Machine
+judgedOn i (go p k) t s a h = underWay (onward t) 0 p a k h
+judgedOn i (pollAgain p k) t s a h = underWay (back (back t)) 0 p a k h
+judgedOn i (enter e p k) t s a h = underWay (entering i e t) 0 p a k h
 judgedOn i (report x) t s a h = ended x s h
 
 -- 'up to 30 attempts of line reset and read IDCODE': back to the line reset
-abbrev pub attemptOn : Tape → (step polls attempts kept transfers : ℕ) → Machine
-attemptOn t s p a k h = cond (ltb (suc a) 30) (facingAt (back t) 0 p (suc a) k h) (ended 26 s h)
+abbrev pub attemptOn : Cursor → (step polls attempts kept transfers : ℕ) → Machine
+attemptOn t s p a k h = cond (ltb (suc a) 30) (underWay (back t) 0 p (suc a) k h) (ended 26 s h)
 
 -- 'WAIT repeats the transfer, 16 times running at most.'
-abbrev pub waitOn : Tape → (step waits polls attempts kept transfers : ℕ) → Machine
-waitOn t s w p a k h = cond (ltb w 16) (facingAt t (suc w) p a k h) (ended 27 s h)
+abbrev pub waitOn : Cursor → (step waits polls attempts kept transfers : ℕ) → Machine
+waitOn t s w p a k h = cond (ltb w 16) (underWay t (suc w) p a k h) (ended 27 s h)
 
 -- a transfer of move m heard so; 'Attempts in step 1 aren't repeated for WAIT, any mishap ends the attempt only'
-abbrev pub heardOn : (attempt : Bool) → Image → Move → Verdict → Tape → (waits polls attempts kept transfers : ℕ) → Machine
+abbrev pub heardOn : (attempt : Bool) → Image → Move → Verdict → Cursor → (waits polls attempts kept transfers : ℕ) → Machine
 heardOn true i m (okay x) t w p a k h = judgedOn i (judge i (m .purpose) p k x) t (m .step) 0 h
 heardOn false i m (okay x) t w p a k h = judgedOn i (judge i (m .purpose) p k x) t (m .step) a h
 heardOn true i m again t w p a k h = attemptOn t (m .step) p a k h
@@ -71,28 +71,28 @@ heardOn false i m again t w p a k h = waitOn t (m .step) w p a k h
 heardOn false i m (broken x) t w p a k h = ended x (m .step) h
 
 -- the move m answered; a reset counts no transfer
-abbrev pub answerOn : Image → Move → Answer → Tape → (waits polls attempts kept transfers : ℕ) → Machine
+abbrev pub answerOn : Image → Move → Answer → Cursor → (waits polls attempts kept transfers : ℕ) → Machine
 answerOn i m r t w p a k h =
-    cond (isReset (m .request)) (facingAt (onward t) w p a k h) (heardOn (isAttempt (m .request)) i m (verdict (m .request) r) t w p a k (suc h))
+    cond (isReset (m .request)) (underWay (onward t) w p a k h) (heardOn (isAttempt (m .request)) i m (verdict (m .request) r) t w p a k (suc h))
 
 unfoldable pub machineStep : Image → Machine → Answer → Machine
-machineStep i (facingAt t w p a k h) r = answerOn i (facing t) r t w p a k h
+machineStep i (underWay t w p a k h) r = answerOn i (standingMove t) r t w p a k h
 machineStep i (ended x s h) r = ended x s h
 
 -- XRES stands; until step 2 has found the level, both entries have the same moves
 abbrev pub firstMachine : Image → Machine
-firstMachine i = facingAt (record { passed = []; rest = sequence i FromOpen }) 0 0 0 0 0
+firstMachine i = underWay (record { passed = []; rest = sequence i FromOpen }) 0 0 0 0 0
 
 -- ---- the index session that stands for it
 
 -- the passed moves are so many, and with the rest they are the sequence; past its end only the end move stands
-pub record Placed (i : Image) (t : Tape) (y : Entry) (n : ℕ) : Type 0 where
+pub record Placed (i : Image) (t : Cursor) (y : Entry) (n : ℕ) : Type 0 where
   pub count : length (t .passed) ≡ n
   pub moves : (j : ℕ) → getD (reverse (t .passed) ++ t .rest) j endMove ≡ moveAt i y j
 
 pub data StandsFor (i : Image) : Session → Machine → Type 0 where
-  placed : {t : Tape} {y : Entry} {n w p a k h : ℕ} → Placed i t y n → StandsFor i (running y n w p a k h) (facingAt t w p a k h)
-  over : {x s h : ℕ} → StandsFor i (reported x s h) (ended x s h)
+  placed : {t : Cursor} {y : Entry} {n w p a k h : ℕ} → Placed i t y n → StandsFor i (running y n w p a k h) (underWay t w p a k h)
+  finished : {x s h : ℕ} → StandsFor i (reported x s h) (ended x s h)
 
 -- the move that stands, if one does
 abbrev pub sessionMove : Image → Session → Move
@@ -100,7 +100,7 @@ sessionMove i (running y n w p a k h) = moveAt i y n
 sessionMove i (reported x s h) = endMove
 
 abbrev pub machineMove : Machine → Move
-machineMove (facingAt t w p a k h) = facing t
+machineMove (underWay t w p a k h) = standingMove t
 machineMove (ended x s h) = endMove
 
 -- the two agree step by step
