@@ -4,11 +4,11 @@ use mathlib.Core.List.{List}
 use mathlib.Core.Path.{_≡_, refl, sym, ap, _∙_}
 use Prim.Native.Nat.{ℕ, _+_, _*_, _/_, _%_, _<_}
 use native.Mathlib.Omega.{arith}
-use borrow.Author.Tests.{eq-eqb, ne-eqb}
+use borrow.Author.Tests.{ne-eqb}
 use lib.Dec.{eqb}
 use lib.ListN.{getD, take, drop}
-use Rattle.bench_board.specs.Meets.{ended, Makes, MakesOf, Effects, Fails, Succeeds, Protects, Answers, Resets, Alters}
-use Rattle.bench_board.specs.Board.{Buffers, Left, residueOf, runningOf, siliconOf, memoryOf, targetOf}
+use Rattle.bench_board.specs.Meets.{ended, Effects, Fails, Succeeds, Protects, Answers, Resets, Alters}
+use Rattle.bench_board.specs.Board.{Buffers, Left, runningOf, siliconOf, memoryOf, targetOf}
 use Rattle.bench_board.specs.Acts.{after}
 use Rattle.bench_board.specs.declared.Act.{Act}
 use Rattle.bench_board.specs.declared.Running.{Running}
@@ -25,9 +25,6 @@ use Rattle.image.specs.Words.{total}
 use Rattle.parts.specs.Sizes.{rowBytes, rowsPerMacro, locksIn}
 use Rattle.parts.specs.declared.Geometry.{Geometry}
 
-pub low-four : (n : ℕ) → n < 16 → n % 16 ≡ n
-low-four n h = omega arith
-
 abbrev quiet : ℕ → Bool
 quiet c = eqb c 0 || eqb c 0x0B || eqb c 0x15
 
@@ -40,7 +37,7 @@ module _ (r : Registers) (o : CallOutcome) (c arg : ℕ) (a : arg ≡ failedArg 
   pub failed-left : quiet c ≡ false → (l : ℕ) → l ≡ cond (o .«new_level» && eqb c 0x0D && eqb (macroSent (r .sysarg)) 0) (levelSent (r .sysarg)) (r .stored % 16)
       → l < 16 → Fails o c r (ended r l arg 0 Leave)
   unfolding finish leftBy
-  failed-left q l e h g x b = rw (q, a, low-four l h, e)
+  failed-left q l e h g x b = let f : l % 16 ≡ l = omega arith in rw (q, a, f, e)
 
 -- call 0x0D
 module _ (g : Geometry) (r : Registers) where

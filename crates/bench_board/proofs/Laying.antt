@@ -95,7 +95,7 @@ fit-zeros d = take-all (length d) (replicate (length d) 0) (omega (arith, length
 
 -- ---- the bytes of words
 
-pub bytes-length : (ws : List ℕ) → length (bytesIn ws) ≡ 4 * length ws
+bytes-length : (ws : List ℕ) → length (bytesIn ws) ≡ 4 * length ws
 unfolding bytesIn
 bytes-length [] = refl
 bytes-length (w ∷ ws) = let ih = bytes-length ws in omega arith

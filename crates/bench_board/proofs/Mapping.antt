@@ -21,7 +21,7 @@ within s k a h = by (ltb (a - s) k) refl
 
 -- ---- locks
 
-abbrev pub covering : (s k a : ℕ) → Bool
+abbrev covering : (s k a : ℕ) → Bool
 covering s k a = leb s a && ltb a (s + k)
 
 -- the locks of n macros of size k and step d, the first at s and of offset f

@@ -6,11 +6,10 @@ use Prim.Native.Nat.{ℕ}
 use lib.Dec.{eqb}
 use Rattle.bench_board.specs.Acts.{after}
 use Rattle.bench_board.specs.Board.{Buffers, Left, outcomeOf, fateOf, eventOf, targetOf}
-use Rattle.bench_board.specs.Meets.{decodedOf, placeOf, keeping, Makes, MakesIn, Resets, Carries, Calls, Replies, Decides, metBy, metOf, listsOf}
+use Rattle.bench_board.specs.Meets.{placeOf, keeping, Makes, MakesIn, Resets, Carries, Calls, Replies, Decides, metOf, listsOf}
 use Rattle.bench_board.specs.declared.CallOutcome.{CallOutcome}
 use Rattle.bench_board.specs.declared.Decision.{Decision}
 use Rattle.bench_board.specs.declared.LineEvent.{LineEvent}
-use Rattle.bench_board.specs.declared.Met.{Met}
 use Rattle.bench_board.specs.declared.Next.{Next}
 use Rattle.bench_board.specs.declared.Registers.{Registers}
 use Rattle.bench_board.specs.declared.Spot.{Spot}
@@ -18,13 +17,12 @@ use Rattle.flow.specs.Exchange.{Decoded, known, unknown, decode, fetch, store, 
 use Rattle.flow.specs.Exchange as Flow
 use Rattle.flow.specs.Map.{Place, place}
 use Rattle.flow.specs.Packets.{isRead}
-use Rattle.flow.specs.Target.{Target, Lists, setTar}
-use Rattle.flow.specs.declared.Answer.{Answer}
+use Rattle.flow.specs.Target.{Target, setTar}
 use Rattle.flow.specs.declared.Answer.the-variants.{ResetDone, Transferred}
 use Rattle.flow.specs.declared.Packet.{Packet}
 use Rattle.flow.specs.declared.Reply.{Reply}
 use Rattle.flow.specs.declared.Request.{Request}
-use Rattle.flow.specs.declared.Request.the-variants.{Xres, LineReset, ReadIdcode, ReadDrw, WriteTar, WriteDrw, WriteSetup}
+use Rattle.flow.specs.declared.Request.the-variants.{Xres, LineReset, ReadIdcode, ReadDrw, WriteTar, WriteDrw}
 use Rattle.parts.specs.declared.Geometry.{Geometry}
 
 -- a request carried out

@@ -1,14 +1,12 @@
 -- What a DRW read posts and a DRW write alters, over plain variables. Assumes nothing.
-use mathlib.Core.Bool.{Bool, true, false, cond}
-use mathlib.Core.List.{List, [], _∷_}
-use mathlib.Core.Path.{_≡_, refl, sym, ap, _∙_}
-use Prim.Native.Nat.{ℕ, zero, suc, _+_, _*_, _-_, _/_, _%_, _≤_, _<_}
+use mathlib.Core.List.{List}
+use mathlib.Core.Path.{_≡_, sym, ap, _∙_}
+use Prim.Native.Nat.{ℕ, suc, _+_, _-_, _%_, _≤_, _<_}
 use native.Mathlib.Omega.{arith}
-use borrow.Author.Tests.{le-leb, lt-leb, eq-eqb, ne-eqb}
-use lib.Dec.{eqb}
+use borrow.Author.Tests.{le-leb, lt-leb}
 use lib.ListN.{getD}
 use Rattle.bench_board.specs.Acts.{after}
-use Rattle.bench_board.specs.Board.{Buffers, Left, residueOf, outcomeOf, runningOf, targetOf}
+use Rattle.bench_board.specs.Board.{residueOf, outcomeOf, runningOf, targetOf}
 use Rattle.bench_board.specs.Meets.{placeOf, keeping, asking, Makes, MakesOf, MakesIn, Alters}
 use Rattle.bench_board.specs.declared.Act.{Act}
 use Rattle.bench_board.specs.declared.Act.the-variants.{PutWord}

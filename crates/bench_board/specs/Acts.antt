@@ -1,6 +1,5 @@
 -- What a request does to the lent buffers, apart from what it does to the registers. Assumes nothing.
-use mathlib.Core.List.{List, [], _∷_}
-use Prim.Native.Nat.{ℕ}
+use mathlib.Core.List.{[], _∷_}
 use lib.ListN.{length, take, drop, replicate}
 use Rattle.bench_board.specs.Board.{Buffers, Left}
 use Rattle.bench_board.specs.declared.Act.{Act}

@@ -1,4 +1,4 @@
--- What each function promises, in the words of flow's definitions. Assumes nothing.
+-- What `meet` promises, then what the functions under it do, in the words of flow's definitions. Assumes nothing.
 use mathlib.Core.Bool.{Bool, true, false, cond}
 use mathlib.Core.List.{List, [], _∷_}
 use mathlib.Core.Path.{_≡_}
@@ -31,7 +31,25 @@ use Rattle.flow.specs.declared.Reply.{Reply}
 use Rattle.flow.specs.declared.Request.{Request}
 use Rattle.parts.specs.declared.Geometry.{Geometry}
 
--- flow's case for each of the code's
+-- ---- what `meet` promises: result and buffers left are what flow's `meet` makes of `targetOf` (Board) with one event and one outcome
+
+-- the lists that a call of `meet` is given
+abbrev pub listsOf : Left → LineEvent → CallOutcome → Lists
+listsOf x e o = record { line = eventOf e ∷ []; calls = outcomeOf x o ∷ [] }
+
+-- what a call of `meet` gave, with the buffers as it left them
+abbrev pub metOf : Left → LineEvent → CallOutcome → Met → Buffers → Flow.Met
+metOf x e o m b = record {
+  target = targetOf x (m .registers) b;
+  answer = m .answer;
+  lists = record {
+    line = cond (m .«line_used») [] (eventOf e ∷ []);
+    calls = cond (m .«call_used») [] (outcomeOf x o ∷ []);
+  };
+}
+
+-- ---- flow's case for each of the code's
+
 abbrev pub decodedOf : Decoded → Flow.Decoded
 decodedOf (Known q) = known q
 decodedOf Unknown = unknown
@@ -46,7 +64,27 @@ placeOf AtSysarg = atSysarg
 placeOf AtTestMode = atTestMode
 placeOf Elsewhere = elsewhere
 
--- the registers at a call's end
+-- ---- registers that functions give
+
+-- the memory is left as it is
+abbrev pub keeping : Registers → Next
+keeping r = record { registers = r; act = Keep }
+
+-- another SYSREQ, another posted word, and this under way
+abbrev pub asking : (sysreq : ℕ) → (posted : ℕ) → Running → Registers → Registers
+asking w p k r = record {
+  silicon = r .silicon;
+  stored = r .stored;
+  effect = r .effect;
+  sysarg = r .sysarg;
+  sysreq = w;
+  «test_mode» = r .«test_mode»;
+  tar = r .tar;
+  posted = p;
+  running = k;
+}
+
+-- a call's end
 abbrev pub ended : Registers → (stored sysarg sysreq : ℕ) → Act → Next
 ended r l a q t = record {
   registers = record {
@@ -63,6 +101,8 @@ ended r l a q t = record {
   act = t;
 }
 
+-- ---- what inner functions promise: an act is performed later, so they speak of every memory that it may be performed on
+
 -- registers and memory after are the target that f makes of the one before, whatever is lent
 abbrev pub Makes : Registers → Next → (Left → Target → Target) → Type 0
 Makes r n f = (x : Left) (b : Buffers) → targetOf x (n .registers) (after x (n .act) b) ≡ f x (targetOf x r b)
@@ -78,6 +118,12 @@ MakesIn fs ks ps r n f =
     (x : Left) (b : Buffers) → b .flash ≡ fs → b .locks ≡ ks → b .params ≡ ps
     → targetOf x (n .registers) (after x (n .act) b) ≡ f x (targetOf x r b)
 
+-- the registers alone alter, as f alters the target
+abbrev pub Alters : Next → Next → (Target → Target) → Type 0
+Alters n m f = (m .act ≡ n .act) × ((x : Left) (b : Buffers) → targetOf x (m .registers) b ≡ f (targetOf x (n .registers) b))
+
+-- ---- calls
+
 -- a successful call's effect on the memory; PARAMS stay
 abbrev pub Effects : Geometry → Registers → (params : List ℕ) → (c : ℕ) → Effect → Type 0
 Effects g r ps c e =
@@ -85,13 +131,7 @@ Effects g r ps c e =
     → (memoryOf (after x (e .act) b) (e .stored % 16) ≡ effectOf g c (r .effect) (r .sysarg) (listAt (r .sysarg) (b .params)) (memoryOf b (r .stored % 16)))
     × ((after x (e .act) b) .params ≡ b .params)
 
--- a call that fails, or succeeds
-abbrev pub Fails : CallOutcome → (c : ℕ) → Registers → Next → Type 0
-Fails o c r n = (g : Geometry) → Makes r n (λ x t. finish g false (residueOf x o) c t)
-
-abbrev pub Succeeds : Geometry → (flash params : List ℕ) → (c : ℕ) → Registers → Next → Type 0
-Succeeds g fs ps c r n = (o : CallOutcome) → MakesOf fs ps r n (λ x t. finish g true (residueOf x o) c t)
-
+-- 0x0D, whatever PARAMS hold
 abbrev pub Protects : Geometry → Registers → Effect → Type 0
 Protects g r e = (params : List ℕ) → Effects g r params 0x0D e
 
@@ -99,50 +139,19 @@ Protects g r e = (params : List ℕ) → Effects g r params 0x0D e
 abbrev pub Answers : (c : ℕ) → Silicon → (flash : List ℕ) → (word : ℕ) → Type 0
 Answers c s fs w = (m : Memory) → m .flash ≡ fs → w ≡ sysargAfter c (siliconOf s) m
 
--- XRES
+-- a call that fails; its part does not matter
+abbrev pub Fails : CallOutcome → (c : ℕ) → Registers → Next → Type 0
+Fails o c r n = (g : Geometry) → Makes r n (λ x t. finish g false (residueOf x o) c t)
+
+-- a call that succeeds; what a failure would leave does not matter
+abbrev pub Succeeds : Geometry → (flash params : List ℕ) → (c : ℕ) → Registers → Next → Type 0
+Succeeds g fs ps c r n = (o : CallOutcome) → MakesOf fs ps r n (λ x t. finish g true (residueOf x o) c t)
+
+-- XRES; the part does not matter
 abbrev pub Resets : Registers → Next → Type 0
 Resets r n = (g : Geometry) → Makes r n (λ x t. reset g t)
 
--- the registers alone alter, as f alters the target
-abbrev pub Alters : Next → Next → (Target → Target) → Type 0
-Alters n m f = (m .act ≡ n .act) × ((x : Left) (b : Buffers) → targetOf x (m .registers) b ≡ f (targetOf x (n .registers) b))
-
--- the memory is left as it is
-abbrev pub keeping : Registers → Next
-keeping r = record { registers = r; act = Keep }
-
--- the registers with another SYSREQ and this under way
-abbrev pub asking : (sysreq : ℕ) → (posted : ℕ) → Running → Registers → Registers
-asking w p k r = record {
-  silicon = r .silicon;
-  stored = r .stored;
-  effect = r .effect;
-  sysarg = r .sysarg;
-  sysreq = w;
-  «test_mode» = r .«test_mode»;
-  tar = r .tar;
-  posted = p;
-  running = k;
-}
-
--- the lists of one event and one outcome, and what is left of them
-abbrev pub listsOf : Left → LineEvent → CallOutcome → Lists
-listsOf x e o = record { line = eventOf e ∷ []; calls = outcomeOf x o ∷ [] }
-
--- what a decision comes to
-abbrev pub metBy : Left → LineEvent → CallOutcome → Decision → Buffers → Flow.Met
-metBy x e o d b = record {
-  target = targetOf x (d .next .registers) (after x (d .next .act) b);
-  answer = d .answer;
-  lists = record {
-    line = cond (d .«line_used») [] (eventOf e ∷ []);
-    calls = cond (d .«call_used») [] (outcomeOf x o ∷ []);
-  };
-}
-
-abbrev pub Decides : (flash locks params : List ℕ) → Registers → LineEvent → CallOutcome → Decision → (Lists → Target → Flow.Met) → Type 0
-Decides fs ks ps r e o d f =
-    (x : Left) (b : Buffers) → b .flash ≡ fs → b .locks ≡ ks → b .params ≡ ps → metBy x e o d b ≡ f (listsOf x e o) (targetOf x r b)
+-- ---- transfers
 
 -- a request carried out where TAR points
 abbrev pub Carries : Geometry → (flash locks params : List ℕ) → Request → (other : ℕ) → CallOutcome → Spot → Registers → Next → Type 0
@@ -162,13 +171,16 @@ Replies q e bars r a =
     (x : Left) (b : Buffers)
     → a ≡ cond (dead (targetOf x r b)) (silence (e .junk)) (replyTo (fateOf (e .fate)) bars (isRead q) (gives q (targetOf x r b)) (e .junk))
 
--- what a call of `meet` gave, with the buffers as it left them
-abbrev pub metOf : Left → LineEvent → CallOutcome → Met → Buffers → Flow.Met
-metOf x e o m b = record {
-  target = targetOf x (m .registers) b;
-  answer = m .answer;
-  lists = record {
-    line = cond (m .«line_used») [] (eventOf e ∷ []);
-    calls = cond (m .«call_used») [] (outcomeOf x o ∷ []);
-  };
-}
+-- ---- packets
+
+-- what a decision comes to, once its act is performed
+abbrev pub metBy : Left → LineEvent → CallOutcome → Decision → Buffers → Flow.Met
+metBy x e o d b =
+    metOf x e o
+    (record { registers = d .next .registers; answer = d .answer; «line_used» = d .«line_used»; «call_used» = d .«call_used» })
+    (after x (d .next .act) b)
+
+-- a packet is met as f says, if flash, locks and PARAMS are these
+abbrev pub Decides : (flash locks params : List ℕ) → Registers → LineEvent → CallOutcome → Decision → (Lists → Target → Flow.Met) → Type 0
+Decides fs ks ps r e o d f =
+    (x : Left) (b : Buffers) → b .flash ≡ fs → b .locks ≡ ks → b .params ≡ ps → metBy x e o d b ≡ f (listsOf x e o) (targetOf x r b)

@@ -8,8 +8,6 @@ ghost use Rattle.bench_board.specs.Board.{residueOf, siliconOf};
 ghost use Rattle.bench_board.specs.Meets.{ended, MakesOf, Effects, Fails, Succeeds, Protects, Answers, Resets, Alters};
 ghost use Rattle.flow.specs.Calls.{levelSent, macroSent, failedArg, listAt, bytesIn, sysreqAfter, finish};
 ghost use Rattle.flow.specs.Target.{setReset};
-ghost use Rattle.image.specs.Words.{total};
-ghost use Rattle.parts.specs.Sizes.{rowBytes};
 use crate::Act;
 use crate::CallOutcome;
 use crate::Effect;

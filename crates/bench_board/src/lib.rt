@@ -28,8 +28,7 @@ pub struct Silicon {
     pub privileged_sum: u32,
 }
 
-// How a call will go: the reads of SYSREQ that post it busy, then success or failure; what a failure leaves in SYSARG, and
-// whether a failed 0x0D stores the level sent.
+// How a call will go: busy reads, then success, or a failure that leaves this SYSARG and, of 0x0D, perhaps the level sent.
 pub struct CallOutcome {
     pub busy_reads: u32,
     pub succeeds: bool,
@@ -193,8 +192,7 @@ fn decide(
     }
 }
 
-// The board meets a packet. Flash, locks and latch are lent as bytes, PARAMS as words, of any sizes; what a failed call leaves
-// is lent beside them, as long as the call is under way.
+// The board meets a packet. The memory lent may have any sizes; what a failed call leaves is lent while the call is under way.
 pub fn meet(
     g: Geometry,
     r: Registers,

@@ -1,5 +1,5 @@
 // The board's side of the wire: packets read bit by bit, and answers.
-ghost use mathlib.Core.Bool.{true, false, cond};
+ghost use mathlib.Core.Bool.{true, false};
 ghost use mathlib.Core.Path.{_≡_};
 ghost use Rattle.bench_board.specs.Board.{fateOf};
 ghost use Rattle.bench_board.specs.Meets.{decodedOf};

@@ -1,5 +1,5 @@
-use mathlib.Core.Path.{_≡_, refl, sym, ap, _∙_}
-use borrow.Author.Tests.{eq-eqb, ne-eqb}
+-- By whether the packet is a request. Assumes nothing.
+use mathlib.Core.Path.{sym, ap, _∙_}
 use borrow.Author.Needs.{needs}
 use Rattle.bench_board.proofs.Meeting.{decoded-as, meet-unknown}
 use Rattle.bench_board.specs.Meets.{decodedOf}

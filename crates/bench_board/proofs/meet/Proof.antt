@@ -1,5 +1,4 @@
-use mathlib.Core.Path.{_≡_, refl, sym, ap, _∙_}
-use borrow.Author.Tests.{eq-eqb, ne-eqb}
+-- What was decided, once its act is performed. Assumes nothing.
 use borrow.Author.Needs.{needs}
 use Rattle.bench_board.proofs.Meeting.{performed}
 use Rattle.bench_board.specs.Board.{lent, left}

@@ -1,5 +1,4 @@
-use mathlib.Core.Path.{_≡_, refl, sym, ap, _∙_}
-use borrow.Author.Tests.{eq-eqb, ne-eqb}
+-- Resets by their own laws, each other request as a transfer. Assumes nothing.
 use borrow.Author.Needs.{needs}
 use Rattle.bench_board.proofs.Meeting.{meet-as, meet-transfer, meet-xres, meet-line}
 use Rattle.bench_board.proofs.meet_request.Statement.{statement}

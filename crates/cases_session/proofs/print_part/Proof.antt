@@ -10,14 +10,11 @@ slice-aggregate-print-case c =
     let f = c .before .before .before .args in
     sym (length-take-le (f .size) (f .image .now) (c .before .if1 .taken))
 
-print-case-requires : tie.Need-print-case-requires
-print-case-requires c κs = search needs
-
-returns : tie.Need-returns
-returns c = search needs
-
-returns-2 : tie.Need-returns-2
-returns-2 c = search needs
-
 pub print-part-spec : {M : Type 1} → statement M
-print-part-spec = tie.close (tie.spec slice-aggregate-print-case print-case-requires returns returns-2)
+print-part-spec =
+    tie.close
+    (tie.spec
+    slice-aggregate-print-case
+    (λ c κs. search needs)
+    (λ c. search needs)
+    (λ c. search needs))

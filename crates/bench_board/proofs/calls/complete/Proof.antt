@@ -1,5 +1,4 @@
-use mathlib.Core.Path.{_≡_, refl, sym, ap, _∙_}
-use borrow.Author.Tests.{eq-eqb, ne-eqb}
+-- By the outcome. Assumes nothing.
 use borrow.Author.Needs.{needs}
 use Rattle.bench_board.proofs.calls.complete.Statement.{statement}
 use Rattle.bench_board.proofs.calls.complete.Tie as tie

@@ -1,9 +1,8 @@
-use mathlib.Core.Path.{_≡_, refl, sym, ap, _∙_}
+-- By the call's number, in the order of `effectOf`. Assumes nothing.
 use Prim.Native.Nat.{_/_, _≤_}
 use native.Mathlib.Nat.{mul-le-mul}
 use native.Mathlib.Omega.{arith}
 use Rattle.bench_board.proofs.Calling.{erasing, filling, programming, protecting, idling}
-use borrow.Author.Tests.{eq-eqb, ne-eqb}
 use borrow.Author.Needs.{needs}
 use Rattle.bench_board.proofs.calls.effect_of.Statement.{statement}
 use Rattle.bench_board.proofs.calls.effect_of.Tie as tie

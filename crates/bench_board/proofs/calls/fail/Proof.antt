@@ -1,9 +1,7 @@
-use mathlib.Core.Path.{_≡_, refl, sym, ap, _∙_}
-use borrow.Author.Tests.{eq-eqb, ne-eqb}
+-- By whether the call leaves the memory alone. Assumes nothing.
+use mathlib.Core.Path.{sym, _∙_}
 use borrow.Author.Needs.{needs}
 use Rattle.bench_board.proofs.Calling.{failed-quiet, failed-left}
-use Rattle.bench_board.specs.Meets.{Fails}
-use Rattle.bench_board.specs.declared.Next.{Next}
 use Rattle.bench_board.proofs.calls.fail.Statement.{statement}
 use Rattle.bench_board.proofs.calls.fail.Tie as tie
 

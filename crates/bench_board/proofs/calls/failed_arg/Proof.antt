@@ -1,5 +1,5 @@
+-- By the top digit. Assumes nothing.
 use borrow.Author.Tests.{eq-eqb, ne-eqb}
-use borrow.Author.Needs.{needs}
 use Rattle.bench_board.proofs.calls.failed_arg.Statement.{statement}
 use Rattle.bench_board.proofs.calls.failed_arg.Tie as tie
 

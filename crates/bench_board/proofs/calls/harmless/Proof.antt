@@ -1,5 +1,5 @@
+-- The three numbers in turn. Assumes nothing.
 use borrow.Author.Tests.{eq-eqb, ne-eqb}
-use borrow.Author.Needs.{needs}
 use Rattle.bench_board.proofs.calls.harmless.Statement.{statement}
 use Rattle.bench_board.proofs.calls.harmless.Tie as tie
 

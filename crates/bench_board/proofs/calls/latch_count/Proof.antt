@@ -1,3 +1,4 @@
+-- By whether SYSARG is PARAMS. Assumes nothing.
 use borrow.Author.Tests.{eq-eqb, ne-eqb}
 use borrow.Author.Needs.{needs}
 use Rattle.flow.specs.Calls.{bytesIn}

@@ -1,5 +1,5 @@
+-- By the macro. Assumes nothing.
 use borrow.Author.Tests.{eq-eqb, ne-eqb}
-use borrow.Author.Needs.{needs}
 use Rattle.bench_board.proofs.calls.level_after.Statement.{statement}
 use Rattle.bench_board.proofs.calls.level_after.Tie as tie
 

@@ -1,3 +1,4 @@
+-- By whether SYSARG is PARAMS. Assumes nothing.
 use borrow.Author.Tests.{eq-eqb, ne-eqb}
 use borrow.Author.Needs.{needs}
 use Rattle.bench_board.proofs.calls.list_word.Statement.{statement}

@@ -1,5 +1,5 @@
+-- The three conditions in turn. Assumes nothing.
 use borrow.Author.Tests.{eq-eqb, ne-eqb}
-use borrow.Author.Needs.{needs}
 use Rattle.bench_board.proofs.calls.relevels.Statement.{statement}
 use Rattle.bench_board.proofs.calls.relevels.Tie as tie
 

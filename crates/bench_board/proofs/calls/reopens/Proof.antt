@@ -1,5 +1,5 @@
+-- The two conditions in turn. Assumes nothing.
 use borrow.Author.Tests.{eq-eqb, ne-eqb}
-use borrow.Author.Needs.{needs}
 use Rattle.bench_board.proofs.calls.reopens.Statement.{statement}
 use Rattle.bench_board.proofs.calls.reopens.Tie as tie
 

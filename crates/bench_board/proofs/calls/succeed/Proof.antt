@@ -1,6 +1,5 @@
-use mathlib.Core.Path.{_≡_, refl, sym, ap, _∙_}
+-- Memory, SYSARG and SYSREQ by their own functions. Assumes nothing.
 use Rattle.bench_board.proofs.Calling.{succeeding}
-use borrow.Author.Tests.{eq-eqb, ne-eqb}
 use borrow.Author.Needs.{needs}
 use Rattle.bench_board.proofs.calls.succeed.Statement.{statement}
 use Rattle.bench_board.proofs.calls.succeed.Tie as tie

@@ -1,6 +1,5 @@
-use mathlib.Core.Path.{_≡_, refl, sym, ap, _∙_}
+-- By the call's number. Assumes nothing.
 use Rattle.bench_board.proofs.Calling.{ids-told, sum-told, mark-told}
-use borrow.Author.Tests.{eq-eqb, ne-eqb}
 use borrow.Author.Needs.{needs}
 use Rattle.bench_board.proofs.calls.sysarg_after.Statement.{statement}
 use Rattle.bench_board.proofs.calls.sysarg_after.Tie as tie

@@ -1,3 +1,4 @@
+-- By whether the call is 0. Assumes nothing.
 use borrow.Author.Tests.{eq-eqb, ne-eqb}
 use borrow.Author.Needs.{needs}
 use Rattle.flow.specs.Calls.{sysreqAfter}

@@ -1,6 +1,5 @@
-use mathlib.Core.Path.{_≡_, refl, sym, ap, _∙_}
+-- By whether a call is under way. Assumes nothing.
 use Rattle.bench_board.proofs.Calling.{reset-idle, reset-busy}
-use borrow.Author.Tests.{eq-eqb, ne-eqb}
 use borrow.Author.Needs.{needs}
 use Rattle.bench_board.proofs.calls.xres.Statement.{statement}
 use Rattle.bench_board.proofs.calls.xres.Tie as tie

@@ -1,5 +1,5 @@
-use mathlib.Core.Path.{_≡_, refl, sym, ap, _∙_}
-use borrow.Author.Tests.{eq-eqb, ne-eqb}
+-- By the request, in the order of `carry`. Assumes nothing.
+use mathlib.Core.Path.{refl}
 use borrow.Author.Needs.{needs}
 use Rattle.flow.specs.Exchange.{carry}
 use Rattle.bench_board.proofs.Meeting.{carry-none, carry-read, carry-tar, carry-write, none-xres, none-line, none-idcode}

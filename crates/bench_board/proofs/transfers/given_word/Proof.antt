@@ -1,4 +1,4 @@
-use borrow.Author.Tests.{eq-eqb, ne-eqb}
+-- By the request, in the order of `gives`. Assumes nothing.
 use borrow.Author.Needs.{needs}
 use Rattle.bench_board.proofs.transfers.given_word.Statement.{statement}
 use Rattle.bench_board.proofs.transfers.given_word.Tie as tie

@@ -1,3 +1,4 @@
+-- The two conditions in turn. Assumes nothing.
 use borrow.Author.Tests.{le-leb, lt-leb}
 use borrow.Author.Needs.{needs}
 use Rattle.bench_board.proofs.transfers.is_call.Statement.{statement}

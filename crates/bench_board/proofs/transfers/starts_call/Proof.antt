@@ -1,4 +1,4 @@
-use borrow.Author.Tests.{eq-eqb, ne-eqb}
+-- By the request, in the order of `callsOn`. Assumes nothing.
 use borrow.Author.Needs.{needs}
 use Rattle.bench_board.proofs.transfers.starts_call.Statement.{statement}
 use Rattle.bench_board.proofs.transfers.starts_call.Tie as tie

@@ -1,5 +1,4 @@
-use mathlib.Core.Path.{_≡_, refl, sym, ap, _∙_}
-use borrow.Author.Tests.{eq-eqb, ne-eqb}
+-- By whether a call is under way. Assumes nothing.
 use borrow.Author.Needs.{needs}
 use Rattle.bench_board.proofs.Wording.{tick-idle, tick-running}
 use Rattle.bench_board.proofs.words.read_sysreq.Statement.{statement}

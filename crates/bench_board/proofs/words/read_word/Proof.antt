@@ -1,5 +1,4 @@
-use mathlib.Core.Path.{_≡_, refl, sym, ap, _∙_}
-use borrow.Author.Tests.{eq-eqb, ne-eqb}
+-- By what is at TAR, in the order of `fetch`. Assumes nothing.
 use borrow.Author.Needs.{needs}
 use Rattle.bench_board.proofs.Wording.{read-flash, read-locks, read-params, read-level, read-sysreq, read-sysarg, read-test-mode, read-elsewhere}
 use Rattle.bench_board.proofs.words.read_word.Statement.{statement}

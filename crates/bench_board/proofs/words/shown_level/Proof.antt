@@ -1,3 +1,4 @@
+-- 0 and 1 are exchanged; every level is less than 16. Assumes nothing.
 use borrow.Author.Tests.{eq-eqb, ne-eqb}
 use borrow.Author.Needs.{needs}
 use native.Mathlib.Omega.{arith}

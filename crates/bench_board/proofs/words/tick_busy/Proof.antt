@@ -1,5 +1,4 @@
-use mathlib.Core.Path.{_≡_, refl, sym, ap, _∙_}
-use borrow.Author.Tests.{eq-eqb, ne-eqb}
+-- By the busy reads left. Assumes nothing.
 use borrow.Author.Needs.{needs}
 use Rattle.bench_board.proofs.Wording.{ended-there, still-busy}
 use Rattle.bench_board.proofs.words.tick_busy.Statement.{statement}

@@ -1,4 +1,4 @@
-use borrow.Author.Tests.{eq-eqb, ne-eqb}
+-- One register alters. Assumes nothing.
 use borrow.Author.Needs.{needs}
 use Rattle.bench_board.proofs.words.write_sysarg.Statement.{statement}
 use Rattle.bench_board.proofs.words.write_sysarg.Tie as tie

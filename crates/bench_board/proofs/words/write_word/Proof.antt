@@ -1,5 +1,4 @@
-use mathlib.Core.Path.{_≡_, refl, sym, ap, _∙_}
-use borrow.Author.Tests.{eq-eqb, ne-eqb}
+-- By what is at TAR, in the order of `store`. Assumes nothing.
 use borrow.Author.Needs.{needs}
 use Rattle.bench_board.proofs.Wording.{write-flash, write-locks, write-params, write-level, write-sysreq, write-sysarg, write-test-mode, write-elsewhere}
 use Rattle.bench_board.proofs.words.write_word.Statement.{statement}

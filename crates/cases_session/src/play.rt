@@ -1,0 +1,237 @@
+// A session played to its report, on the board of its part.
+ghost use mathlib.Core.Path.{_≡_};
+ghost use Prim.Native.Nat.{_≤_};
+ghost use lib.ListN.{length};
+use crate::answering;
+use crate::answering::Heard;
+use crate::digest;
+use crate::printing;
+use crate::reading::Case;
+use crate::reading::Overrides;
+use bench_board::Registers;
+use flow::Answer;
+use flow::Packet;
+use parts::Geometry;
+use parts::Lookup;
+use session::Given;
+use session::Outcome;
+use session::Session;
+
+// A session, its board's registers and its standing request.
+struct Bench {
+    registers: Registers,
+    session: Session,
+    packet: Packet,
+    digest: u64,
+    transfers: u32,
+    finished: bool,
+}
+
+fn transfers_after(transfers: u32, packet: Packet) -> u32 {
+    if digest::is_transfer(packet) {
+        return std::num::wrapping_add_u32(transfers, 1);
+    }
+    transfers
+}
+
+// What stands after a step.
+fn bench_after(given: Given, r: Registers, h: u64, transfers: u32) -> Bench {
+    let s = given.session;
+    let o = given.outcome;
+    match o {
+        Outcome::Ask(packet) => Bench {
+            registers: r,
+            session: s,
+            packet: packet,
+            digest: h,
+            transfers: transfers,
+            finished: false,
+        },
+        Outcome::Refused(_) => Bench {
+            registers: r,
+            session: s,
+            packet: Packet::Xres,
+            digest: 0,
+            transfers: transfers,
+            finished: true,
+        },
+        Outcome::Told(_) => Bench {
+            registers: r,
+            session: s,
+            packet: Packet::Xres,
+            digest: h,
+            transfers: transfers,
+            finished: true,
+        },
+    }
+}
+
+// The step with the answer that was heard.
+fn stepped(bench: Bench, heard: Heard, image: &[u8], turn: u32) -> Bench {
+    let s = bench.session;
+    let packet = bench.packet;
+    let a = heard.answer;
+    let r = heard.registers;
+    let h = digest::after_request(bench.digest, s, image, packet, a, turn);
+    let given = session::step(s, image, a);
+    bench_after(given, r, h, transfers_after(bench.transfers, packet))
+}
+
+// A request met, and the step with its answer.
+fn turned(
+    bench: Bench,
+    g: Geometry,
+    overrides: Overrides,
+    image: &[u8],
+    flash: &mut [u8],
+    locks: &mut [u8],
+    latch: &mut [u8],
+    params: &mut [u32],
+    turn: u32,
+) -> Bench {
+    let r = bench.registers;
+    let packet = bench.packet;
+    let heard = answering::answered(
+        g,
+        r,
+        overrides,
+        flash,
+        locks,
+        latch,
+        params,
+        bench.transfers,
+        packet,
+    );
+    stepped(bench, heard, image, turn)
+}
+
+// Steps to the report; the turns are counted, for nothing here says that it comes.
+fn played(
+    first: Bench,
+    g: Geometry,
+    overrides: Overrides,
+    image: &[u8],
+    flash: &mut [u8],
+    locks: &mut [u8],
+    latch: &mut [u8],
+    params: &mut [u32],
+) -> Bench {
+    let mut bench = first;
+    let mut turn: u32 = 0;
+    while turn < 4000000000 {
+        bench = turned(
+            bench,
+            g,
+            overrides,
+            image,
+            flash,
+            locks,
+            latch,
+            params,
+            turn,
+        );
+        if bench.finished {
+            return bench;
+        }
+        turn += 1;
+    }
+    bench
+}
+
+// One step more after the report: what it gives is printed.
+fn print_last(bench: Bench, image: &[u8]) {
+    let s = bench.session;
+    let given = session::step(s, image, Answer::ResetDone);
+    let o = given.outcome;
+    match o {
+        Outcome::Told(r) => printing::print_report(r, bench.digest),
+        Outcome::Refused(n) => printing::print_refusal(n),
+        Outcome::Ask(_) => printing::print_refusal(0),
+    }
+}
+
+// Room for the flash of any part.
+fn blank_flash() -> [u8; 131072]
+    ensures { λ r. ⌜ 131072 ≡ length r ⌝ }
+{
+    [0; 131072]
+}
+
+// Room for the locks, or the latch, of any part.
+fn blank_bytes() -> [u8; 128]
+    ensures { λ r. ⌜ 128 ≡ length r ⌝ }
+{
+    [0; 128]
+}
+
+// Room for the PARAMS of any part.
+fn blank_words() -> [u32; 34]
+    ensures { λ r. ⌜ 34 ≡ length r ⌝ }
+{
+    [0; 34]
+}
+
+fn at_most(n: usize, most: usize) -> usize
+    ensures { λ r. ⌜ r ≤ most ⌝ }
+{
+    if n < most { n } else { most }
+}
+
+// The board's memory has the sizes of its part.
+fn play_from(first: Bench, g: Geometry, overrides: Overrides, image: &[u8]) {
+    let p = g.part;
+    let row = at_most(p.row_bytes as usize, 128);
+    let size = at_most(parts::flash_size(g), 131072);
+    let total = at_most(parts::lock_total(g), 128);
+    let mut flash = blank_flash();
+    let mut locks = blank_bytes();
+    let mut latch = blank_bytes();
+    let mut params = blank_words();
+    let last = played(
+        first,
+        g,
+        overrides,
+        image,
+        &mut flash[..size],
+        &mut locks[..total],
+        &mut latch[..row],
+        &mut params[..2 + row / 4],
+    );
+    print_last(last, image);
+}
+
+fn play(c: Case, g: Geometry, s: Session, packet: Packet, image: &[u8]) {
+    let h = c.header;
+    let overrides = c.overrides;
+    let first = Bench {
+        registers: answering::blank(h, c.stored, c.privileged),
+        session: s,
+        packet: packet,
+        digest: 14695981039346656037,
+        transfers: 0,
+        finished: false,
+    };
+    play_from(first, g, overrides, image);
+}
+
+// A session that has started, on the board of its part.
+fn play_on(c: Case, s: Session, packet: Packet, image: &[u8]) {
+    let h = c.header;
+    let found = parts::find(h.part, h.macros);
+    match found {
+        Lookup::Found(g) => play(c, g, s, packet, image),
+        Lookup::Refused(n) => printing::print_refusal(n),
+    }
+}
+
+pub(crate) fn print_case(c: Case, image: &[u8]) {
+    let h = c.header;
+    let given = session::start(h, image, c.leave);
+    let s = given.session;
+    let o = given.outcome;
+    match o {
+        Outcome::Refused(n) => printing::print_refusal(n),
+        Outcome::Ask(packet) => play_on(c, s, packet, image),
+        Outcome::Told(_) => printing::print_refusal(0),
+    }
+}

@@ -1,0 +1,23 @@
+// The lines that are printed.
+use session::Report;
+
+fn print_number(n: u64) {
+    cases::print_byte(32);
+    io::print_decimal(1, n);
+}
+
+pub(crate) fn print_refusal(n: u8) {
+    io::write_all(1, b"refused");
+    print_number(n as u64);
+    cases::print_byte(10);
+}
+
+pub(crate) fn print_report(r: Report, digest: u64) {
+    io::write_all(1, b"report");
+    print_number(r.number as u64);
+    print_number(r.step as u64);
+    print_number(r.transfers as u64);
+    cases::print_byte(32);
+    cases::print_hex(digest, 16);
+    cases::print_byte(10);
+}

@@ -1,0 +1,119 @@
+// The cases, read from standard input (tests/vectors/README.md).
+use image::Header;
+
+// Answers that stand in the place of the board's own.
+pub struct Override {
+    pub at: u32,
+    pub stride: u32,
+    pub count: u32,
+    pub carried: bool,
+    pub ack: u8,
+    pub word: u32,
+    pub parity: u8,
+}
+
+pub struct Overrides {
+    pub first: Override,
+    pub second: Override,
+}
+
+pub struct Case {
+    pub header: Header,
+    pub length: u32,
+    pub seed: u32,
+    pub leave: bool,
+    pub stored: u8,
+    pub privileged: u32,
+    pub overrides: Overrides,
+}
+
+fn number() -> u32 {
+    let n = cases::read_number(4294967295);
+    n.value
+}
+
+fn small() -> u8 {
+    let n = cases::read_number(255);
+    n.value as u8
+}
+
+fn read_override() -> Override {
+    Override {
+        at: number(),
+        stride: number(),
+        count: number(),
+        carried: number() == 1,
+        ack: small(),
+        word: number(),
+        parity: small(),
+    }
+}
+
+// An override that covers no transfer.
+fn no_override() -> Override {
+    Override {
+        at: 0,
+        stride: 1,
+        count: 0,
+        carried: false,
+        ack: 0,
+        word: 0,
+        parity: 0,
+    }
+}
+
+fn override_if(there: bool) -> Override {
+    if there {
+        read_override()
+    } else {
+        no_override()
+    }
+}
+
+fn read_overrides(count: u32) -> Overrides {
+    Overrides {
+        first: override_if(1 <= count),
+        second: override_if(2 <= count),
+    }
+}
+
+// The metadata: version, high byte first, silicon ID, six bytes 0.
+fn read_metadata() -> [u8; 12] {
+    let version = number();
+    let mut metadata = [0u8; 12];
+    metadata[0] = (version / 256 % 256) as u8;
+    metadata[1] = (version % 256) as u8;
+    metadata[2] = small();
+    metadata[3] = small();
+    metadata[4] = small();
+    metadata[5] = small();
+    metadata
+}
+
+pub(crate) fn read_case(part: u8) -> Case {
+    let macros = small();
+    let size = cases::read_number(131200);
+    let seed = number();
+    let sum = cases::read_number(65535);
+    let metadata = read_metadata();
+    let header = Header {
+        part: part,
+        macros: macros,
+        sum: sum.value as u16,
+        metadata: metadata,
+        level: small(),
+    };
+    let leave = number() == 1;
+    let stored = small();
+    let privileged = number();
+    let overrides = read_overrides(number());
+    Case {
+        header: header,
+        length: size.value,
+        seed: seed,
+        leave: leave,
+        stored: stored,
+        privileged: privileged,
+        overrides: overrides,
+    }
+}
