@@ -148,6 +148,9 @@ fn sizes_handled(g: Geometry) -> bool
     if 1024 < p.row_bytes {
         return false;
     }
+    if p.row_bytes % 4 != 0 {
+        return false;
+    }
     if p.rows_per_macro < 32 {
         return false;
     }
