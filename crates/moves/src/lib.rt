@@ -34,7 +34,7 @@ use rows::rows_move;
 use rows::verify_move;
 
 // The moves of steps 1 and 2, after which the entries part.
-pub fn opening_moves(g: Geometry) -> u32
+fn opening_moves(g: Geometry) -> u32
     ensures { λ n. ⌜ n ≡ openingCount g ⌝ ∗ ⌜ n ≤ 40 ⌝ }
 {
     let p = g.part;
