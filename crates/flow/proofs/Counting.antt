@@ -6,6 +6,7 @@ use native.Mathlib.Omega.{arith}
 use lib.ListN.{length}
 use Rattle.flow.specs.Plan.{Traffic, counting, trafficIn, isPoll, pollsIn, fromProtected, plan, loops, acquisitions}
 use Rattle.flow.specs.Sequence.{write, read, call, writes, listed, pieces, imoCall, acquire, silicon, privileged, programRow, compareWord, lockStart, lockMacro, verifyMacro, program, opening, afterwards, sequence, key}
+use Rattle.flow.specs.Totals.{SequenceCounts}
 use Rattle.flow.specs.declared.Entry.{Entry}
 use Rattle.flow.specs.declared.Entry.the-variants.{FromOpen, FromProtected}
 use Rattle.flow.specs.declared.Move.{Move}
@@ -13,8 +14,8 @@ use Rattle.flow.specs.declared.Purpose.{Purpose}
 use Rattle.flow.specs.declared.Purpose.the-variants.{Keep, EntryLevel, Reopened, StoredLevel, LastSum}
 use Rattle.flow.specs.declared.Request.{Request}
 use Rattle.flow.specs.declared.Request.the-variants.{Xres, LineReset, ReadIdcode, ReadDrw, WriteTar, WriteDrw, WriteSetup}
-use Rattle.flow.proofs.Table.{Facts}
-use Rattle.image.specs.Image.{Image}
+use Rattle.flow.proofs.Table.{Facts, facts}
+use Rattle.image.specs.Image.{Image, imageOf}
 use Rattle.image.specs.Words.{wordsAt}
 use Rattle.parts.specs.Sizes.{rowBytes, macrosOf, rowsOf, locksIn, imoOf, PARAMS}
 use Rattle.parts.specs.declared.Geometry.{Geometry}
@@ -191,3 +192,9 @@ module _ (i : Image) (f : Facts (i .geometry)) where
       (joined count-opening (joined (count-call (i .geometry) 3 0x0D _)
       (joined (count-acquire (i .geometry) f) (joined (count-silicon (i .geometry) Reopened refl) count-program))))
       (omega (arith, plan-form FromProtected)) (omega arith) refl refl
+
+-- the same, for the parts of the table
+pub sequence-counts : SequenceCounts
+sequence-counts part macros g e h bytes y =
+    let t = sequence-totals (imageOf g h bytes) (facts part macros g e) y in
+    record { transfers = t .transfers; polls = t .polls; xresets = t .xresets; lineResets = t .lineResets }

@@ -17,7 +17,7 @@ use Rattle.flow.proofs.Lists.{Small, sent-bytes, length-part, length-la
 use Rattle.flow.proofs.Phases.{Valid, Wrote, call4, call6, steady-4, steady-6}
 use Rattle.flow.proofs.Reaches.{Frame, split}
 use Rattle.flow.proofs.Table.{Facts}
-use Rattle.image.specs.Image.{Image, rowIn}
+use Rattle.image.specs.Image.{Image}
 use Rattle.parts.specs.Sizes.{rowBytes, rowsPerMacro, rowsOf, flashSize, PARAMS}
 use Rattle.parts.specs.declared.Geometry.{Geometry}
 
@@ -36,8 +36,9 @@ unfolding effectOf
 effect-6 g l a r behind x = let e : (key 6 + r * 0x10000) / 65536 ≡ r = omega arith in rw e
 
 module _ {i : Image} (f : Frame i) (fx : Facts (i .geometry)) (v : Valid i) (r : ℕ) (room : r < rowsOf (i .geometry)) where
+  -- 'The row's bytes start at row × L in the image.'
   abbrev row : List ℕ
-  row = rowIn (i .geometry) r (i .flash)
+  row = take (rowBytes (i .geometry)) (drop (r * rowBytes (i .geometry)) (i .flash))
 
   -- the list of call 4
   abbrev rowList : List ℕ

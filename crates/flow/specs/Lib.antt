@@ -1,6 +1,7 @@
 pub mod Packets
 pub mod Sequence
 pub mod Plan
+pub mod Totals
 pub mod Map
 pub mod Target
 pub mod Calls

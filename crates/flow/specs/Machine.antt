@@ -61,7 +61,7 @@ attemptOn t s p a k h = cond (ltb (suc a) 30) (underWay (back t) 0 p (suc a) k h
 abbrev pub waitOn : Cursor → (step waits polls attempts kept transfers : ℕ) → Machine
 waitOn t s w p a k h = cond (ltb w 16) (underWay t (suc w) p a k h) (ended 27 s h)
 
--- a transfer of move m heard so; 'Attempts in step 1 aren't repeated for WAIT, any mishap ends the attempt only'
+-- a transfer of move m heard so; 'Attempts in step 1 aren't repeated for WAIT; any mishap ends the attempt only'
 abbrev pub heardOn : (attempt : Bool) → Image → Move → Verdict → Cursor → (waits polls attempts kept transfers : ℕ) → Machine
 heardOn true i m (okay x) t w p a k h = judgedOn i (judge i (m .purpose) p k x) t (m .step) 0 h
 heardOn false i m (okay x) t w p a k h = judgedOn i (judge i (m .purpose) p k x) t (m .step) a h

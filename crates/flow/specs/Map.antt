@@ -29,7 +29,7 @@ search (r ∷ rs) a = cond (covers r a) (r .spot (a - r .start)) (search rs a)
 abbrev pub word : ℕ → Place → Region
 word a p = record { start = a; size = 4; spot = λ o. p }
 
--- 'PARAMS has at least 2 + L / 4 words': two words and a row
+-- READINGS 25: 'PARAMS has at least 2 + L / 4 words', here two words and a row
 abbrev pub paramsSize : Geometry → ℕ
 paramsSize g = 8 + rowBytes g
 

@@ -63,7 +63,7 @@ noticeStatus false w a t d = watching 0 0 a (record { tar = t .tar; counts = t .
 noticeStatus true w a t d =
     within (eqb (w / 268435456 % 16) 0xA) 19 (watching 0 0 a (record { tar = t .tar; counts = t .counts; polling = false; due = false }) d)
 
--- any other Read ends a poll loop: it is 'the run of SYSREQ Reads'
+-- any other Read ends a poll loop: in READINGS 27 it is 'the run of SYSREQ Reads'
 abbrev pub passBy : (attempts : ℕ) → Watch → Delays → Monitor
 passBy a t d = watching 0 0 a (record { tar = t .tar; counts = t .counts; polling = false; due = t .due }) d
 

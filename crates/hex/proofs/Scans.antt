@@ -8,7 +8,7 @@ use borrow.Author.Tests.{eqb-false, eq-eqb, ne-eqb}
 use lib.Dec.{eqb, lit≤, lit<}
 use lib.ListN.{length, getD, drop}
 use lib.Seq.{sets, length-sets}
-use Rattle.hex.specs.Steps.{outcomeAt, dues, dueList, TurnAt, Sized, advancedOf, ScannedAs}
+use Rattle.hex.specs.Steps.{outcomeAt, dues, TurnAt, Sized, advancedOf, ScannedAs}
 use Rattle.hex.specs.Texts.{outcomeOf}
 use Rattle.hex.specs.declared.Due.{Due}
 use Rattle.hex.specs.declared.Scanned.the-variants.{Bad, Whole}
@@ -25,6 +25,10 @@ use Rattle.text.specs.Storing.{storedIn, laid}
 use Rattle.text.proofs.Placing.{after-append, laid-advance, stored-in}
 use Rattle.hex.proofs.Bodies.{payloadIn, payload-length}
 use Rattle.hex.proofs.Sizes.{Roomy, roomy-at, due-at, last-section}
+
+-- what is due, and the sections after it
+abbrev dueList : Geometry → Due → List Section
+dueList g d = dues (d .section) (drop (d .next) (sectionsOf g))
 
 -- what is due after some bytes
 pub advanced-next : (g : Geometry) (d : Due) (count : ℕ) (s : Section) → count ≡ d .section .size → s ≡ getD (sectionsOf g) (d .next) noSection

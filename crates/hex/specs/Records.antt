@@ -43,7 +43,7 @@ unfoldable pub ofSpelt : Spelt → Record
 ofSpelt Unreadable = BadRecord 1
 ofSpelt (Spells bs) = recordOf bs
 
--- 'Lines are a colon (58), digit pairs of either case'; '1 line form'
+-- 'Lines are a colon, digit pairs of either case'; '1 line form'; a colon is 58
 unfoldable pub ofBody : List ℕ → Record
 ofBody [] = BadRecord 1
 ofBody (c ∷ s) = cond (eqb c 58) (ofSpelt (spelt s)) (BadRecord 1)

@@ -77,9 +77,6 @@ outcomeAt text at upper due = place due (events upper (linesOf (drop at text)))
 abbrev pub dues : Section → List Section → List Section
 dues s ss = cond (eqb (s .size) 0) [] (s ∷ ss)
 
-abbrev pub dueList : Geometry → Due → List Section
-dueList g d = dues (d .section) (drop (d .next) (sectionsOf g))
-
 unfoldable pub dataTurn : Section → (upper low count next : ℕ) → Turn
 dataTurn due upper low count next =
     cond (leb (low + count) 65536 && (eqb (65536 * upper + low) (due .address) && leb count (due .size))) (Store count next) (Stop 4)

@@ -15,7 +15,6 @@ use Rattle.hex_writer.specs.Writing.{Writing, Unwritten, Written, writin
 use Rattle.hex_writer.proofs.Data.{data-bytes}
 use Rattle.hex_writer.proofs.Lengths.{text-length}
 use Rattle.hex_writer.proofs.RoundTrip as trip
-use Rattle.hex_writer.proofs.Entries.{longest}
 use Rattle.hex_writer.proofs.Written.{written-from, writes, some-number}
 use Rattle.image.specs.Sections.{sectionsOf, headerOf}
 use Rattle.image.specs.declared.Header.{Header}
@@ -101,9 +100,11 @@ module _ (part macros : ℕ) (g : Geometry) (stream : List ℕ) (all : AllBytes 
         imageBytes = all-bytes (gathered InImage (sectionsOf g) stream) (gathered-bytes InImage (sectionsOf g) stream all);
       }
 
-again : (part macros : ℕ) (text : List ℕ) (space : ℕ) (h : Header) (bytes : List ℕ) (room : ℕ) → Takes part macros text space h bytes → 289234 ≤ room
+again : (part macros : ℕ) (g : Geometry) (text : List ℕ) (space : ℕ) (h : Header) (bytes : List ℕ) (room : ℕ) → lookupOf part macros ≡ Found g
+    → Takes part macros text space h bytes
+    → textLength g ≤ room
     → WrittenAgain part macros h bytes room
-again part macros text space h bytes room t big =
+again part macros known text space h bytes room offered t fits =
     let a = taken-from part macros text space h bytes t in
     let g = a .g in
     let s = a .stream in
@@ -116,10 +117,12 @@ again part macros text space h bytes room t big =
     let m : macros ≡ h .macros = ap (λ (x : Header). x .macros) (a .header) in
     let found : lookupOf (h .part) (h .macros) ≡ Found g = sym (ap (λ (x : ℕ). lookupOf x macros) p ∙ ap (lookupOf (h .part)) m) ∙ a .found in
     let exact : length bytes ≡ imageSize g = ap length (sym (a .image)) ∙ image-length g s each in
-    let l = longest part macros g (a .found) in
+    let one : Found known ≡ Found g = sym offered ∙ a .found in
+    let same : known ≡ g = cc one in
+    let l : textLength g ≤ room = subst (λ (x : Geometry). textLength x ≤ room) same fits in
     record {
       form = textOf g h bytes;
-      writes = writes h bytes room g found exact (omega arith) (a .none);
+      writes = writes h bytes room g found exact l (a .none);
       takes =
           ap (λ (x : ℕ). hexReading x macros (textOf g h bytes) (length bytes)) p
           ∙ ap (λ (x : ℕ). hexReading (h .part) x (textOf g h bytes) (length bytes)) m

@@ -2,10 +2,9 @@
 use mathlib.Core.Bool.{Bool, true, false, false≢true, _&&_, cond}
 use mathlib.Core.List.{List, [], _∷_}
 use mathlib.Core.Path.{_≡_, refl}
-use Prim.Native.Nat.{ℕ, _≤_}
+use Prim.Native.Nat.{ℕ}
 use borrow.Author.Tests.{leb-true}
 use lib.Dec.{leb}
-use Rattle.hex.specs.Written.{textLength}
 use Rattle.hex_writer.specs.Sized.{Sound}
 use Rattle.parts.proofs.Table.{everywhere, entry, both}
 use Rattle.parts.specs.Parts.{partTable, offers, lookIn, lookupOf}
@@ -13,7 +12,6 @@ use Rattle.parts.specs.Sizes.{flashSize, lockTotal, rowsOf}
 use Rattle.parts.specs.declared.Geometry.{Geometry}
 use Rattle.parts.specs.declared.Lookup.the-variants.{Found, Refused}
 use Rattle.parts.specs.declared.Part.{Part}
-use Rattle.text.specs.Placing.{overall}
 
 unfoldable sized : Geometry → Bool
 sized g = leb 1 (flashSize g) && (leb (flashSize g) 16777216 && (leb 1 (lockTotal g) && leb (lockTotal g) 65536))
@@ -47,15 +45,3 @@ refused-in (p ∷ ps) n m k e = by (offers p n m) (refused-in ps n m k) e
 
 pub refused-eleven : (n m k : ℕ) → lookupOf n m ≡ Refused k → k ≡ 11
 refused-eleven n m k e = refused-in partTable n m k e
-
--- the longest text
-unfoldable short : Geometry → Bool
-short g = leb (textLength g) 289234
-
-all-short : everywhere short partTable ≡ true
-unfolding short textLength overall flashSize lockTotal rowsOf
-all-short = refl
-
-pub longest : (n m : ℕ) (g : Geometry) → lookupOf n m ≡ Found g → textLength g ≤ 289234
-unfolding short
-longest n m g e = leb-true (textLength g) 289234 (entry short n m g all-short e .passes)

@@ -8,10 +8,10 @@ use borrow.Author.Tests.{eqb-true, eqb-false}
 use lib.Dec.{eqb}
 use lib.ListN.{length, getD, take, drop, length-append, length-take, length-drop}
 use Rattle.hex.specs.Written.{dataLine, newUpper, lowOf, upperOf, linesFrom, textOf, textLength}
-use Rattle.hex_writer.specs.Lines.{upperPast, linesLength, placeAfter}
+use Rattle.hex_writer.specs.Lines.{upperPast, placeAfter}
 use Rattle.hex_writer.specs.Sized.{Sized, Laid}
 use Rattle.hex_writer.proofs.Lines.{data-length, extended-length, upper-same, upper-new, lines-append}
-use Rattle.hex_writer.proofs.Whole.{laid-at, text-lines, text-room}
+use Rattle.hex_writer.proofs.Whole.{linesLength, laid-at, text-lines, text-room}
 use Rattle.image.specs.Sections.{sectionsOf, noSection, sectionBytes, homeOf}
 use Rattle.image.specs.declared.Header.{Header}
 use Rattle.image.specs.declared.Section.{Section}

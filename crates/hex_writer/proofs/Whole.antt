@@ -6,7 +6,7 @@ use native.Mathlib.Omega.{arith}
 use lib.ListN.{length, getD, drop, length-append, drop-of-length-le}
 use lib.Seq.{sets, drop-cons}
 use Rattle.hex.specs.Written.{extendedLine, endLine, linesFrom, writtenText, textOf, uppersIn, textLength}
-use Rattle.hex_writer.specs.Lines.{placeAfter, linesLength}
+use Rattle.hex_writer.specs.Lines.{placeAfter}
 use Rattle.hex_writer.specs.Sized.{Sound, Sized, Laid}
 use Rattle.hex_writer.specs.declared.Place.{Place}
 use Rattle.hex_writer.proofs.Lines as lines
@@ -17,6 +17,10 @@ use Rattle.parts.specs.Sizes.{imageSize}
 use Rattle.parts.specs.declared.Geometry.{Geometry}
 use Rattle.text.proofs.Storing.{sets-append}
 use Rattle.text.specs.Placing.{Piece, cut, piecesIn, pieces, overall}
+
+-- the length of a section's lines, where its first upper half is a new one
+abbrev pub linesLength : Section → ℕ
+linesLength s = 17 * uppersIn s + 13 * piecesIn s + 2 * s .size
 
 -- a section's pieces come first, then those of the sections after it
 pub pieces-turn : (f : Section → List ℕ) (ss : List Section) (k : ℕ) (d : Section) → k < length ss

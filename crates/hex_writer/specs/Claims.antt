@@ -58,5 +58,7 @@ pub record WritingClaims : Type 0 where
   -- two texts of one image are written alike
   pub alike : (h : Header) (bytes : List ℕ) (room room′ : ℕ) (text text′ : List ℕ) → Writes h bytes room text → Writes h bytes room′ text′ → text ≡ text′
   -- a taken text, written again, is the written form of its image, which reads as that image
-  pub again : (part macros : ℕ) (text : List ℕ) (space : ℕ) (h : Header) (bytes : List ℕ) (room : ℕ) → Takes part macros text space h bytes → 289234 ≤ room
+  pub again : (part macros : ℕ) (g : Geometry) (text : List ℕ) (space : ℕ) (h : Header) (bytes : List ℕ) (room : ℕ) → lookupOf part macros ≡ Found g
+      → Takes part macros text space h bytes
+      → textLength g ≤ room
       → WrittenAgain part macros h bytes room

@@ -1,12 +1,11 @@
 -- What the functions that put lines leave. Assumes nothing.
 use mathlib.Core.List.{List, [], _∷_}
-use Prim.Native.Nat.{ℕ, zero, suc, _+_, _*_}
+use Prim.Native.Nat.{ℕ, zero, suc, _+_}
 use lib.ListN.{length}
-use Rattle.hex.specs.Written.{linesFrom, upperOf, uppersIn}
+use Rattle.hex.specs.Written.{linesFrom, upperOf}
 use Rattle.hex_writer.specs.declared.Place.{Place}
-use Rattle.image.specs.declared.Section.{Section}
 use Rattle.text.specs.Digits.{capital}
-use Rattle.text.specs.Placing.{Piece, piecesIn}
+use Rattle.text.specs.Placing.{Piece}
 
 -- the capitals of the n numbers from i on
 unfoldable pub capitalsFrom : (i n : ℕ) → List ℕ
@@ -24,7 +23,3 @@ upperPast upper (p ∷ ps) = upperPast (upperOf (p .address)) ps
 -- where the text goes on after the lines of some pieces
 unfoldable pub placeAfter : Place → List Piece → Place
 placeAfter w ps = record { at = w .at + length (linesFrom (w .upper) ps); upper = upperPast (w .upper) ps }
-
--- the length of a section's lines, where its first upper half is a new one
-abbrev pub linesLength : Section → ℕ
-linesLength s = 17 * uppersIn s + 13 * piecesIn s + 2 * s .size

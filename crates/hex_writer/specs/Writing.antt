@@ -21,7 +21,7 @@ pub data Writing : Type 0 where
   Unwritten : (number : ℕ) → Writing
   Written : (text : List ℕ) → Writing
 
--- 'Writing .. check[s] 11, 12, 6 to 10'; 12 is 'an image lent for reading not of exact size', then 'the buffer to be written under size'
+-- 'Writing and starting check 11, 12, 6 to 10'; 12 is 'an image lent for reading not of exact size', then 'the buffer to be written under size'
 abbrev pub writeChecks : Geometry → Header → (bytes : List ℕ) (room : ℕ) → List Check
 writeChecks g h bytes room =
     12 unless eqb (length bytes) (imageSize g) ∷ 12 unless leb (textLength g) room ∷ contentChecks g h bytes
@@ -37,12 +37,12 @@ writeFor (Found g) h bytes room = unlessRefused (firstRefusal (writeChecks g h b
 abbrev pub writing : Header → (bytes : List ℕ) (room : ℕ) → Writing
 writing h bytes room = writeFor (lookupOf (h .part) (h .macros)) h bytes room
 
--- 'A .. length given with a refusal is all 0'
+-- 'A record, session or length given with a refusal is all 0.'
 abbrev pub answerTo : Writing → WriteAnswer
 answerTo (Unwritten n) = record { number = n; length = 0 }
 answerTo (Written text) = record { number = 0; length = length text }
 
--- 'bytes past .. a written text, never alter'
+-- 'bytes past them, or past a written text, never alter'
 abbrev pub leftBy : Writing → (buffer : List ℕ) → List ℕ
 leftBy (Unwritten n) buffer = buffer
 leftBy (Written text) buffer = text ++ drop (length text) buffer

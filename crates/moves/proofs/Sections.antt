@@ -2,7 +2,7 @@
 use mathlib.Core.List.{List, [], _∷_, _++_}
 use mathlib.Core.Path.{_≡_, sym, ap, _∙_}
 use Prim.Native.Nat.{ℕ, _+_, _-_, _*_, _/_, _%_, _<_, _≤_}
-use native.Mathlib.Nat.{mul-le-mul, mul-le-mul-left, mul-le-mul-right, mod-lt, zero-add, div-lt-iff-lt-mul}
+use native.Mathlib.Nat.{mul-le-mul, mul-le-mul-left, mul-le-mul-right, mod-lt, zero-add, div-add-mod', div-lt-iff-lt-mul}
 use native.Mathlib.Omega.{arith}
 use lib.ListN.{length, getD, take, drop}
 use Rattle.flow.specs.Sequence.{key, read, call, listed, pieces, latchList, programRow, compareWord, verifyFlash, lockStart, lockMacro, verifyMacro, endMove}
@@ -13,7 +13,7 @@ use Rattle.image.specs.declared.Header.{Header}
 use Rattle.moves.proofs.Counts.{length-row, length-lock, length-check}
 use Rattle.moves.proofs.Joined.{at-piece, div-low, part-ends}
 use Rattle.moves.proofs.Steps.{length-read}
-use Rattle.moves.proofs.Words.{front-latch, back-latch, back-word}
+use Rattle.moves.proofs.Words.{front-word, front-latch, back-latch, back-word}
 use Rattle.moves.specs.Handled.{Handled}
 use Rattle.parts.specs.Sizes.{rowBytes, macrosOf, rowsPerMacro, rowsOf, flashSize, lockTotal, locksIn, imageSize, locksAt}
 use Rattle.parts.specs.declared.Geometry.{Geometry}
@@ -78,6 +78,13 @@ pub record LockPlace (g : Geometry) (bytes : List ℕ) (flash m : ℕ) : Type 0 
   pub end : flash + m * (rowsPerMacro g / 8) + rowsPerMacro g / 8 ≤ length bytes
   pub small : flash + m * (rowsPerMacro g / 8) + rowsPerMacro g / 8 ≤ 67117056
 
+row-found : (g : Geometry) (ok : Handled g) (bytes : List ℕ) (exact : length bytes ≡ imageSize g) (r : ℕ) → r < rowsOf g → RowPlace g bytes r
+unfolding flashSize imageSize
+row-found g ok bytes exact r l =
+    let f : r * rowBytes g + rowBytes g ≤ flashSize g = part-ends (rowsOf g) (rowBytes g) r l in
+    let m : r < 256 * rowsPerMacro g = omega (arith, ok .macroLow, rows-per g ok) in
+    record { low = omega (arith, rows-few g ok); macro = (div-lt-iff-lt-mul {k = rowsPerMacro g} {x = r} {y = 256} (omega (arith, ok .macroLow))) .1 m; end = omega arith; small = omega (arith, flash-small g ok) }
+
 lock-place : (g : Geometry) (ok : Handled g) (bytes : List ℕ) (exact : length bytes ≡ imageSize g) (flash m : ℕ) → flash ≡ flashSize g → m < macrosOf g → LockPlace g bytes flash m
 unfolding imageSize lockTotal
 lock-place g ok bytes exact flash m f l =
@@ -98,32 +105,56 @@ module _ (g : Geometry) (ok : Handled g) (h : Header) (bytes : List ℕ) (exact 
     unfolding flashSize
     row-fits = part-ends (rowsOf g) (rowBytes g) (j / b) row-low
 
-    row-inside : j / b * rowBytes g + rowBytes g ≤ length bytes
-    unfolding imageSize
-    row-inside = omega (arith, row-fits)
-
     pub row-place : RowPlace g bytes (j / b)
-    row-place =
-        let l : j / b < 65536 = omega (arith, row-low, rows-few g ok) in
-        let m : j / b < 256 * rowsPerMacro g = omega (arith, ok .macroLow, row-low, rows-per g ok) in
-        record { low = l; macro = (div-lt-iff-lt-mul {k = rowsPerMacro g} {x = j / b} {y = 256} (omega (arith, ok .macroLow))) .1 m; end = row-inside; small = omega (arith, row-fits, flash-small g ok) }
+    row-place = row-found g ok bytes exact (j / b) row-low
 
     pub rows-at : (bs : List ℕ) → bs ≡ take (j / b * rowBytes g + rowBytes g - j / b * rowBytes g) (drop (j / b * rowBytes g) bytes)
         → getD (listed g 5 4 (latchList (j / b / rowsPerMacro g) (length bs) bs 0) ++ listed g 5 6 ((key 6 + j / b * 0x10000) ∷ [])) (j % b) endMove
         ≡ getD (pieces (programRow i) 0 (rowsOf g)) j endMove
     unfolding programRow
     rows-at bs is =
-        rw (front-latch bytes bs (j / b * rowBytes g) (rowBytes g) is row-inside (flashSize g) (j / b / rowsPerMacro g) row-fits)
+        rw (front-latch bytes bs (j / b * rowBytes g) (rowBytes g) is (row-place .end) (flashSize g) (j / b / rowsPerMacro g) row-fits)
         (sym (at-piece (programRow i) b (λ r. length-row i r ∙ sym e) endMove (rowsOf g) j (omega arith) (rw e low)))
 
   -- ---- step 6
 
-  pub verify-at : (j : ℕ) → j < rowsOf g * (rowBytes g / 4) * 3
-      → getD (read 6 (4 * (j / 3)) (Same (wordAt (take (flashSize g) bytes) (4 * (j / 3))) 22)) (j % 3) endMove ≡ getD (verifyFlash i) j endMove
-  verify-at j low =
-      sym
-      (at-piece (compareWord 6 22 0 (i .flash) 0) 3 (λ k. length-read 6 _ _) endMove (rowsOf g * (rowBytes g / 4)) j (omega arith) low
-      ∙ ap (λ (x : ℕ). getD (read 6 x (Same (wordAt (take (flashSize g) bytes) x) 22)) (j % 3) endMove) (zero-add (4 * (j / 3))))
+  module _ (j : ℕ) (low : j < rowsOf g * (rowBytes g / 4) * 3) where
+    abbrev row : ℕ
+    row = j / 3 / (rowBytes g / 4)
+
+    abbrev word : ℕ
+    word = j / 3 % (rowBytes g / 4)
+
+    pub word-inside : word < rowBytes g / 4
+    word-inside = mod-lt (j / 3) (omega (arith, ok .rowLow))
+
+    word-row : row < rowsOf g
+    word-row = div-low (rowsOf g) (rowBytes g / 4) (j / 3) (omega (arith, ok .rowLow)) (div-low (rowsOf g * (rowBytes g / 4)) 3 j (omega arith) low)
+
+    word-fits : row * rowBytes g + rowBytes g ≤ flashSize g
+    unfolding flashSize
+    word-fits = part-ends (rowsOf g) (rowBytes g) row word-row
+
+    pub word-place : RowPlace g bytes row
+    word-place = row-found g ok bytes exact row word-row
+
+    -- the word is in its row where it is in the flash: a row has whole words
+    word-spot : 4 * (j / 3) ≡ row * rowBytes g + 4 * word
+    word-spot =
+        let e : rowBytes g ≡ 4 * (rowBytes g / 4) = omega (arith, ok .rowWords) in
+        let d : row * (rowBytes g / 4) + word ≡ j / 3 = div-add-mod' (j / 3) (rowBytes g / 4) in
+        let t : row * rowBytes g ≡ row * (4 * (rowBytes g / 4)) = ap (λ (x : ℕ). row * x) e in
+        let u : row * (4 * (rowBytes g / 4)) ≡ 4 * (row * (rowBytes g / 4)) = omega arith in
+        omega arith
+
+    pub verify-at : (bs : List ℕ) → bs ≡ take (row * rowBytes g + rowBytes g - row * rowBytes g) (drop (row * rowBytes g) bytes)
+        → getD (read 6 (4 * (j / 3)) (Same (wordAt bs (4 * word)) 22)) (j % 3) endMove ≡ getD (verifyFlash i) j endMove
+    verify-at bs is =
+        let w = front-word bytes bs (row * rowBytes g) (rowBytes g) is (word-place .end) (flashSize g) (4 * word) (4 * (j / 3)) (omega (arith, word-inside)) word-spot word-fits in
+        rw w
+        (sym
+        (at-piece (compareWord 6 22 0 (i .flash) 0) 3 (λ k. length-read 6 _ _) endMove (rowsOf g * (rowBytes g / 4)) j (omega arith) low
+        ∙ ap (λ (x : ℕ). getD (read 6 x (Same (wordAt (take (flashSize g) bytes) x) 22)) (j % 3) endMove) (zero-add (4 * (j / 3)))))
 
   -- ---- step 7
 

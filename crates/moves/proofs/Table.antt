@@ -2,10 +2,10 @@
 use mathlib.Core.Bool.{Bool, true, false, _&&_, cond}
 use mathlib.Core.List.{List}
 use mathlib.Core.Path.{_≡_, refl, ap, _∙_}
-use Prim.Native.Nat.{ℕ}
+use Prim.Native.Nat.{ℕ, _%_}
 use lib.Dec.{eqb, leb}
 use lib.ListN.{length}
-use borrow.Author.Tests.{leb-true, eq-eqb, ne-eqb}
+use borrow.Author.Tests.{leb-true, eqb-true, eq-eqb, ne-eqb}
 use Rattle.parts.proofs.Table.{both, at-found}
 use Rattle.flow.specs.Sequence.{endMove}
 use Rattle.flow.specs.Session.{moveAt}
@@ -26,12 +26,14 @@ handled g s a =
     let s₄ = both _ (leb (macrosOf g) 16) s in
     let s₃ = both _ (leb (rowsPerMacro g) 4096) (s₄ .0) in
     let s₂ = both _ (leb 32 (rowsPerMacro g)) (s₃ .0) in
-    let s₁ = both (leb 4 (rowBytes g)) (leb (rowBytes g) 1024) (s₂ .0) in
+    let s₁ = both _ (eqb (rowBytes g % 4) 0) (s₂ .0) in
+    let s₀ = both (leb 4 (rowBytes g)) (leb (rowBytes g) 1024) (s₁ .0) in
     let a₂ = both _ (leb (g .part .«locks_step») 0xFFFFFF) a in
     let a₁ = both (leb (sysreqOf g) 0x7FFFFFFF) (leb (g .part .locks) 0x7FFFFFFF) (a₂ .0) in
     record {
-      rowLow = leb-true _ _ (s₁ .0);
-      rowHigh = leb-true _ _ (s₁ .1);
+      rowLow = leb-true _ _ (s₀ .0);
+      rowHigh = leb-true _ _ (s₀ .1);
+      rowWords = eqb-true _ _ (s₁ .1);
       macroLow = leb-true _ _ (s₂ .1);
       macroHigh = leb-true _ _ (s₃ .1);
       macros = leb-true _ _ (s₄ .1);

@@ -34,7 +34,7 @@ use rows::rows_move;
 use rows::verify_move;
 
 // The moves of steps 1 and 2, after which the entries part.
-pub fn opening_moves(g: Geometry) -> u32
+fn opening_moves(g: Geometry) -> u32
     ensures { λ n. ⌜ n ≡ openingCount g ⌝ ∗ ⌜ n ≤ 40 ⌝ }
 {
     let p = g.part;
@@ -146,6 +146,9 @@ fn sizes_handled(g: Geometry) -> bool
         return false;
     }
     if 1024 < p.row_bytes {
+        return false;
+    }
+    if p.row_bytes % 4 != 0 {
         return false;
     }
     if p.rows_per_macro < 32 {

@@ -95,10 +95,14 @@ pub(crate) fn verify_move(g: Geometry, h: Header, bytes: &[u8], j: u32) -> Move
     requires { ⌜ Handled g ⌝ ∗ ⌜ length (now bytes) ≡ imageSize g ⌝ ∗ ⌜ j < rowsOf g * (rowBytes g / 4) * 3 ⌝ }
     ensures { λ t. ⌜ t ≡ getD (verifyFlash (imageOf g h (now (bytes .entry)))) j endMove ⌝ }
 {
-    let flash = parts::flash_size(g);
-    let a = 4 * (j / 3);
-    let w = image::word_at(&bytes[..flash], a as usize);
-    read_move(6, a, Purpose::Same(w, 22), j % 3)
+    let p = g.part;
+    let size = p.row_bytes as u32;
+    let k = j / 3;
+    let r = k / (size / 4);
+    let start = (r * size) as usize;
+    let end = start + (size as usize);
+    let w = image::word_at(&bytes[start..end], (4 * (k % (size / 4))) as usize);
+    read_move(6, 4 * k, Purpose::Same(w, 22), j % 3)
 }
 
 // A macro of step 7.

@@ -1,9 +1,10 @@
 // The part table (document 01, 'Parts'): sizes, addresses and IDs, the look-up by part number and macros, and the chip levels.
+ghost use mathlib.Core.Bool.{true};
 ghost use mathlib.Core.Path.{_≡_};
 ghost use Prim.Native.Nat.{_<_, _^_};
 ghost use Rattle.parts.specs.Parts.{lookupOf, offers, inRange, lowFits, idFits, partTable};
 ghost use Rattle.parts.specs.Sizes.{rowsOf, flashSize, lockTotal, imageSize};
-ghost use Rattle.parts.specs.Levels.{levelOf};
+ghost use Rattle.parts.specs.Levels.{levelOf, isLevel};
 
 // A range of bytes, both ends included.
 pub struct ByteRange {
@@ -214,7 +215,7 @@ pub fn image_size(g: Geometry) -> usize
 
 // The reading of a level's number.
 pub fn read_level(n: u8) -> Level
-    ensures { λ l. ⌜ l ≡ levelOf n ⌝ }
+    ensures { λ l. ⌜ l ≡ levelOf n ⌝ ∗ ⌜ isLevel l n ≡ true ⌝ }
 {
     match n {
         0 => Level::Virgin,

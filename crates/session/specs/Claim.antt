@@ -28,7 +28,7 @@ pub record Demand3 (i : Image) (b : Target) (l : Lists) (n : ℕ) (s : State) : 
   pub transfers : s .traffic .transfers ≤ most i b .transfers
   pub xresets : s .traffic .xresets ≤ most i b .xresets
   pub lineResets : s .traffic .lineResets ≤ most i b .lineResets
-  -- 'Each step not refused gives a request or the report', and 'a report comes within document 01's count of transfers and resets'
+  -- 'Each step not refused gives a request or the report', and 'A report comes within document 01's count of transfers and resets.'
   pub stands : (number : ℕ) → ¬ (s .stands ≡ Refused number)
   pub comes : most i b .transfers + most i b .xresets + most i b .lineResets ≤ n → record { report : Report; told : s .stands ≡ Told report }
   -- 'The report's transfers are those handed out in the list.'

@@ -1,13 +1,12 @@
 -- Laws of the packet definitions. Assumes nothing.
-use mathlib.Core.Bool.{Bool, true, false}
 use mathlib.Core.Path.{_≡_, refl, ap, _∙_}
 use Prim.Native.Nat.{ℕ, zero, suc, _+_, _*_, _/_, _%_, _^_, _<_}
 use native.Mathlib.Numerals.{add-one}
 use lib.Arith.{lt-one}
 use lib.Count.{ones, onesIn, ones-step}
-use lib.Dec.{eqb, lit<}
+use lib.Dec.{lit<}
 use lib.Pow.{shr-lt}
-use Rattle.wire.specs.Wire.{parity, apndp, address, fromBits, fourBits, requestByte, ackOf, isAck}
+use Rattle.wire.specs.Wire.{parity, apndp, address, fromBits, fourBits, requestByte}
 use Rattle.wire.specs.declared.Access.{Access}
 use Rattle.wire.specs.declared.Access.the-variants.{Read, Write}
 use Rattle.wire.specs.declared.Register.{Register}
@@ -68,13 +67,3 @@ packed Tar Read = refl
 packed Tar Write = refl
 packed Drw Read = refl
 packed Drw Write = refl
-
--- the case that an acknowledgement is read as stands for its number
-pub read-as : (n : ℕ) → isAck (ackOf n) n ≡ true
-read-as n = by (eqb n 1) (eqb n 2) (eqb n 4) refl refl refl
-  where
-    by : (a b c : Bool) → eqb n 1 ≡ a → eqb n 2 ≡ b → eqb n 4 ≡ c → isAck (ackOf n) n ≡ true
-    by true b c p q r = simp (p, q, r)
-    by false true c p q r = simp (p, q, r)
-    by false false true p q r = simp (p, q, r)
-    by false false false p q r = simp (p, q, r)

@@ -34,19 +34,19 @@ on-broken-requires-2 c κs = search needs
 
 returns : tie.Need-returns
 unfolding heard
-returns c = simp (← c .before .before .before .read-ack .ensures, c .before .enum-told .given .1, c .on-okay .ensures)
+returns c = simp (← c .before .before .before .read-ack .ensures .0, c .before .enum-told .given .1, c .on-okay .ensures)
 
 returns-2 : tie.Need-returns-2
 unfolding heard
-returns-2 c = simp (← c .before .before .before .read-ack .ensures, c .before .enum-told2 .given .1, c .on-wait .ensures, next-again)
+returns-2 c = simp (← c .before .before .before .read-ack .ensures .0, c .before .enum-told2 .given .1, c .on-wait .ensures, next-again)
 
 returns-3 : tie.Need-returns-3
 unfolding heard
-returns-3 c = simp (← c .before .before .before .read-ack .ensures, c .before .enum-told3 .given .1, c .on-broken .ensures, next-broken)
+returns-3 c = simp (← c .before .before .before .read-ack .ensures .0, c .before .enum-told3 .given .1, c .on-broken .ensures, next-broken)
 
 returns-4 : tie.Need-returns-4
 unfolding heard
-returns-4 c = simp (← c .before .before .before .read-ack .ensures, c .before .enum-told4 .given .1, c .on-broken2 .ensures, next-broken)
+returns-4 c = simp (← c .before .before .before .read-ack .ensures .0, c .before .enum-told4 .given .1, c .on-broken2 .ensures, next-broken)
 
 pub on-reply-spec : {M : Type 1} → statement M
 on-reply-spec =

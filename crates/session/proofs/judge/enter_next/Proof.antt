@@ -35,19 +35,19 @@ enum-told-5 : tie.Need-enum-told-5
 enum-told-5 c = search needs
 
 returns : tie.Need-returns
-returns c = read-entry Virgin (levelIn (c .before .before .before .args .w)) (c .before .before .before .args .p .polls) (c .before .before .before .args .p .kept) (c .before .before .before .args .p .at) (c .before .before .before .args .attempts) (c .before .before .before .args .y) (c .before .before .read-level .ensures) (c .enum-told .given .1)
+returns c = read-entry Virgin (levelIn (c .before .before .before .args .w)) (c .before .before .before .args .p .polls) (c .before .before .before .args .p .kept) (c .before .before .before .args .p .at) (c .before .before .before .args .attempts) (c .before .before .before .args .y) (c .before .before .read-level .ensures .0) (c .enum-told .given .1)
 
 returns-2 : tie.Need-returns-2
-returns-2 c = c .onward .ensures ∙ read-entry Open (levelIn (c .before .before .before .before .args .w)) (c .before .before .before .before .args .p .polls) (c .before .before .before .before .args .p .kept) (c .before .before .before .before .args .p .at) (c .before .before .before .before .args .attempts) (c .before .before .before .before .args .y) (c .before .before .before .read-level .ensures) (c .before .enum-told2 .given .1)
+returns-2 c = c .onward .ensures ∙ read-entry Open (levelIn (c .before .before .before .before .args .w)) (c .before .before .before .before .args .p .polls) (c .before .before .before .before .args .p .kept) (c .before .before .before .before .args .p .at) (c .before .before .before .before .args .attempts) (c .before .before .before .before .args .y) (c .before .before .before .read-level .ensures .0) (c .before .enum-told2 .given .1)
 
 returns-3 : tie.Need-returns-3
-returns-3 c = c .onward2 .ensures ∙ read-entry Protected (levelIn (c .before .before .before .before .args .w)) (c .before .before .before .before .args .p .polls) (c .before .before .before .before .args .p .kept) (c .before .before .before .before .args .p .at) (c .before .before .before .before .args .attempts) (c .before .before .before .before .args .y) (c .before .before .before .read-level .ensures) (c .before .enum-told3 .given .1)
+returns-3 c = c .onward2 .ensures ∙ read-entry Protected (levelIn (c .before .before .before .before .args .w)) (c .before .before .before .before .args .p .polls) (c .before .before .before .before .args .p .kept) (c .before .before .before .before .args .p .at) (c .before .before .before .before .args .attempts) (c .before .before .before .before .args .y) (c .before .before .before .read-level .ensures .0) (c .before .enum-told3 .given .1)
 
 returns-4 : tie.Need-returns-4
-returns-4 c = read-entry Kill (levelIn (c .before .before .before .args .w)) (c .before .before .before .args .p .polls) (c .before .before .before .args .p .kept) (c .before .before .before .args .p .at) (c .before .before .before .args .attempts) (c .before .before .before .args .y) (c .before .before .read-level .ensures) (c .enum-told4 .given .1)
+returns-4 c = read-entry Kill (levelIn (c .before .before .before .args .w)) (c .before .before .before .args .p .polls) (c .before .before .before .args .p .kept) (c .before .before .before .args .p .at) (c .before .before .before .args .attempts) (c .before .before .before .args .y) (c .before .before .read-level .ensures .0) (c .enum-told4 .given .1)
 
 returns-5 : tie.Need-returns-5
-returns-5 c = read-entry Unknown (levelIn (c .before .before .before .args .w)) (c .before .before .before .args .p .polls) (c .before .before .before .args .p .kept) (c .before .before .before .args .p .at) (c .before .before .before .args .attempts) (c .before .before .before .args .y) (c .before .before .read-level .ensures) (c .enum-told5 .given .1)
+returns-5 c = read-entry Unknown (levelIn (c .before .before .before .args .w)) (c .before .before .before .args .p .polls) (c .before .before .before .args .p .kept) (c .before .before .before .args .p .at) (c .before .before .before .args .attempts) (c .before .before .before .args .y) (c .before .before .read-level .ensures .0) (c .enum-told5 .given .1)
 
 pub enter-next-spec : {M : Type 1} → statement M
 enter-next-spec =

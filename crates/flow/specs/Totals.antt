@@ -1,0 +1,25 @@
+-- The counts of the sequence are document 01's. Assumes nothing.
+use mathlib.Core.List.{List}
+use mathlib.Core.Path.{_≡_}
+use Prim.Native.Nat.{ℕ}
+use Rattle.flow.specs.Plan.{trafficIn, pollsIn, plan, loops, acquisitions}
+use Rattle.flow.specs.Sequence.{sequence}
+use Rattle.flow.specs.declared.Entry.{Entry}
+use Rattle.image.specs.Image.{Image, imageOf}
+use Rattle.image.specs.declared.Header.{Header}
+use Rattle.parts.specs.Parts.{lookupOf}
+use Rattle.parts.specs.declared.Geometry.{Geometry}
+use Rattle.parts.specs.declared.Lookup.the-variants.{Found}
+
+-- the reads and writes of an image's sequence are the plan, its polls the loops, its resets one of each kind for an acquisition
+pub record SequenceCounted (i : Image) (y : Entry) : Type 0 where
+  pub transfers : trafficIn (sequence i y) .transfers ≡ plan (i .geometry) y
+  pub polls : pollsIn (sequence i y) ≡ loops (i .geometry) y
+  pub xresets : trafficIn (sequence i y) .xresets ≡ acquisitions y
+  pub lineResets : trafficIn (sequence i y) .lineResets ≡ acquisitions y
+
+-- for every part and M that the table offers, whatever the header and the bytes
+abbrev pub SequenceCounts : Type 0
+SequenceCounts =
+    (part macros : ℕ) (g : Geometry) → lookupOf part macros ≡ Found g → (h : Header) (bytes : List ℕ) (y : Entry)
+    → SequenceCounted (imageOf g h bytes) y
