@@ -12,6 +12,7 @@ use Rattle.flow.specs.Plan.{plan}
 use Rattle.flow.specs.declared.Entry.the-variants.{FromOpen}
 use Rattle.hex.specs.Texts.{hexReading}
 use Rattle.io.specs.Digits.{digits, Fewest}
+use Rattle.session.specs.declared.Report.{Report}
 use Rattle.text.specs.Reading.{answerOf}
 
 -- the bytes of part 1's image: 16,384 of flash, 32 of locks
@@ -25,6 +26,10 @@ readNumber text = (answerOf (hexReading 1 1 text room)) .number
 -- a text that is refused is refused by the reader, and any other is done with the plan
 unfoldable pub ranOn : (text : List ℕ) → Ran
 ranOn text = cond (eqb (readNumber text) 0) (Done (plan partOne FromOpen)) (Refused (readNumber text))
+
+-- a report as a dry run tells it
+abbrev pub toldBy : Report → Ran
+toldBy r = cond (eqb (r .number) 0) (Done (r .transfers)) (Refused (r .number))
 
 -- ---- the line
 

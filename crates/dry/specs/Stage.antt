@@ -3,7 +3,7 @@
 use mathlib.Core.Bool.{true, false}
 use mathlib.Core.List.{List, []}
 use mathlib.Core.Path.{_≡_}
-use Prim.Native.Nat.{ℕ}
+use Prim.Native.Nat.{ℕ, _<_}
 use Rattle.bench_board.specs.Board.{Buffers, Left, left, targetOf}
 use Rattle.bench_board.specs.declared.CallOutcome.{CallOutcome}
 use Rattle.bench_board.specs.declared.Fate.the-variants.{Clean}
@@ -78,6 +78,11 @@ pub record Turns (g : Geometry) (s : Session) (bytes : List ℕ) (p : Packet) (r
   pub target : targetOf nothing (t .registers) b′ ≡ (meets g p r b) .target
   pub session : t .session ≡ (stepWith s bytes ((meets g p r b) .answer)) .session
   pub stands : t .stands ≡ standing (Ask p) ((stepWith s bytes ((meets g p r b) .answer)) .outcome)
+
+-- an image of part 1 that passes, with metadata of bytes
+pub record Playable (h : Header) (bytes : List ℕ) : Type 0 where
+  pub passes : Passes partOne h bytes
+  pub ids : (k : ℕ) → metadataAt h k < 256
 
 -- what starting gave on an image that passes, and a board of the right part that may be started on
 pub record Staged (bytes : List ℕ) (s : Session) (o : Outcome) (r : Registers) (b : Buffers) : Type 0 where

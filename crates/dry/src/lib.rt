@@ -4,8 +4,8 @@ ghost use mathlib.Core.Path.{_≡_};
 ghost use Prim.Native.Nat.{_≤_};
 ghost use lib.ListN.{length, take};
 ghost use Rattle.bench_board.specs.Board.{lent};
-ghost use Rattle.dry.specs.Runs.{ranOn};
-ghost use Rattle.dry.specs.Stage.{partOne, calmEvent, calmOutcome, openFor, Turns, Staged, reportIn, DoneAsPlanned};
+ghost use Rattle.dry.specs.Runs.{toldBy, ranOn};
+ghost use Rattle.dry.specs.Stage.{partOne, calmEvent, calmOutcome, openFor, Turns, Playable, Staged, reportIn, DoneAsPlanned};
 ghost use Rattle.flow.specs.Claim.{Passes};
 ghost use Rattle.session.specs.Calls.{standing};
 use bench_board::CallOutcome;
@@ -195,4 +195,76 @@ fn played(
         turns += 1;
     }
     report_in(stands)
+}
+
+// The image's bytes, before they are read. Its contract keeps the prover from writing out so long an array.
+fn blank_image() -> [u8; 16416]
+    ensures { λ r. ⌜ 16416 ≡ length r ⌝ }
+{
+    [0; 16416]
+}
+
+// The board's flash.
+fn blank_flash() -> [u8; 16384]
+    ensures { λ r. ⌜ 16384 ≡ length r ⌝ }
+{
+    [0; 16384]
+}
+
+// The report of a session of an image on an OPEN board with its IDs, KILL allowed.
+fn rehearse_on(g: Geometry, h: Header, image: &[u8]) -> Report
+    requires { ⌜ (g ≡ partOne) × Playable h (now image) ⌝ }
+    ensures { λ r. ⌜ DoneAsPlanned r ⌝ }
+{
+    let first = session::start(h, image, true);
+    let board = open_board(h);
+    let mut flash = blank_flash();
+    let mut locks = [0u8; 32];
+    let mut latch = [0u8; 64];
+    let mut params = [0u32; 18];
+    played(
+        g,
+        first,
+        image,
+        board,
+        &mut flash,
+        &mut locks,
+        &mut latch,
+        &mut params,
+    )
+}
+
+fn rehearse(h: Header, image: &[u8]) -> Report
+    requires { ⌜ Playable h (now image) ⌝ }
+    ensures { λ r. ⌜ DoneAsPlanned r ⌝ }
+{
+    let found = parts::find(1, 1);
+    match found {
+        Lookup::Found(g) => rehearse_on(g, h, image),
+        Lookup::Refused(n) => no_report(n),
+    }
+}
+
+// A report as a dry run tells it.
+fn told_by(r: Report) -> Ran
+    ensures { λ ran. ⌜ ran ≡ toldBy r ⌝ }
+{
+    if r.number == 0 {
+        return Ran::Done(r.transfers);
+    }
+    Ran::Refused(r.number)
+}
+
+// The dry run of a text: refused with the reader's number, or done with the plan.
+pub fn run(text: &[u8]) -> Ran
+    ensures { λ r. ⌜ r ≡ ranOn (now (text .entry)) ⌝ }
+{
+    let mut image = blank_image();
+    let answer = hex::read(1, 1, text, &mut image);
+    let number = answer.number;
+    if number != 0 {
+        return Ran::Refused(number);
+    }
+    let header = answer.header;
+    told_by(rehearse(header, &image))
 }
