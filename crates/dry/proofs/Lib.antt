@@ -1,0 +1,5 @@
+pub mod Meets
+pub mod Turning
+pub mod Playing
+pub mod Taking
+pub mod Rehearsing

@@ -1,0 +1,47 @@
+-- A turn on what the board and the session promise. Assumes nothing.
+use mathlib.Core.List.{List}
+use mathlib.Core.Path.{_≡_, refl, sym, ap, subst, _∙_}
+use Prim.Native.Nat.{ℕ}
+use Rattle.bench_board.specs.Board.{Buffers, Left, targetOf}
+use Rattle.bench_board.specs.Meets.{listsOf, metOf}
+use Rattle.bench_board.specs.declared.CallOutcome.{CallOutcome}
+use Rattle.bench_board.specs.declared.LineEvent.{LineEvent}
+use Rattle.bench_board.specs.declared.Met as Code
+use Rattle.bench_board.specs.declared.Registers.{Registers}
+use Rattle.dry.specs.Stage.{noLists, nothing, calmEvent, calmOutcome, meets, Turns}
+use Rattle.dry.proofs.Meets.{handed, same-met}
+use Rattle.flow.specs.Exchange.{Met, meet}
+use Rattle.flow.specs.declared.Packet.{Packet}
+use Rattle.parts.specs.declared.Geometry.{Geometry}
+use Rattle.session.specs.Calls.{standing}
+use Rattle.session.specs.Given.{stepWith}
+use Rattle.session.specs.declared.Given.{Given}
+use Rattle.session.specs.declared.Outcome.{Outcome}
+use Rattle.session.specs.declared.Outcome.the-variants.{Ask}
+use Rattle.session.specs.declared.Session.{Session}
+
+module _ (g : Geometry) (s : Session) (bytes : List ℕ) (p : Packet) (r : Registers) (b b′ : Buffers) (m : Code.Met) where
+  -- handed an OK and a success, the board met the packet as it does without mishap
+  calm-met : (e : LineEvent) (o : CallOutcome) → e ≡ calmEvent → o ≡ calmOutcome
+      → metOf nothing e o m b′ ≡ meet g p (listsOf nothing e o) (targetOf nothing r b)
+      → (targetOf nothing (m .registers) b′ ≡ (meets g p r b) .target) × (m .answer ≡ (meets g p r b) .answer)
+  calm-met e o h k f =
+      let q : meet g p (listsOf nothing e o) (targetOf nothing r b) ≡ meet g p handed (targetOf nothing r b)
+      = ap (λ (y : LineEvent). meet g p (listsOf nothing y o) (targetOf nothing r b)) h
+      ∙ ap (λ (y : CallOutcome). meet g p (listsOf nothing calmEvent y) (targetOf nothing r b)) k in
+      let z = same-met g (targetOf nothing r b) p in
+      (ap (λ (y : Met). y .target) (f ∙ q) ∙ z .target, ap (λ (y : Met). y .answer) (f ∙ q) ∙ z .answer)
+
+  pub turn-taken : {e : LineEvent} {o : CallOutcome} {x : Given} {n : Outcome} → e ≡ calmEvent → o ≡ calmOutcome
+      → metOf nothing e o m b′ ≡ meet g p (listsOf nothing e o) (targetOf nothing r b)
+      → x ≡ stepWith s bytes (m .answer)
+      → n ≡ standing (Ask p) (x .outcome)
+      → Turns g s bytes p r b (record { registers = m .registers; session = x .session; stands = n }) b′
+  turn-taken {e} {o} {x} {n} h k f i j =
+      let c = calm-met e o h k f in
+      let y : x ≡ stepWith s bytes ((meets g p r b) .answer) = i ∙ ap (stepWith s bytes) (c .1) in
+      record {
+        target = c .0;
+        session = ap (λ (z : Given). z .session) y;
+        stands = j ∙ ap (λ (z : Given). standing (Ask p) (z .outcome)) y;
+      }

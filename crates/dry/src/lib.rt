@@ -1,0 +1,270 @@
+// The dry run of part 1's text on a board that is OPEN, without mishap (document 01, 'The dry run program').
+ghost use mathlib.Core.List.{_++_};
+ghost use mathlib.Core.Path.{_≡_};
+ghost use Prim.Native.Nat.{_≤_};
+ghost use lib.ListN.{length, take};
+ghost use Rattle.bench_board.specs.Board.{lent};
+ghost use Rattle.dry.specs.Runs.{toldBy, ranOn};
+ghost use Rattle.dry.specs.Stage.{partOne, calmEvent, calmOutcome, openFor, Turns, Playable, Staged, reportIn, DoneAsPlanned};
+ghost use Rattle.flow.specs.Claim.{Passes};
+ghost use Rattle.session.specs.Calls.{standing};
+use bench_board::CallOutcome;
+use bench_board::Fate;
+use bench_board::LineEvent;
+use bench_board::Registers;
+use bench_board::Running;
+use bench_board::Silicon;
+use flow::Packet;
+use flow::Reply;
+use image::Header;
+use parts::Geometry;
+use parts::Lookup;
+use session::Given;
+use session::Outcome;
+use session::Report;
+use session::Session;
+
+// What a dry run comes to: the transfers of a session that was done, or a refusal's number.
+pub enum Ran {
+    Done(u32),
+    Refused(u8),
+}
+
+// The board and the session after a packet, and what then stands.
+struct Turn {
+    registers: Registers,
+    session: Session,
+    stands: Outcome,
+}
+
+// Document 01's count for part 1 from OPEN: the most transfers, one XRES and 30 line resets.
+const MOST: u64 = 17 * (27279 + 29997 * 520 + 29) + 31;
+
+fn calm_event() -> LineEvent
+    ensures { λ e. ⌜ e ≡ calmEvent ⌝ }
+{
+    LineEvent {
+        fate: Fate::Clean,
+        junk: Reply {
+            ack: 0,
+            word: 0,
+            parity: 0,
+        },
+        other: 0,
+    }
+}
+
+fn calm_outcome() -> CallOutcome
+    ensures { λ o. ⌜ o ≡ calmOutcome ⌝ }
+{
+    CallOutcome {
+        busy_reads: 0,
+        succeeds: true,
+        sysarg: 0,
+        new_level: false,
+    }
+}
+
+// An OPEN board with the image's IDs.
+fn open_board(h: Header) -> Registers
+    ensures { λ r. ⌜ r ≡ openFor h ⌝ }
+{
+    let metadata = h.metadata;
+    Registers {
+        silicon: Silicon {
+            idcode: 0x0BB11477,
+            high: metadata[2],
+            low: metadata[3],
+            revision: metadata[4],
+            family: metadata[5],
+            privileged_sum: 0,
+        },
+        stored: 1,
+        effect: 1,
+        sysarg: 0,
+        sysreq: 0,
+        test_mode: 0,
+        tar: 0,
+        posted: 0,
+        running: Running::Idle,
+    }
+}
+
+// A refused step hands out nothing: the packet still stands.
+fn standing_after(p: Packet, o: Outcome) -> Outcome
+    ensures { λ r. ⌜ r ≡ standing (Outcome.Ask p) o ⌝ }
+{
+    match o {
+        Outcome::Refused(_) => Outcome::Ask(p),
+        Outcome::Ask(_) => o,
+        Outcome::Told(_) => o,
+    }
+}
+
+fn no_report(number: u8) -> Report
+    ensures { λ r. ⌜ r ≡ reportIn (Outcome.Refused number) ⌝ }
+{
+    Report {
+        number: number,
+        step: 0,
+        transfers: 0,
+    }
+}
+
+// The board meets a packet, and the session steps on its answer.
+fn take_turn(
+    g: Geometry,
+    s: Session,
+    image: &[u8],
+    p: Packet,
+    r: Registers,
+    flash: &mut [u8],
+    locks: &mut [u8],
+    latch: &mut [u8],
+    params: &mut [u32],
+) -> Turn
+    ensures { λ t. ⌜ Turns g s (now (image .entry)) p r (lent (now (flash .entry)) (now (locks .entry)) (now (latch .entry)) (now (params .entry))) t (lent (now (flash .exit)) (now (locks .exit)) (now (latch .exit)) (now (params .exit))) ⌝ }
+{
+    let nothing = &image[..0];
+    let met = bench_board::meet(
+        g,
+        r,
+        flash,
+        locks,
+        latch,
+        params,
+        nothing,
+        nothing,
+        nothing,
+        p,
+        calm_event(),
+        calm_outcome(),
+    );
+    let answer = met.answer;
+    let registers = met.registers;
+    let given = session::step(s, image, answer);
+    let session = given.session;
+    let outcome = given.outcome;
+    Turn {
+        registers: registers,
+        session: session,
+        stands: standing_after(p, outcome),
+    }
+}
+
+// The report that stands; one of zeros where a request does.
+fn report_in(stands: Outcome) -> Report
+    ensures { λ r. ⌜ r ≡ reportIn stands ⌝ }
+{
+    match stands {
+        Outcome::Told(report) => report,
+        Outcome::Refused(n) => no_report(n),
+        Outcome::Ask(_) => no_report(0),
+    }
+}
+
+// The report of a session that has been started on part 1.
+fn played(
+    g: Geometry,
+    first: Given,
+    image: &[u8],
+    board: Registers,
+    flash: &mut [u8],
+    locks: &mut [u8],
+    latch: &mut [u8],
+    params: &mut [u32],
+) -> Report
+    requires { ⌜ (g ≡ partOne) × Staged (now image) (first .session) (first .outcome) board (lent (now flash) (now locks) (now latch) (now params)) ⌝ }
+    ensures { λ r. ⌜ DoneAsPlanned r ⌝ }
+{
+    let mut s = first.session;
+    let mut r = board;
+    let mut stands = first.outcome;
+    let mut turns: u64 = 0;
+    while turns < MOST {
+        match stands {
+            Outcome::Ask(p) => {
+                let t = take_turn(g, s, image, p, r, flash, locks, latch, params);
+                r = t.registers;
+                s = t.session;
+                stands = t.stands;
+            }
+            Outcome::Told(_) => return report_in(stands),
+            Outcome::Refused(_) => return report_in(stands),
+        }
+        turns += 1;
+    }
+    report_in(stands)
+}
+
+// The image's bytes, before they are read. Its contract keeps the prover from writing out so long an array.
+fn blank_image() -> [u8; 16416]
+    ensures { λ r. ⌜ 16416 ≡ length r ⌝ }
+{
+    [0; 16416]
+}
+
+// The board's flash.
+fn blank_flash() -> [u8; 16384]
+    ensures { λ r. ⌜ 16384 ≡ length r ⌝ }
+{
+    [0; 16384]
+}
+
+// The report of a session of an image on an OPEN board with its IDs, KILL allowed.
+fn rehearse_on(g: Geometry, h: Header, image: &[u8]) -> Report
+    requires { ⌜ (g ≡ partOne) × Playable h (now image) ⌝ }
+    ensures { λ r. ⌜ DoneAsPlanned r ⌝ }
+{
+    let first = session::start(h, image, true);
+    let board = open_board(h);
+    let mut flash = blank_flash();
+    let mut locks = [0u8; 32];
+    let mut latch = [0u8; 64];
+    let mut params = [0u32; 18];
+    played(
+        g,
+        first,
+        image,
+        board,
+        &mut flash,
+        &mut locks,
+        &mut latch,
+        &mut params,
+    )
+}
+
+fn rehearse(h: Header, image: &[u8]) -> Report
+    requires { ⌜ Playable h (now image) ⌝ }
+    ensures { λ r. ⌜ DoneAsPlanned r ⌝ }
+{
+    let found = parts::find(1, 1);
+    match found {
+        Lookup::Found(g) => rehearse_on(g, h, image),
+        Lookup::Refused(n) => no_report(n),
+    }
+}
+
+// A report as a dry run tells it.
+fn told_by(r: Report) -> Ran
+    ensures { λ ran. ⌜ ran ≡ toldBy r ⌝ }
+{
+    if r.number == 0 {
+        return Ran::Done(r.transfers);
+    }
+    Ran::Refused(r.number)
+}
+
+// The dry run of a text: refused with the reader's number, or done with the plan.
+pub fn run(text: &[u8]) -> Ran
+    ensures { λ r. ⌜ r ≡ ranOn (now (text .entry)) ⌝ }
+{
+    let mut image = blank_image();
+    let answer = hex::read(1, 1, text, &mut image);
+    let number = answer.number;
+    if number != 0 {
+        return Ran::Refused(number);
+    }
+    let header = answer.header;
+    told_by(rehearse(header, &image))
+}
