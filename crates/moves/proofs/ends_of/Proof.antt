@@ -1,10 +1,10 @@
 -- Each section from the one before. Assumes nothing.
-use mathlib.Core.Path.{refl}
-use Prim.Native.Nat.{_*_, _/_, _≤_}
+use mathlib.Core.Path.{refl, ap, _∙_}
+use Prim.Native.Nat.{ℕ, _+_, _*_, _/_, _≤_}
 use native.Mathlib.Omega.{arith}
 use borrow.Author.Needs.{needs}
 use Rattle.moves.proofs.Sections.{rows-small, words-few, locks-small, checks-small}
-use Rattle.parts.specs.Sizes.{macrosOf}
+use Rattle.parts.specs.Sizes.{macrosOf, rowsOf}
 use Rattle.moves.proofs.ends_of.Statement.{statement}
 use Rattle.moves.proofs.ends_of.Tie as tie
 
@@ -38,9 +38,10 @@ ends-of-spec =
     (λ c. omega (arith, checks-small (c .before .before .before .before .before .before .before .args .g) (c .before .before .before .before .before .before .before .pre)))
     (λ c. omega (arith, rows (c .before .before .before), words (c .before .before .before), locks (c .before), checks-small (c .before .before .before .before .before .before .before .args .g) (c .before .before .before .before .before .before .before .pre)))
     (λ c.
+    let s = c .before .before .before .before .before .before .before in
     let r = c .before .before .before .before .before .rows .ensures in
     record {
-      rows = rw (r, c .before .before .before .row-moves .ensures .0);
+      rows = ap (λ (x : ℕ). 13 + x * c .before .before .before .row-moves .result) r ∙ ap (λ (x : ℕ). 13 + rowsOf (s .args .g) * x) (c .before .before .before .row-moves .ensures .0);
       words = rw r;
       locks = rw (c .before .lock-moves .ensures .0);
       checks = refl;
