@@ -3,3 +3,4 @@ pub mod Turning
 pub mod Playing
 pub mod Taking
 pub mod Rehearsing
+pub mod Lining

@@ -40,16 +40,13 @@ doneWord = 100 ∷ 111 ∷ 110 ∷ 101 ∷ 32 ∷ []
 abbrev pub refusedWord : List ℕ
 refusedWord = 114 ∷ 101 ∷ 102 ∷ 117 ∷ 115 ∷ 101 ∷ 100 ∷ 32 ∷ []
 
-abbrev pub wordOf : Ran → List ℕ
-wordOf (Done n) = doneWord
-wordOf (Refused n) = refusedWord
-
-abbrev pub numberOf : Ran → ℕ
-numberOf (Done n) = n
-numberOf (Refused n) = n
-
--- the word, the number in as few decimal digits as hold it, at least one, and LF
-pub record LineOf (r : Ran) (line : List ℕ) : Type 0 where
+-- a word, a number in as few decimal digits as hold it, at least one, and LF
+pub record Spells (word : List ℕ) (n : ℕ) (line : List ℕ) : Type 0 where
   pub places : ℕ
-  pub fewest : Fewest 10 1 (numberOf r) places
-  pub is : line ≡ wordOf r ++ (digits 10 places (numberOf r) ++ (10 ∷ []))
+  pub fewest : Fewest 10 1 n places
+  pub is : line ≡ word ++ digits 10 places n ++ (10 ∷ [])
+
+-- 'done, a space, transfers, LF (or refused, a space, the number, LF)'
+abbrev pub LineOf : Ran → (line : List ℕ) → Type 0
+LineOf (Done n) line = Spells doneWord n line
+LineOf (Refused n) line = Spells refusedWord n line

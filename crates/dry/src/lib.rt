@@ -1,12 +1,13 @@
 // The dry run of part 1's text on a board that is OPEN, without mishap (document 01, 'The dry run program').
 ghost use mathlib.Core.List.{_++_};
 ghost use mathlib.Core.Path.{_≡_};
-ghost use Prim.Native.Nat.{_≤_};
+ghost use Prim.Native.Nat.{_+_, _≤_};
 ghost use lib.ListN.{length, take};
 ghost use Rattle.bench_board.specs.Board.{lent};
-ghost use Rattle.dry.specs.Runs.{toldBy, ranOn};
+ghost use Rattle.dry.specs.Runs.{toldBy, ranOn, Spells, LineOf};
 ghost use Rattle.dry.specs.Stage.{partOne, calmEvent, calmOutcome, openFor, Turns, Playable, Staged, reportIn, DoneAsPlanned};
 ghost use Rattle.flow.specs.Claim.{Passes};
+ghost use Rattle.io.specs.Counts.{Counts};
 ghost use Rattle.session.specs.Calls.{standing};
 use bench_board::CallOutcome;
 use bench_board::Fate;
@@ -267,4 +268,44 @@ pub fn run(text: &[u8]) -> Ran
     }
     let header = answer.header;
     told_by(rehearse(header, &image))
+}
+
+// Puts bytes into a line, from `at` on, and gives the place after them.
+fn put(line: &mut [u8], at: usize, bytes: &[u8]) -> usize
+    requires { ⌜ (at + length (now bytes) ≤ length (now line)) × (length (now line) ≡ 32) ⌝ }
+    ensures { λ r. ⌜ r ≡ at + length (now (bytes .entry)) ⌝ }
+    ensures { λ r. ⌜ take r (now (line .exit)) ≡ take at (now (line .entry)) ++ now (bytes .entry) ⌝ }
+{
+    let n = bytes.len();
+    text::store(line, at, bytes, 0, n);
+    at + n
+}
+
+// Puts a word, a number's digits and a line feed at the start of a line, and gives the place after them.
+fn spell_line(word: &[u8], n: u64, line: &mut [u8]) -> usize
+    requires { ⌜ (length (now word) ≤ 8) × (length (now line) ≡ 32) ⌝ }
+    ensures { λ r. ⌜ Counts r (now (line .exit)) × Spells (now (word .entry)) n (take r (now (line .exit))) ⌝ }
+{
+    let mut number = [0u8; 20];
+    let k = io::decimal(n, &mut number);
+    let first = put(line, 0, word);
+    let second = put(line, first, &number[..k]);
+    put(line, second, b"\n")
+}
+
+// Puts the line that tells of a dry run at the start of `line`, and gives its length.
+fn tell(ran: Ran, line: &mut [u8; 32]) -> usize
+    ensures { λ r. ⌜ Counts r (now (line .exit)) × LineOf ran (take r (now (line .exit))) ⌝ }
+{
+    match ran {
+        Ran::Done(n) => spell_line(b"done ", n as u64, line),
+        Ran::Refused(n) => spell_line(b"refused ", n as u64, line),
+    }
+}
+
+// The dry run of a text, as the line that the program prints: puts it at the start of `line`, and gives its length.
+pub fn line_of(text: &[u8], line: &mut [u8; 32]) -> usize
+    ensures { λ r. ⌜ Counts r (now (line .exit)) × LineOf (ranOn (now (text .entry))) (take r (now (line .exit))) ⌝ }
+{
+    tell(run(text), line)
 }

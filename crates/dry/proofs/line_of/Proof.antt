@@ -1,0 +1,15 @@
+use borrow.Author.Needs.{needs}
+use Rattle.dry.proofs.line_of.Statement.{statement}
+use Rattle.dry.proofs.line_of.Tie as tie
+
+run-requires : tie.Need-run-requires
+run-requires c κs = search needs
+
+tell-requires : tie.Need-tell-requires
+tell-requires c κs = search needs
+
+returns : tie.Need-returns
+returns c = rw (c .before .before .run .ensures) at (c .tell .ensures)
+
+pub line-of-spec : {M : Type 1} → statement M
+line-of-spec = tie.close (tie.spec run-requires tell-requires returns)

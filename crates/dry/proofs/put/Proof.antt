@@ -1,0 +1,22 @@
+use mathlib.Core.Path.{refl}
+use Rattle.dry.proofs.Lining.{put-on}
+use borrow.Author.Needs.{needs}
+use Rattle.dry.proofs.put.Statement.{statement}
+use Rattle.dry.proofs.put.Tie as tie
+
+store-requires : tie.Need-store-requires
+store-requires c κs = search needs
+
+add-result : tie.Need-add-result
+add-result c = search needs
+
+same-length : tie.Need-same-length
+same-length c = search needs
+
+returns : tie.Need-returns
+returns c =
+    let a = c .before .before .before .before .before .before .args in
+    (refl, put-on (a .line .now) (a .bytes .now) _ (a .at) (c .before .before .before .before .before .before .pre .0) (c .before .before .store .ensures))
+
+pub put-spec : {M : Type 1} → statement M
+put-spec = tie.close (tie.spec store-requires add-result same-length returns)
