@@ -5,3 +5,4 @@ pub mod Backs
 pub mod Numbers
 pub mod Onward
 pub mod Claims
+pub mod Boards

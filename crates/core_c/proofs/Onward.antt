@@ -15,12 +15,13 @@ use Rattle.core_c.specs.Claims.{Twelve, Never13}
 use Rattle.core_c.specs.Sessions.{sessionBytes, sessionIn}
 use Rattle.flow.specs.declared.Entry.{Entry}
 use Rattle.image.specs.declared.Header.{Header}
+use Rattle.moves.specs.Moves.{moveCount}
 use Rattle.parts.specs.Parts.{lookupOf}
 use Rattle.parts.specs.declared.Geometry.{Geometry}
 use Rattle.parts.specs.declared.Lookup.{Lookup}
 use Rattle.parts.specs.declared.Lookup.the-variants.{Found, Refused as NotFound}
 use Rattle.session.proofs.Possibility.{Parts, parts, whole}
-use Rattle.session.specs.Possible.{headerFits, movesIn, progressFits, reportFits, possibleIn, possibleFor, possible}
+use Rattle.session.specs.Possible.{headerFits, progressFits, reportFits, possibleIn, possibleFor, possible}
 use Rattle.session.specs.declared.Progress.{Progress}
 use Rattle.session.specs.declared.Session.{Session}
 
@@ -40,9 +41,9 @@ smaller : (g : Geometry) (y : Entry) (p q : Progress) → q .at ≤ p .at → q 
     → progressFits g y p ≡ true
     → progressFits g y q ≡ true
 smaller g y p q a b c d =
-    and-both (ltb (p .at) (movesIn g y) && leb (p .waits) 16 && ltb (p .polls) 10000) _ (ltb (p .attempts) 30) _
-    (and-both (ltb (p .at) (movesIn g y) && leb (p .waits) 16) _ (ltb (p .polls) 10000) _
-    (and-both (ltb (p .at) (movesIn g y)) _ (leb (p .waits) 16) _ (under (p .at) (q .at) (movesIn g y) a) (within (p .waits) (q .waits) 16 b))
+    and-both (ltb (p .at) (moveCount g y) && leb (p .waits) 16 && ltb (p .polls) 10000) _ (ltb (p .attempts) 30) _
+    (and-both (ltb (p .at) (moveCount g y) && leb (p .waits) 16) _ (ltb (p .polls) 10000) _
+    (and-both (ltb (p .at) (moveCount g y)) _ (leb (p .waits) 16) _ (under (p .at) (q .at) (moveCount g y) a) (within (p .waits) (q .waits) 16 b))
     (under (p .polls) (q .polls) 10000 c))
     (under (p .attempts) (q .attempts) 30 d)
 

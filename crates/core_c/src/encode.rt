@@ -15,7 +15,7 @@ use session::Progress;
 use session::Session;
 
 // Puts a word, the low byte first.
-fn put32(bytes: &mut [u8], at: usize, word: u32)
+pub(crate) fn put32(bytes: &mut [u8], at: usize, word: u32)
     requires { ⌜ at + 4 ≤ length (now bytes) ⌝ }
     ensures { λ _. ⌜ now (bytes .exit) ≡ sets (now (bytes .entry)) at (lowFirst 4 word) ⌝ }
 {
@@ -94,7 +94,7 @@ fn entry_byte(y: Entry) -> u8
     }
 }
 
-fn flag_byte(b: bool) -> u8
+pub(crate) fn flag_byte(b: bool) -> u8
     ensures { λ r. ⌜ r ≡ flagByte b ⌝ }
 {
     if b { 1 } else { 0 }
