@@ -6,3 +6,4 @@ pub mod Numbers
 pub mod Onward
 pub mod Claims
 pub mod Boards
+pub mod BoardBacks

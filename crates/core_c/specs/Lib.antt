@@ -5,3 +5,4 @@ pub mod Calls
 pub mod Claims
 pub mod BoardBytes
 pub mod BoardCalls
+pub mod BoardClaims
