@@ -2,6 +2,7 @@
 //! Written from the papers, never from the Rattle code. Comments quote document 01.
 
 pub mod board;
+pub mod cases_dry;
 pub mod cases_hex;
 pub mod cases_session;
 pub mod claims;

@@ -1,6 +1,6 @@
 //! The committed vectors are those that the generator makes, and the tools agree with the writer.
 
-use reference::{cases_hex, cases_session, hex, parts::SIZES};
+use reference::{cases_dry, cases_hex, cases_session, hex, parts::SIZES};
 use std::fs;
 use std::path::Path;
 
@@ -23,6 +23,16 @@ fn hex_cases_are_as_made() {
     assert!(cases_hex::stdin(&cases) == program("cases_hex/stdin"));
     let lines: String = cases.iter().map(|case| cases_hex::outcome(case) + "\n").collect();
     assert!(lines.as_bytes() == program("cases_hex/stdout"));
+}
+
+#[test]
+fn dry_cases_are_as_made() {
+    let cases = cases_dry::cases();
+    assert!(cases_dry::stdin(&cases) == program("cases_dry/stdin"));
+    let lines: String = cases.iter().map(|case| cases_dry::outcome(case) + "\n").collect();
+    assert!(lines.as_bytes() == program("cases_dry/stdout"));
+    assert!(cases_dry::blank() == program("dry_run/stdin"));
+    assert!(cases_dry::blank() == program("../samples/blank-4000.hex"));
 }
 
 #[test]

@@ -2,7 +2,7 @@
 ghost use mathlib.Core.List.{_++_};
 ghost use mathlib.Core.Path.{_≡_};
 ghost use Prim.Native.Nat.{_+_, _≤_};
-ghost use lib.ListN.{length, take};
+ghost use lib.ListN.{length, take, drop};
 ghost use Rattle.bench_board.specs.Board.{lent};
 ghost use Rattle.dry.specs.Runs.{toldBy, ranOn, Spells, LineOf};
 ghost use Rattle.dry.specs.Stage.{partOne, calmEvent, calmOutcome, openFor, Turns, Playable, Staged, reportIn, DoneAsPlanned};
@@ -275,6 +275,7 @@ fn put(line: &mut [u8], at: usize, bytes: &[u8]) -> usize
     requires { ⌜ (at + length (now bytes) ≤ length (now line)) × (length (now line) ≡ 32) ⌝ }
     ensures { λ r. ⌜ r ≡ at + length (now (bytes .entry)) ⌝ }
     ensures { λ r. ⌜ take r (now (line .exit)) ≡ take at (now (line .entry)) ++ now (bytes .entry) ⌝ }
+    ensures { λ r. ⌜ drop r (now (line .exit)) ≡ drop r (now (line .entry)) ⌝ }
 {
     let n = bytes.len();
     text::store(line, at, bytes, 0, n);
@@ -285,6 +286,7 @@ fn put(line: &mut [u8], at: usize, bytes: &[u8]) -> usize
 fn spell_line(word: &[u8], n: u64, line: &mut [u8]) -> usize
     requires { ⌜ (length (now word) ≤ 8) × (length (now line) ≡ 32) ⌝ }
     ensures { λ r. ⌜ Counts r (now (line .exit)) × Spells (now (word .entry)) n (take r (now (line .exit))) ⌝ }
+    ensures { λ r. ⌜ drop r (now (line .exit)) ≡ drop r (now (line .entry)) ⌝ }
 {
     let mut number = [0u8; 20];
     let k = io::decimal(n, &mut number);
@@ -296,6 +298,7 @@ fn spell_line(word: &[u8], n: u64, line: &mut [u8]) -> usize
 // Puts the line that tells of a dry run at the start of `line`, and gives its length.
 fn tell(ran: Ran, line: &mut [u8; 32]) -> usize
     ensures { λ r. ⌜ Counts r (now (line .exit)) × LineOf ran (take r (now (line .exit))) ⌝ }
+    ensures { λ r. ⌜ drop r (now (line .exit)) ≡ drop r (now (line .entry)) ⌝ }
 {
     match ran {
         Ran::Done(n) => spell_line(b"done ", n as u64, line),
@@ -313,9 +316,10 @@ fn run_cut(text: &[u8]) -> Ran
     run(&text[..65536])
 }
 
-// The dry run of a text, cut at 64 KiB, as the line that the program prints: puts it at the start of `line`, and gives its length.
+// The dry run of a text, cut at 64 KiB, as the line that the program prints: puts it at the start of `line`, keeps the rest, and gives its length.
 pub fn line_of(text: &[u8], line: &mut [u8; 32]) -> usize
     ensures { λ r. ⌜ Counts r (now (line .exit)) × LineOf (ranOn (take 65536 (now (text .entry)))) (take r (now (line .exit))) ⌝ }
+    ensures { λ r. ⌜ drop r (now (line .exit)) ≡ drop r (now (line .entry)) ⌝ }
 {
     tell(run_cut(text), line)
 }

@@ -1,9 +1,10 @@
 //! Writes the committed vectors, the same at every run. `vectors images DIR`: the images that the
-//! tools are given. `vectors hex TOOLS OUT`: cases of hex text. `vectors session OUT`: sessions.
+//! tools are given. `vectors hex TOOLS OUT`: cases of hex text. `vectors dry CRATES`: the dry run's.
+//! `vectors session OUT`: sessions.
 
 use reference::parts::SIZES;
 use reference::rng::Rng;
-use reference::{cases_hex, cases_session, hex, texts};
+use reference::{cases_dry, cases_hex, cases_session, hex, texts};
 use std::path::Path;
 use std::{env, fs, io};
 
@@ -44,6 +45,16 @@ fn session_cases(out: &Path) -> io::Result<()> {
     put(out, cases_session::stdin(&cases).as_bytes(), lines, names)
 }
 
+/// The blank image's text for `dry_run`, and the cases of `cases_dry`.
+fn dry_cases(out: &Path) -> io::Result<()> {
+    fs::write(out.join("dry_run/stdin"), cases_dry::blank())?;
+    fs::write(out.join("../samples/blank-4000.hex"), cases_dry::blank())?;
+    let cases = cases_dry::cases();
+    let lines = cases.iter().map(cases_dry::outcome).collect();
+    let names = cases.iter().map(|case| case.name.clone()).collect();
+    put(&out.join("cases_dry"), &cases_dry::stdin(&cases), lines, names)
+}
+
 fn put(out: &Path, stdin: &[u8], lines: Vec<String>, names: Vec<String>) -> io::Result<()> {
     fs::create_dir_all(out)?;
     fs::write(out.join("stdin"), stdin)?;
@@ -56,7 +67,8 @@ fn main() -> io::Result<()> {
     match arguments.iter().map(String::as_str).collect::<Vec<_>>()[..] {
         ["images", dir] => images(Path::new(dir)),
         ["hex", tools, out] => hex_cases(Path::new(tools), Path::new(out)),
+        ["dry", crates] => dry_cases(Path::new(crates)),
         ["session", out] => session_cases(Path::new(out)),
-        _ => Err(io::Error::other("vectors images DIR | hex TOOLS OUT | session OUT")),
+        _ => Err(io::Error::other("vectors images DIR | hex TOOLS OUT | dry CRATES | session OUT")),
     }
 }

@@ -1,5 +1,5 @@
 use mathlib.Core.Path.{refl}
-use Rattle.dry.proofs.Lining.{put-on}
+use Rattle.dry.proofs.Lining.{put-on, put-rest}
 use borrow.Author.Needs.{needs}
 use Rattle.dry.proofs.put.Statement.{statement}
 use Rattle.dry.proofs.put.Tie as tie
@@ -16,7 +16,9 @@ same-length c = search needs
 returns : tie.Need-returns
 returns c =
     let a = c .before .before .before .before .before .before .args in
-    (refl, put-on (a .line .now) (a .bytes .now) _ (a .at) (c .before .before .before .before .before .before .pre .0) (c .before .before .store .ensures))
+    let room = c .before .before .before .before .before .before .pre .0 in
+    let kept = c .before .before .store .ensures in
+    (refl, (put-on (a .line .now) (a .bytes .now) _ (a .at) room kept, put-rest (a .line .now) (a .bytes .now) _ (a .at) room kept))
 
 pub put-spec : {M : Type 1} → statement M
 put-spec = tie.close (tie.spec store-requires add-result same-length returns)

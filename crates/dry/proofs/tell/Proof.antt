@@ -27,10 +27,14 @@ spell-line-requires-2 : tie.Need-spell-line-requires-2
 spell-line-requires-2 c κs = search needs
 
 returns : tie.Need-returns
-returns c = (c .spell-line .ensures .0, rw (c .before .before .before .before .ran .given .1) (c .spell-line .ensures .1))
+returns c =
+    let e = c .spell-line .ensures in
+    ((e .0 .0, rw (c .before .before .before .before .ran .given .1) (e .0 .1)), e .1)
 
 returns-2 : tie.Need-returns-2
-returns-2 c = (c .spell-line2 .ensures .0, rw (c .before .before .before .before .ran2 .given .1) (c .spell-line2 .ensures .1))
+returns-2 c =
+    let e = c .spell-line2 .ensures in
+    ((e .0 .0, rw (c .before .before .before .before .ran2 .given .1) (e .0 .1)), e .1)
 
 pub tell-spec : {M : Type 1} → statement M
 tell-spec =
