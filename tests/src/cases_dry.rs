@@ -91,7 +91,11 @@ fn tuned(header: &Header, image: &[u8], length: usize) -> Vec<u8> {
         let mut made = 0;
         let length = || {
             made += 1;
-            if made <= singles { 1 } else { 8 }
+            if made <= singles {
+                1
+            } else {
+                8
+            }
         };
         texts::lines(&texts::sections(header, image), length, || 0)
     };
