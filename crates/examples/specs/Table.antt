@@ -3,49 +3,19 @@ use mathlib.Core.Bool.{cond}
 use mathlib.Core.List.{List, [], _∷_}
 use Prim.Native.Nat.{ℕ, _%_}
 use lib.ListN.{getD, replicate}
+use Rattle.flow.specs.Examples.{onePart, twoMacros, p5, p6, p7}
 use Rattle.flow.specs.Plan.{plan}
-use Rattle.flow.specs.Sequence.{privileged, programRow, endMove}
 use Rattle.flow.specs.declared.Entry.the-variants.{FromOpen}
-use Rattle.flow.specs.declared.Move.{Move}
-use Rattle.flow.specs.declared.Purpose.the-variants.{Keep}
-use Rattle.flow.specs.declared.Request.{Request}
-use Rattle.flow.specs.declared.Request.the-variants.{Xres, LineReset, ReadIdcode, ReadDrw, WriteTar, WriteDrw, WriteSetup}
 use Rattle.hex.specs.Records.{Record, BadRecord, DataRecord, ExtendedAddress, EndRecord, lineRecord}
 use Rattle.hex.specs.Texts.{upperAfter}
-use Rattle.image.specs.Image.{Image}
 use Rattle.image.specs.Words.{total}
 use Rattle.parts.specs.Levels.{isLevel}
-use Rattle.parts.specs.Parts.{part1, part3}
-use Rattle.parts.specs.declared.Geometry.{Geometry}
 use Rattle.parts.specs.declared.Level.the-variants.{Open}
 use Rattle.text.specs.Lines.{Ended}
 use Rattle.wire.specs.Examples.{Example, _gives_}
 use Rattle.wire.specs.Wire.{parity, requestByte}
 use Rattle.wire.specs.declared.Access.the-variants.{Read, Write}
 use Rattle.wire.specs.declared.Register.the-variants.{Idcode, Tar, Drw}
-
-abbrev pub onePart : Geometry
-onePart = record { part = part1; macros = 1 }
-
-abbrev pub twoMacros : Geometry
-twoMacros = record { part = part3; macros = 2 }
-
--- any image of part 3 and M 2 will do
-abbrev pub anImage : Image
-anImage = record { geometry = twoMacros; header = record { part = 3; macros = 2; sum = 0; metadata = []; level = 1 }; flash = []; protection = [] }
-
--- the word that a move writes
-abbrev pub wordOf : Request → ℕ
-wordOf Xres = 0
-wordOf LineReset = 0
-wordOf ReadIdcode = 0
-wordOf ReadDrw = 0
-wordOf (WriteTar w) = w
-wordOf (WriteDrw w) = w
-wordOf (WriteSetup r w) = w
-
-abbrev pub wordAtMove : List Move → ℕ → ℕ
-wordAtMove ms n = wordOf ((getD ms n endMove) .request)
 
 -- the data bytes of a record
 unfoldable pub payloadOf : Record → List ℕ
@@ -72,12 +42,10 @@ paperExamples =
     ∷ requestByte Drw Read gives 0x9F
     -- 'P4 parity of 0x54000000 is 1.'
     ∷ parity 0x54000000 gives 1
-    -- 'P5 sum word 0x8000DEB6.': the DRW write of step 4's call
-    ∷ wordAtMove (privileged onePart 4 Keep) 1 gives 0x8000DEB6
-    -- 'P6 program row 0x0123: 0x0123D9B6.': the DRW write of call 6's list, after the 78 transfers of call 4
-    ∷ wordAtMove (programRow anImage 0x0123) 79 gives 0x0123D9B6
-    -- 'P7 latch, macro 1: 0x0100D7B6.': the first DRW write of row 512
-    ∷ wordAtMove (programRow anImage 512) 1 gives 0x0100D7B6
+    -- 'P5 sum word 0x8000DEB6. P6 program row 0x0123: 0x0123D9B6. P7 latch, macro 1: 0x0100D7B6.'
+    ∷ p5
+    ∷ p6
+    ∷ p7
     -- 'P8 :0200000490303A sets 0x9030.'
     ∷ upperAfter 0 (lineRecord (Ended p8-line)) gives 0x9030
     -- 'P9 :0100000001FE is OPEN.'

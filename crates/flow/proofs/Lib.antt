@@ -25,3 +25,4 @@ pub mod Passing
 pub mod Demand
 pub mod Witness
 pub mod Blame
+pub mod Examples

@@ -12,3 +12,4 @@ pub mod Session
 pub mod Machine
 pub mod Run
 pub mod Claim
+pub mod Examples
