@@ -6,7 +6,7 @@ use mathlib.Core.Path.{_≡_, refl, sym, ap, subst, _∙_}
 use Prim.Native.Nat.{ℕ, _≤_, _<_}
 use native.Mathlib.Nat.{le-refl}
 use native.Mathlib.Omega.{arith}
-use borrow.Author.Tests.{eq-eqb, ne-eqb, eqb-true}
+use borrow.Author.Tests.{eq-eqb, ne-eqb}
 use lib.Dec.{eqb, lit≤}
 use lib.ListN.{length, drop, drop-of-length-le}
 use Rattle.bench_board.specs.Board.{Buffers, lent}
@@ -20,9 +20,8 @@ use Rattle.flow.specs.Claim.{Passes, Startable}
 use Rattle.flow.specs.Plan.{plan}
 use Rattle.flow.specs.declared.Entry.the-variants.{FromOpen}
 use Rattle.hex.specs.Texts.{hexReading}
-use Rattle.image.proofs.Refusals.{passes}
-use Rattle.image.specs.Checks.{metadataAt, versionFits, imageIdFits, contentChecks, faultIn, imageFault}
-use Rattle.image.specs.Refusals.{_unless_, firstRefusal}
+use Rattle.image.proofs.Refusals.{Passed, all-passed}
+use Rattle.image.specs.Checks.{metadataAt, imageFault}
 use Rattle.image.specs.declared.Header.{Header}
 use Rattle.parts.proofs.Table.{both}
 use Rattle.parts.specs.Parts.{part1, lookIn, lookupOf, lowFits}
@@ -52,18 +51,14 @@ always-found {l} {n} e f = let z : Lookups.Refused n ≡ Lookups.Found partOne =
 -- ---- an image that passes
 
 module _ (h : Header) (bytes : List ℕ) (found : lookupOf (h .part) (h .macros) ≡ Lookups.Found partOne) (none : imageFault h bytes ≡ 0) where
-  checked : firstRefusal ((12 unless eqb (length bytes) (imageSize partOne)) ∷ contentChecks partOne h bytes) ≡ 0
-  checked = ap (λ (x : Lookup). faultIn x h bytes) (sym found) ∙ none
+  passed : Passed partOne h bytes
+  passed = all-passed partOne h bytes found none
 
   size : length bytes ≡ imageSize partOne
-  size = eqb-true (length bytes) (imageSize partOne) ((passes 12 _ _ (lit≤ tt) checked) .0)
+  size = passed .size
 
   low : lowFits part1 (metadataAt h 3) ≡ true
-  low =
-      let t₀ = passes 12 (eqb (length bytes) (imageSize partOne)) _ (lit≤ tt) checked in
-      let t₁ = passes 6 (versionFits h) _ (lit≤ tt) (t₀ .1) in
-      let t₂ = passes 7 (imageIdFits partOne h) _ (lit≤ tt) (t₁ .1) in
-      (both (eqb (metadataAt h 2) 0x0A && eqb (metadataAt h 5) 0x9A) (lowFits part1 (metadataAt h 3)) (t₂ .0)) .1
+  low = (both (eqb (metadataAt h 2) 0x0A && eqb (metadataAt h 5) 0x9A) (lowFits part1 (metadataAt h 3)) (passed .id)) .1
 
 size-is : imageSize partOne ≡ 16416
 unfolding imageSize flashSize lockTotal rowsOf
