@@ -50,11 +50,11 @@ meetInto g p e o x b = benchAfter (Flow.meet g p (listsOf x e o) (targetOf x (re
 abbrev pub isBench : (board event call request : List ℕ) → Bool
 isBench b e c q = isBoard b && (isEvent e && (isOutcome c 0 && isPacket q))
 
--- '12 .. bytes of a wrong length'
+-- 12: bytes of a wrong length
 abbrev pub sizesFit : (board event call request answer : List ℕ) → Bool
 sizesFit b e c q a = eqb (length b) 46 && (eqb (length e) 11 && (eqb (length c) 10 && (eqb (length q) 8 && eqb (length a) 8)))
 
--- '11 part or M not in the table', then 13: nothing is written
+-- 11 for what is not in the table, then 13: nothing is written
 abbrev pub meetFor : Lookup → (event call request : List ℕ) → Left → Bench → Benched
 meetFor (Refused n) e c q x b = benched n b
 meetFor (Found g) e c q x b =

@@ -22,7 +22,7 @@ pub record Left : Type 0 where
   pub first : List ℕ
   pub second : List ℕ
 
--- '12 .. bytes of a wrong length': nothing is written
+-- 12: bytes of a wrong length; nothing is written
 abbrev pub wrongLength : (first second : List ℕ) → Left
 wrongLength first second = record { number = 12; first = first; second = second }
 
@@ -66,7 +66,7 @@ startCall header image leave session outcome =
 abbrev pub answerIn : (reset ack word parity : ℕ) → Answer
 answerIn reset ack word parity = cond (eqb reset 0) (Transferred (record { ack = ack; word = word; parity = parity })) ResetDone
 
--- '13 .. bytes that no session has': the session's bytes stay
+-- 13: bytes that no session has; the session's bytes stay
 abbrev pub stepInto : (session image : List ℕ) → Answer → Left
 stepInto session image a =
     cond (isSession session) (givenInto (stepWith (sessionIn session) image a)) (left 13 session (outcomeBytes (Refused 13)))

@@ -54,7 +54,7 @@ abbrev pub Never13 : (session : List ℕ) → Type 0
 Never13 session = (image : List ℕ) (a : Answer) (outcome : List ℕ) → ¬ ((stepCall session image a outcome) .number ≡ 13)
 
 pub record ByteClaims : Type 0 where
-  -- 'decoding what was encoded gives it back'
+  -- decoding what was encoded gives it back
   pub recordBack : (h : Header) → Twelve h → recordIn (recordBytes h) ≡ h
   pub sessionBack : (s : Session) → InWords s → sessionIn (sessionBytes s) ≡ s
   pub outcomeBack : (o : Outcome) → Word (outcomeWord o) → outcomeIn (outcomeBytes o) ≡ o

@@ -40,7 +40,7 @@ outcomeBy kind first second word =
 abbrev pub outcomeIn : List ℕ → Outcome
 outcomeIn bs = outcomeBy (getD bs 0 0) (getD bs 1 0) (getD bs 2 0) (wordAt bs 4)
 
--- 'every call returns 0, or the refusal's number'
+-- 0, or the refusal's number: what every call returns
 abbrev pub numberOf : Outcome → ℕ
 numberOf (Refused n) = n
 numberOf (Ask p) = 0

@@ -2,7 +2,7 @@
 use mathlib.Core.Path.{sym, _∙_}
 use native.Mathlib.Omega.{arith}
 use borrow.Author.Needs.{needs}
-use Rattle.cases_hex.proofs.Parts.{part-length, put-length}
+use Rattle.cases.proofs.Parts.{part-length, put-length}
 use Rattle.cases_hex.proofs.print_case.Statement.{statement}
 use Rattle.cases_hex.proofs.print_case.Tie as tie
 

@@ -1,7 +1,7 @@
 -- The text's room keeps its length. Assumes nothing.
 use native.Mathlib.Omega.{arith}
 use borrow.Author.Needs.{needs}
-use Rattle.cases_hex.proofs.Parts.{part-length, put-room}
+use Rattle.cases.proofs.Parts.{part-length, put-room}
 use Rattle.cases_hex.proofs.take_case.Statement.{statement}
 use Rattle.cases_hex.proofs.take_case.Tie as tie
 
