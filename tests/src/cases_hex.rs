@@ -46,12 +46,12 @@ pub fn outcome(case: &Case) -> String {
     if let Some(expected) = case.number {
         assert_eq!(number, expected, "{}", case.name);
     }
-    let line = format!("{number} {:016X}", fnv(&buffer));
+    let line = format!("{number} {:016x}", fnv(&buffer));
     if number != 0 {
         assert_eq!(header, Header::ZERO);
         return line;
     }
-    let metadata: String = header.metadata.iter().map(|b| format!("{b:02X}")).collect();
+    let metadata: String = header.metadata.iter().map(|b| format!("{b:02x}")).collect();
     let Header { part, macros, sum, level, .. } = header;
     format!("{line} {part} {macros} {sum} {metadata} {level}")
 }

@@ -165,5 +165,5 @@ pub fn outcome(case: &Case) -> String {
     assert_eq!((number, step), case.expected, "{}", case.name);
     let mut bench = Bench::new(case);
     assert_eq!(flow::run(&case.header, &image, |request| bench.answer(request)), report);
-    format!("report {number} {step} {transfers} {:016X}", sum.value())
+    format!("report {number} {step} {transfers} {:016x}", sum.value())
 }

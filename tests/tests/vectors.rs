@@ -38,9 +38,9 @@ fn dry_cases_are_as_made() {
 #[test]
 fn session_cases_are_as_made() {
     let cases = cases_session::cases();
-    assert!(cases_session::stdin(&cases).as_bytes() == read("session/stdin"));
+    assert!(cases_session::stdin(&cases).as_bytes() == program("cases_session/stdin"));
     let lines: String = cases.iter().map(|case| cases_session::outcome(case) + "\n").collect();
-    assert!(lines.as_bytes() == read("session/stdout"));
+    assert!(lines.as_bytes() == program("cases_session/stdout"));
     assert!(cases.iter().all(|case| case.overrides.len() <= 2 && case.length <= 131_200));
 }
 

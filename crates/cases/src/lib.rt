@@ -1,5 +1,5 @@
-// What the programs that print cases share: numbers of standard input, a digest of bytes, capital hex digits (tests/vectors/README.md).
-// No contract can say what is read or written.
+// What the programs that print cases share: numbers of standard input, a digest of bytes (tests/vectors/README.md).
+// No contract can say what is read.
 ghost use mathlib.Core.Path.{_≡_};
 ghost use Prim.Native.Nat.{_*_, _%_, _^_, _≤_};
 ghost use Rattle.cases.specs.Fnv.{fnvStep, fnv};
@@ -93,29 +93,4 @@ pub fn digest(bytes: &[u8]) -> u64
         i += 1;
     }
     h
-}
-
-// Writes a byte.
-pub fn print_byte(b: u8) {
-    let one = [b];
-    io::write_all(1, &one);
-}
-
-fn capital(c: u8) -> u8 {
-    if c < 97 { c } else { c - 32 }
-}
-
-fn print_capitals(text: &[u8]) {
-    let mut i: usize = 0;
-    while i < text.len() {
-        print_byte(capital(text[i]));
-        i += 1;
-    }
-}
-
-// Writes n in capital hex digits, at least `width` of them.
-pub fn print_hex(n: u64, width: usize) {
-    let mut text = [0u8; 16];
-    let k = io::hex(n, width, &mut text);
-    print_capitals(&text[..k]);
 }

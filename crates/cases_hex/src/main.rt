@@ -5,21 +5,21 @@ ghost use lib.ListN.{length};
 use image::Header;
 use text::ReadAnswer;
 
-const SPACE: u8 = 32;
-
-const LINE_FEED: u8 = 10;
+fn print_space() {
+    io::write_all(1, b" ");
+}
 
 fn print_number(n: u64) {
-    cases::print_byte(SPACE);
+    print_space();
     io::print_decimal(1, n);
 }
 
 fn print_pair(b: u8) {
-    cases::print_hex(b as u64, 2);
+    io::print_hex(1, b as u64, 2);
 }
 
 fn print_metadata(metadata: [u8; 12]) {
-    cases::print_byte(SPACE);
+    print_space();
     let mut i: usize = 0;
     while i < 12 {
         print_pair(metadata[i]);
@@ -40,13 +40,13 @@ fn print_header(header: Header) {
 fn print_line(answer: ReadAnswer, digest: u64) {
     let number = answer.number;
     io::print_decimal(1, number as u64);
-    cases::print_byte(SPACE);
-    cases::print_hex(digest, 16);
+    print_space();
+    io::print_hex(1, digest, 16);
     if number == 0 {
         let header = answer.header;
         print_header(header);
     }
-    cases::print_byte(LINE_FEED);
+    io::write_all(1, b"\n");
 }
 
 // The buffer of a case, before the call. Its contract keeps the prover from writing out so long an array.
