@@ -27,9 +27,6 @@ pub record Totals (ms : List Move) (s p x l : ℕ) : Type 0 where
   pub xresets : (trafficIn ms) .xresets ≡ x
   pub lineResets : (trafficIn ms) .lineResets ≡ l
 
-pub totals : (ms : List Move) → Totals ms ((trafficIn ms) .transfers) (pollsIn ms) ((trafficIn ms) .xresets) ((trafficIn ms) .lineResets)
-totals ms = record { transfers = refl; polls = refl; xresets = refl; lineResets = refl }
-
 -- the requests of a traffic
 abbrev pub total : Traffic → ℕ
 total t = t .transfers + t .xresets + t .lineResets

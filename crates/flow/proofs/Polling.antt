@@ -101,10 +101,6 @@ fetch-ended : (g : Geometry) (s : Bool) (r : Residue) (c a z o : ℕ) (b : Targe
     → fetch g o atSysreq (aim a z (finish g s r c b)) ≡ aim a ((finish g s r c b) .sysreq) (finish g s r c b)
 fetch-ended g s r c a z o b = fetch-idle g a z o (finish g s r c b) (finish-idle g s r c b)
 
-fetch-busy : (g : Geometry) (q : ℕ) (s : Bool) (r : Residue) (c a z o : ℕ) (b : Target)
-    → fetch g o atSysreq (aim a z (during (busy (suc q) s r c) b)) ≡ aim a (busyWord o) (during (busy q s r c) b)
-fetch-busy g q s r c a z o b = refl
-
 -- ---- the loop
 
 -- a loop runs, TAR at a
