@@ -1,10 +1,10 @@
 -- Laws of putting the bench board into bytes, and of its call. Assumes nothing.
-use mathlib.Core.Bool.{Bool, true, false, _&&_, cond}
+use mathlib.Core.Bool.{Bool, true, false, _&&_, not, cond}
 use mathlib.Core.List.{List, [], _∷_, _++_}
 use mathlib.Core.Path.{_≡_, refl, sym, ap, _∙_}
 use Prim.Native.Nat.{ℕ, suc, _+_, _%_, _≤_}
 use native.Mathlib.Omega.{arith}
-use borrow.Author.Tests.{eqb-true}
+use borrow.Author.Tests.{eqb-true, not-true, not-false}
 use lib.Dec.{eqb}
 use lib.ListN.{length, set, length-set, length-append}
 use lib.Seq.{sets, length-sets}
@@ -17,7 +17,7 @@ use Rattle.bench_board.specs.declared.Registers.{Registers}
 use Rattle.bench_board.specs.declared.Running.{Running}
 use Rattle.bench_board.specs.declared.Running.the-variants.{Idle, Busy}
 use Rattle.bench_board.specs.declared.Silicon.{Silicon}
-use Rattle.bench_c.specs.BoardBytes.{outcomeAt, registersIn, eventIn, packetIn, siliconBytes, runBytes, runningBytes, wordsBytes, boardBytes, replyBytes, answerBytes, usedOf, emptied, RunningPut, BoardPut}
+use Rattle.bench_c.specs.BoardBytes.{outcomeAt, isOutcome, registersIn, isBoard, eventIn, isEvent, packetIn, isPacket, siliconBytes, runBytes, runningBytes, wordsBytes, boardBytes, replyBytes, answerBytes, usedOf, emptied, RunningPut, BoardPut}
 use Rattle.bench_c.specs.BoardCalls.{Bench, benchOf, Benched, benched, benchAfter, meetInto, isBench, sizesFit, meetFor, meetCall}
 use Rattle.flow.specs.Exchange as Flow
 use Rattle.flow.specs.Target as Target
@@ -162,6 +162,29 @@ module _ (g : Geometry) (p : Packet) (e : LineEvent) (o : CallOutcome) (x : Left
       ∙ ap (λ (n : List ℕ). benchOf (boardBytes (targetOf x (m .registers) (lent (b′ .flash) (b′ .locks) (b′ .latch) (b′ .params)))) (b′ .flash) (b′ .locks) (b′ .latch) (b′ .params) n) (says ∙ ap (answerBytes (m .answer)) (used-same (m .«line_used») (m .«call_used») _ _))
       ∙ ap benchAfter met
       ∙ ap (λ (q : Registers). benchAfter (Flow.meet g p (listsOf x e o) (targetOf x q (lent (b .flash) (b .locks) (b .latch) (b .params))))) found
+
+-- a test that said no, one that said yes
+pub says-no : (r t : Bool) → r ≡ t → not r ≡ true → t ≡ false
+says-no r t e h = sym e ∙ not-true r h
+
+pub says-yes : (r t : Bool) → r ≡ t → not r ≡ false → t ≡ true
+says-yes r t e h = sym e ∙ not-false r h
+
+module _ (b e c q : List ℕ) where
+  pub no-board : (t : Bool) → t ≡ isBoard b → not t ≡ true → false ≡ isBench b e c q
+  no-board t k h = rw (says-no t (isBoard b) k h)
+
+  pub no-event : (t u : Bool) → t ≡ isBoard b → not t ≡ false → u ≡ isEvent e → not u ≡ true → false ≡ isBench b e c q
+  no-event t u k h l i = rw (says-yes t (isBoard b) k h, says-no u (isEvent e) l i)
+
+  pub no-call : (t u v : Bool) → t ≡ isBoard b → not t ≡ false → u ≡ isEvent e → not u ≡ false → v ≡ isOutcome c 0 → not v ≡ true
+      → false ≡ isBench b e c q
+  no-call t u v k h l i m j = rw (says-yes t (isBoard b) k h, says-yes u (isEvent e) l i, says-no v (isOutcome c 0) m j)
+
+  pub by-request : (t u v w : Bool) → t ≡ isBoard b → not t ≡ false → u ≡ isEvent e → not u ≡ false → v ≡ isOutcome c 0 → not v ≡ false → w ≡ isPacket q
+      → w ≡ isBench b e c q
+  by-request t u v w k h l i m j n =
+      rw (says-yes t (isBoard b) k h, says-yes u (isEvent e) l i, says-yes v (isOutcome c 0) m j) n
 
 pub sized : (b e c q a : List ℕ) → sizesFit b e c q a ≡ true
     → (length b ≡ 46) × ((length e ≡ 11) × ((length c ≡ 10) × ((length q ≡ 8) × (length a ≡ 8))))

@@ -1,10 +1,8 @@
 -- 13, then the board's own. Assumes nothing.
-use mathlib.Core.Path.{sym, _∙_}
-use borrow.Author.Tests.{not-true, not-false}
 use native.Mathlib.Omega.{arith}
 use Rattle.bench_board.specs.Board.{left}
-use Rattle.bench_c.specs.BoardCalls.{benchOf}
-use Rattle.bench_c.proofs.Boards.{sized, meet-other, meet-taken}
+use Rattle.bench_c.specs.BoardCalls.{benchOf, isBench}
+use Rattle.bench_c.proofs.Boards.{sized, says-no, says-yes, meet-other, meet-taken}
 use borrow.Author.Needs.{needs}
 use Rattle.bench_c.proofs.meet_in.Statement.{statement}
 use Rattle.bench_c.proofs.meet_in.Tie as tie
@@ -18,7 +16,7 @@ is-bench-requires c κs =
 returns : tie.Need-returns
 returns c =
     let a = c .before .before .before .before .before .before .before .before .before .before .before .before .before .before .before .args in
-    meet-other (a .g) (a .event .now) (a .call .now) (a .request .now) (left (a .left-flash .now) (a .left-locks .now) (a .left-latch .now)) (benchOf (a .board .now) (a .flash .now) (a .locks .now) (a .latch .now) (a .params .now) (a .answer .now)) (sym (c .before .is-bench .ensures) ∙ not-true (c .before .is-bench .result) (c .if1 .taken))
+    meet-other (a .g) (a .event .now) (a .call .now) (a .request .now) (left (a .left-flash .now) (a .left-locks .now) (a .left-latch .now)) (benchOf (a .board .now) (a .flash .now) (a .locks .now) (a .latch .now) (a .params .now) (a .answer .now)) (says-no (c .before .is-bench .result) (isBench (a .board .now) (a .event .now) (a .call .now) (a .request .now)) (c .before .is-bench .ensures) (c .if1 .taken))
 
 packet-in-requires : tie.Need-packet-in-requires
 packet-in-requires c κs =
@@ -47,7 +45,7 @@ meet-on-requires c κs =
 returns-2 : tie.Need-returns-2
 returns-2 c =
     let a = c .before .before .before .before .before .before .before .before .before .before .before .before .before .before .before .before .before .before .before .before .before .before .before .before .before .before .before .before .before .before .before .before .before .before .before .before .before .args in
-    meet-taken (a .g) (a .event .now) (a .call .now) (a .request .now) (left (a .left-flash .now) (a .left-locks .now) (a .left-latch .now)) (benchOf (a .board .now) (a .flash .now) (a .locks .now) (a .latch .now) (a .params .now) (a .answer .now)) _ _ _ _ (sym (c .before .before .before .before .before .before .before .before .before .before .before .before .before .before .before .before .before .before .before .before .before .before .before .is-bench .ensures) ∙ not-false (c .before .before .before .before .before .before .before .before .before .before .before .before .before .before .before .before .before .before .before .before .before .before .before .is-bench .result) (c .before .before .before .before .before .before .before .before .before .before .before .before .before .before .before .before .before .before .before .before .before .before .if1 .left)) (c .before .before .before .before .before .before .before .before .before .before .before .before .before .before .before .before .before .before .before .before .before .packet-in .ensures) (c .before .before .before .before .before .before .before .before .before .before .before .before .before .before .before .before .before .before .before .before .event-in .ensures) (c .before .before .before .before .before .before .before .before .before .before .before .before .before .before .before .before .before .before .before .outcome-at .ensures) (c .before .before .before .before .before .before .before .before .before .before .before .before .meet-on .ensures)
+    meet-taken (a .g) (a .event .now) (a .call .now) (a .request .now) (left (a .left-flash .now) (a .left-locks .now) (a .left-latch .now)) (benchOf (a .board .now) (a .flash .now) (a .locks .now) (a .latch .now) (a .params .now) (a .answer .now)) (c .before .before .before .before .before .before .before .before .before .before .before .before .before .before .before .before .before .before .before .before .before .packet-in .result) (c .before .before .before .before .before .before .before .before .before .before .before .before .before .before .before .before .before .before .before .before .event-in .result) (c .before .before .before .before .before .before .before .before .before .before .before .before .before .before .before .before .before .before .before .outcome-at .result) _ (says-yes (c .before .before .before .before .before .before .before .before .before .before .before .before .before .before .before .before .before .before .before .before .before .before .before .is-bench .result) (isBench (a .board .now) (a .event .now) (a .call .now) (a .request .now)) (c .before .before .before .before .before .before .before .before .before .before .before .before .before .before .before .before .before .before .before .before .before .before .before .is-bench .ensures) (c .before .before .before .before .before .before .before .before .before .before .before .before .before .before .before .before .before .before .before .before .before .before .if1 .left)) (c .before .before .before .before .before .before .before .before .before .before .before .before .before .before .before .before .before .before .before .before .before .packet-in .ensures) (c .before .before .before .before .before .before .before .before .before .before .before .before .before .before .before .before .before .before .before .before .event-in .ensures) (c .before .before .before .before .before .before .before .before .before .before .before .before .before .before .before .before .before .before .before .outcome-at .ensures) (c .before .before .before .before .before .before .before .before .before .before .before .before .meet-on .ensures)
 
 pub meet-in-spec : {M : Type 1} → statement M
 meet-in-spec =
