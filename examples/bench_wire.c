@@ -10,7 +10,7 @@
 #include <stdlib.h>
 #include <string.h>
 
-#include "halzuqeen.h"
+#include "halzuqeen_bench.h"
 #include "wire.h"
 
 enum { BOARD = HALZUQEEN_BENCH_BOARD_SIZE, EVENT = HALZUQEEN_BENCH_EVENT_SIZE, CALL = HALZUQEEN_BENCH_CALL_SIZE,

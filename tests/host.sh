@@ -1,6 +1,6 @@
 #!/usr/bin/env bash
-# Compiles the C host of examples/ with the core's static library and runs it: on the core's bench board through the C ABI, and on a
-# board on pins.
+# Compiles the C host of examples/ with the core's static library and runs it: on the bench board, which is a static library too, and on
+# a board on pins.
 #     tests/host.sh LIBRARY_FOLDER HEADER_FOLDER
 # It needs a C compiler and cargo.
 set -euo pipefail
@@ -14,7 +14,7 @@ sed -n '/^```c$/,/^```$/p' docs/EMBEDDING.md | grep -v '^```' | while read -r li
     grep -qF -- "$line" examples/host.c || { echo "docs/EMBEDDING.md has a line that examples/host.c hasn't: $line" >&2; exit 1; }
 done
 compile=(cc -std=c99 -O2 -Wall -Wextra -Wpedantic -Wconversion -Werror -I "$header" examples/host.c)
-"${compile[@]}" examples/bench_wire.c "$library/libcore_c.a" -o "$out/bench"
+"${compile[@]}" examples/bench_wire.c "$library/libcore_c.a" "$library/libbench_c.a" -o "$out/bench"
 cargo build --quiet --offline --release --manifest-path tests/pins/Cargo.toml
 "${compile[@]}" examples/swd_pins.c "$CARGO_TARGET_DIR/release/libpins.a" "$library/libcore_c.a" -lpthread -ldl -lm -o "$out/pins"
 

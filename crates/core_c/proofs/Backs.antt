@@ -4,16 +4,18 @@ use mathlib.Core.List.{List}
 use mathlib.Core.Path.{_≡_, refl, ap, subst, _∙_}
 use Prim.Native.Nat.{ℕ}
 use lib.Dec.{leb}
-use Rattle.core_c.proofs.Spelled.{low32, low-same, sum-same, entry-same, flag-same}
-use Rattle.core_c.specs.Claims.{Twelve, Word, InWords, packetWord, outcomeWord}
+use Rattle.core_c.proofs.Spelled.{sum-same, entry-same}
+use Rattle.core_c.specs.Claims.{Twelve, InWords, packetWord, outcomeWord}
 use Rattle.core_c.specs.Outcomes.{packetBytes, outcomeBytes, outcomeIn}
 use Rattle.core_c.specs.Records.{recordBytes, recordIn}
-use Rattle.core_c.specs.Sessions.{entryByte, flagByte, sessionBytes, sessionIn, isSession}
+use Rattle.core_c.specs.Sessions.{entryByte, sessionBytes, sessionIn, isSession}
 use Rattle.flow.specs.declared.Entry.{Entry}
 use Rattle.flow.specs.declared.Entry.the-variants.{FromOpen, FromProtected}
 use Rattle.image.proofs.Sections.{spread, spread-all, headerWith}
 use Rattle.image.specs.Words.{wordAt}
 use Rattle.image.specs.declared.Header.{Header}
+use Rattle.layout.proofs.Bytes.{low32, low-same, flag-same}
+use Rattle.layout.specs.Bytes.{flagByte, Word}
 use Rattle.flow.specs.declared.Packet.{Packet}
 use Rattle.flow.specs.declared.Packet.the-variants.{Xres, LineReset, Read, Write}
 use Rattle.session.specs.declared.Outcome.{Outcome}

@@ -6,16 +6,17 @@ use Prim.Native.Nat.{ℕ}
 use borrow.Author.Tests.{eq-eqb, ne-eqb}
 use lib.ListN.{length}
 use lib.Seq.{sets}
-use Rattle.core_c.proofs.Putting.{sets-whole}
 use Rattle.core_c.specs.Outcomes.{outcomeBytes}
 use Rattle.core_c.specs.Sessions.{sessionIn, isSession}
 use Rattle.core_c.specs.Calls.{Left, left, wrongLength, readInto, readCall, writeInto, writeCall, yes, givenInto, startCall, stepInto, stepCall}
-use Rattle.core_c.specs.Records.{lowFirst, recordBytes, recordIn}
+use Rattle.core_c.specs.Records.{recordBytes, recordIn}
 use Rattle.flow.specs.declared.Answer.{Answer}
 use Rattle.hex.specs.Texts.{hexReading}
 use Rattle.hex_writer.specs.Writing.{writeOf, textAfter}
 use Rattle.hex_writer.specs.declared.WriteAnswer.{WriteAnswer}
 use Rattle.image.specs.declared.Header.{Header}
+use Rattle.layout.proofs.Bytes.{sets-whole}
+use Rattle.layout.specs.Bytes.{lowFirst}
 use Rattle.session.specs.Given.{startOf, stepWith}
 use Rattle.session.specs.declared.Outcome.the-variants.{Refused}
 use Rattle.text.specs.Reading.{answerOf, bufferAfter}

@@ -5,5 +5,3 @@ pub mod Backs
 pub mod Numbers
 pub mod Onward
 pub mod Claims
-pub mod Boards
-pub mod BoardBacks

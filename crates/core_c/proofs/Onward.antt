@@ -9,12 +9,12 @@ use lib.ListN.{length}
 use Rattle.core_c.proofs.Backs.{Near, near, is-session}
 use Rattle.core_c.proofs.Called.{step-taken}
 use Rattle.core_c.proofs.Numbers.{not-thirteen}
-use Rattle.core_c.proofs.Spelled.{low-less}
 use Rattle.core_c.specs.Calls.{Left, wrongLength, stepInto, stepCall}
 use Rattle.core_c.specs.Claims.{Twelve, Never13}
 use Rattle.core_c.specs.Sessions.{sessionBytes, sessionIn}
 use Rattle.flow.specs.declared.Entry.{Entry}
 use Rattle.image.specs.declared.Header.{Header}
+use Rattle.layout.proofs.Bytes.{low-less}
 use Rattle.moves.specs.Moves.{moveCount}
 use Rattle.parts.specs.Parts.{lookupOf}
 use Rattle.parts.specs.declared.Geometry.{Geometry}

@@ -7,23 +7,14 @@ use native.Mathlib.Omega.{arith}
 use borrow.Author.Tests.{eqb-true, eqb-false, leb-true}
 use lib.Dec.{eqb, leb}
 use lib.ListN.{length, getD}
-use Rattle.core_c.specs.Claims.{Bytes, Word}
-use Rattle.core_c.specs.Records.{lowFirst, recordBytes, recordIn}
-use Rattle.core_c.specs.Sessions.{entryByte, entryIn, flagByte, singles, progressBytes, progressIn, sessionBytes, sessionIn, isSession}
+use Rattle.core_c.specs.Claims.{Bytes}
+use Rattle.core_c.specs.Records.{recordBytes, recordIn}
+use Rattle.core_c.specs.Sessions.{entryByte, entryIn, singles, progressBytes, progressIn, sessionBytes, sessionIn, isSession}
 use Rattle.flow.specs.declared.Entry.{Entry}
 use Rattle.flow.specs.declared.Entry.the-variants.{FromOpen, FromProtected}
 use Rattle.image.proofs.Sections.{spread, spread-part, spread-all}
 use Rattle.image.specs.Words.{wordAt}
-
--- what four bytes of a number come to
-abbrev pub low32 : ℕ → ℕ
-low32 v = v % 256 + 256 * (v / 256 % 256) + 65536 * (v / 256 / 256 % 256) + 16777216 * (v / 256 / 256 / 256 % 256)
-
-pub low-same : (v : ℕ) → Word v → low32 v ≡ v
-low-same v h = omega arith
-
-pub low-less : (v : ℕ) → low32 v ≤ v
-low-less v = omega arith
+use Rattle.layout.specs.Bytes.{lowFirst, flagByte}
 
 pub sum-same : (v : ℕ) → v % 256 + 256 * (v / 256) ≡ v
 sum-same v = omega arith
@@ -31,10 +22,6 @@ sum-same v = omega arith
 pub entry-same : (y : Entry) → entryIn (entryByte y) ≡ y
 entry-same FromOpen = refl
 entry-same FromProtected = refl
-
-pub flag-same : (f : Bool) → eqb (flagByte f) 1 ≡ f
-flag-same true = refl
-flag-same false = refl
 
 -- a byte of 0 or 1 is the entry's or the flag's own
 entry-byte : (n : ℕ) → n ≤ 1 → entryByte (entryIn n) ≡ n

@@ -5,12 +5,13 @@ use Prim.Native.Nat.{ℕ}
 use lib.Dec.{eqb}
 use lib.ListN.{length}
 use Rattle.core_c.specs.Outcomes.{outcomeBytes, numberOf}
-use Rattle.core_c.specs.Records.{lowFirst, recordBytes, recordIn}
+use Rattle.core_c.specs.Records.{recordBytes, recordIn}
 use Rattle.core_c.specs.Sessions.{sessionBytes, sessionIn, isSession}
 use Rattle.flow.specs.declared.Answer.{Answer}
 use Rattle.flow.specs.declared.Answer.the-variants.{ResetDone, Transferred}
 use Rattle.hex.specs.Texts.{hexReading}
 use Rattle.hex_writer.specs.Writing.{writeOf, textAfter}
+use Rattle.layout.specs.Bytes.{lowFirst}
 use Rattle.session.specs.Given.{startOf, stepWith}
 use Rattle.session.specs.declared.Given.{Given}
 use Rattle.session.specs.declared.Outcome.the-variants.{Refused}

@@ -12,6 +12,7 @@ use Rattle.flow.specs.declared.Answer.{Answer}
 use Rattle.flow.specs.declared.Packet.{Packet}
 use Rattle.flow.specs.declared.Packet.the-variants.{Xres, LineReset, Read, Write}
 use Rattle.image.specs.declared.Header.{Header}
+use Rattle.layout.specs.Bytes.{Word}
 use Rattle.session.specs.declared.Outcome.{Outcome}
 use Rattle.session.specs.declared.Outcome.the-variants.{Refused, Ask, Told}
 use Rattle.session.specs.declared.Session.{Session}
@@ -19,9 +20,6 @@ use Rattle.session.specs.declared.Session.{Session}
 -- each element is a byte
 abbrev pub Bytes : List ℕ → Type 0
 Bytes bs = (k : ℕ) → getD bs k 0 < 256
-
-abbrev pub Word : ℕ → Type 0
-Word n = n < 4294967296
 
 -- a record has twelve metadata bytes
 abbrev pub Twelve : Header → Type 0

@@ -4,10 +4,10 @@ use mathlib.Core.List.{List, _∷_}
 use Prim.Native.Nat.{ℕ}
 use lib.Dec.{eqb}
 use lib.ListN.{getD}
-use Rattle.core_c.specs.Records.{lowFirst}
 use Rattle.flow.specs.declared.Packet.{Packet}
 use Rattle.flow.specs.declared.Packet.the-variants.{Xres, LineReset, Read, Write}
 use Rattle.image.specs.Words.{wordAt}
+use Rattle.layout.specs.Bytes.{lowFirst}
 use Rattle.session.specs.declared.Outcome.{Outcome}
 use Rattle.session.specs.declared.Outcome.the-variants.{Refused, Ask, Told}
 

@@ -1,13 +1,8 @@
 -- An image's record as 17 bytes. Assumes nothing.
 use mathlib.Core.List.{List, [], _∷_, _++_}
-use Prim.Native.Nat.{ℕ, zero, suc, _+_, _*_, _/_, _%_}
+use Prim.Native.Nat.{ℕ, _+_, _*_, _/_, _%_}
 use lib.ListN.{getD, take, drop}
 use Rattle.image.specs.declared.Header.{Header}
-
--- 'Words have the low byte first': a number in n bytes
-abbrev pub lowFirst : (n value : ℕ) → List ℕ
-lowFirst zero v = []
-lowFirst (suc n) v = v % 256 ∷ lowFirst n (v / 256)
 
 -- part at 0, macros at 1, sum at 2, metadata at 4, level at 16
 unfoldable pub recordBytes : Header → List ℕ

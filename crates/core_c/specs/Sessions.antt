@@ -1,13 +1,14 @@
 -- A session as 45 bytes: its record, four single bytes, six words. Assumes nothing.
-use mathlib.Core.Bool.{Bool, true, false, _&&_, cond}
+use mathlib.Core.Bool.{Bool, _&&_, cond}
 use mathlib.Core.List.{List, [], _∷_, _++_}
 use Prim.Native.Nat.{ℕ}
 use lib.Dec.{eqb, leb}
 use lib.ListN.{getD}
-use Rattle.core_c.specs.Records.{lowFirst, recordBytes, recordIn}
+use Rattle.core_c.specs.Records.{recordBytes, recordIn}
 use Rattle.flow.specs.declared.Entry.{Entry}
 use Rattle.flow.specs.declared.Entry.the-variants.{FromOpen, FromProtected}
 use Rattle.image.specs.Words.{wordAt}
+use Rattle.layout.specs.Bytes.{lowFirst, flagByte}
 use Rattle.session.specs.declared.Progress.{Progress}
 use Rattle.session.specs.declared.Session.{Session}
 
@@ -18,10 +19,6 @@ entryByte FromProtected = 1
 
 abbrev pub entryIn : ℕ → Entry
 entryIn n = cond (eqb n 0) FromOpen FromProtected
-
-abbrev pub flagByte : Bool → ℕ
-flagByte true = 1
-flagByte false = 0
 
 -- entry at 17, finished at 18, number at 19, step at 20
 abbrev pub singles : Session → List ℕ

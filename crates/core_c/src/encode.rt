@@ -1,32 +1,21 @@
 // Records, sessions and outcomes put into a caller's bytes.
 ghost use mathlib.Core.List.{[], _∷_, _++_};
 ghost use mathlib.Core.Path.{_≡_};
-ghost use Prim.Native.Nat.{_+_, _≤_};
+ghost use Prim.Native.Nat.{_≤_};
 ghost use lib.ListN.{length};
 ghost use lib.Seq.{sets};
 ghost use Rattle.core_c.specs.Outcomes.{eightBytes, packetBytes, outcomeBytes, numberOf};
-ghost use Rattle.core_c.specs.Records.{lowFirst, recordBytes};
-ghost use Rattle.core_c.specs.Sessions.{entryByte, flagByte, singles, progressBytes, sessionBytes};
+ghost use Rattle.core_c.specs.Records.{recordBytes};
+ghost use Rattle.core_c.specs.Sessions.{entryByte, singles, progressBytes, sessionBytes};
+ghost use Rattle.layout.specs.Bytes.{lowFirst};
 use flow::Entry;
 use flow::Packet;
 use image::Header;
+use layout::flag_byte;
+use layout::put_word;
 use session::Outcome;
 use session::Progress;
 use session::Session;
-
-// Puts a word, the low byte first.
-pub(crate) fn put32(bytes: &mut [u8], at: usize, word: u32)
-    requires { ⌜ at + 4 ≤ length (now bytes) ⌝ }
-    ensures { λ _. ⌜ now (bytes .exit) ≡ sets (now (bytes .entry)) at (lowFirst 4 word) ⌝ }
-{
-    let second = word / 256;
-    let third = second / 256;
-    let fourth = third / 256;
-    bytes[at] = (word % 256) as u8;
-    bytes[at + 1] = (second % 256) as u8;
-    bytes[at + 2] = (third % 256) as u8;
-    bytes[at + 3] = (fourth % 256) as u8;
-}
 
 // Puts a length, the low byte first.
 pub(crate) fn put_length(bytes: &mut [u8], n: usize)
@@ -94,12 +83,6 @@ fn entry_byte(y: Entry) -> u8
     }
 }
 
-pub(crate) fn flag_byte(b: bool) -> u8
-    ensures { λ r. ⌜ r ≡ flagByte b ⌝ }
-{
-    if b { 1 } else { 0 }
-}
-
 // Puts the single bytes of a session.
 fn put_singles(bytes: &mut [u8], s: Session)
     requires { ⌜ length (now bytes) ≡ 45 ⌝ }
@@ -117,11 +100,11 @@ fn put_progress(bytes: &mut [u8], p: Progress)
     requires { ⌜ length (now bytes) ≡ 45 ⌝ }
     ensures { λ _. ⌜ now (bytes .exit) ≡ sets (now (bytes .entry)) 21 (progressBytes p) ⌝ }
 {
-    put32(bytes, 21, p.at);
-    put32(bytes, 25, p.waits);
-    put32(bytes, 29, p.polls);
-    put32(bytes, 33, p.attempts);
-    put32(bytes, 37, p.kept);
+    put_word(bytes, 21, p.at);
+    put_word(bytes, 25, p.waits);
+    put_word(bytes, 29, p.polls);
+    put_word(bytes, 33, p.attempts);
+    put_word(bytes, 37, p.kept);
 }
 
 // Puts a session.
@@ -134,7 +117,7 @@ pub(crate) fn put_session(bytes: &mut [u8], s: Session)
     put_record(bytes, h);
     put_singles(bytes, s);
     put_progress(bytes, p);
-    put32(bytes, 41, s.transfers);
+    put_word(bytes, 41, s.transfers);
 }
 
 // Puts the eight bytes of an outcome.
@@ -146,7 +129,7 @@ fn put_eight(bytes: &mut [u8], kind: u8, first: u8, second: u8, word: u32)
     bytes[1] = first;
     bytes[2] = second;
     bytes[3] = 0;
-    put32(bytes, 4, word);
+    put_word(bytes, 4, word);
 }
 
 // Puts a request.

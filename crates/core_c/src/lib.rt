@@ -3,9 +3,6 @@ ghost use mathlib.Core.Path.{_≡_};
 ghost use lib.ListN.{length};
 ghost use Rattle.core_c.specs.Calls.{answerIn, givenInto, stepInto, readCall, writeCall, startCall, stepCall};
 
-mod board;
-mod board_in;
-mod board_out;
 mod decode;
 mod encode;
 

@@ -1,10 +1,7 @@
 -- Four bytes and a word fill eight. Assumes nothing.
 use mathlib.Core.Path.{sym, ap, _∙_}
-use native.Mathlib.Omega.{arith}
-use lib.ListN.{length, length-set}
-use lib.Seq.{length-sets}
-use Rattle.core_c.specs.Outcomes.{eightBytes}
-use Rattle.core_c.proofs.Putting.{sets-whole}
+use lib.ListN.{length}
+use Rattle.core_c.proofs.Putting.{eight-put}
 use borrow.Author.Needs.{needs}
 use Rattle.core_c.proofs.encode.put_eight.Statement.{statement}
 use Rattle.core_c.proofs.encode.put_eight.Tie as tie
@@ -12,12 +9,13 @@ use Rattle.core_c.proofs.encode.put_eight.Tie as tie
 same-length : tie.Need-same-length
 same-length c =
     let a = c .before .before .before .before .before .args in
-    ap length (c .before .before .put32 .ensures) ∙ length-sets (a .bytes .now) 0 (eightBytes (a .kind) (a .first) (a .second) (a .word))
+    let n = c .before .before .before .before .before .pre in
+    ap length (eight-put (a .bytes .now) _ (a .kind) (a .first) (a .second) (a .word) n (c .before .before .put-word .ensures)) ∙ sym n
 
 returns : tie.Need-returns
 returns c =
     let a = c .before .before .before .before .before .args in
-    c .before .before .put32 .ensures ∙ sets-whole (a .bytes .now) (eightBytes (a .kind) (a .first) (a .second) (a .word)) (sym (c .before .before .before .before .before .pre))
+    eight-put (a .bytes .now) _ (a .kind) (a .first) (a .second) (a .word) (c .before .before .before .before .before .pre) (c .before .before .put-word .ensures)
 
 pub put-eight-spec : {M : Type 1} → statement M
 put-eight-spec =
@@ -27,6 +25,6 @@ put-eight-spec =
     (λ c. search needs)
     (λ c. search needs)
     (λ c. search needs)
-    (λ c κs. simp length-set (omega arith))
+    (λ c κs. search needs)
     same-length
     returns)

@@ -4,8 +4,9 @@ use Prim.Native.Nat.{_-_, _≤_}
 use native.Mathlib.Omega.{arith}
 use lib.ListN.{length, length-set}
 use lib.Seq.{sets}
-use Rattle.core_c.specs.Records.{lowFirst}
-use Rattle.core_c.proofs.Putting.{sets-whole, put-more}
+use Rattle.layout.proofs.Bytes.{sets-whole}
+use Rattle.layout.specs.Bytes.{lowFirst}
+use Rattle.core_c.proofs.Putting.{put-more}
 use Rattle.core_c.proofs.encode.put_length.Statement.{statement}
 use Rattle.core_c.proofs.encode.put_length.Tie as tie
 

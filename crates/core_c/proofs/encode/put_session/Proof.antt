@@ -8,7 +8,7 @@ returns : tie.Need-returns
 returns c =
     let a = c .before .before .before .before .before .before .before .before .before .before .before .before .before .before .before .before .before .before .before .args in
     let r = c .before .before .before .before .before .before .before .before .before .before .before .before .before .before .put-record .ensures in
-    session-put (a .bytes .now) _ _ _ _ (a .s) (c .before .before .before .before .before .before .before .before .before .before .before .before .before .before .before .before .before .before .before .pre) (r .1) (r .0) (c .before .before .before .before .before .before .before .before .before .before .put-singles .ensures) (c .before .before .before .before .before .before .put-progress .ensures) (c .before .before .put32 .ensures)
+    session-put (a .bytes .now) _ _ _ _ (a .s) (c .before .before .before .before .before .before .before .before .before .before .before .before .before .before .before .before .before .before .before .pre) (r .1) (r .0) (c .before .before .before .before .before .before .before .before .before .before .put-singles .ensures) (c .before .before .before .before .before .before .put-progress .ensures) (c .before .before .put-word .ensures)
 
 pub put-session-spec : {M : Type 1} → statement M
 put-session-spec =

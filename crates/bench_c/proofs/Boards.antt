@@ -1,0 +1,222 @@
+-- Laws of putting the bench board into bytes, and of its call. Assumes nothing.
+use mathlib.Core.Bool.{Bool, true, false, _&&_, not, cond}
+use mathlib.Core.List.{List, [], _∷_, _++_}
+use mathlib.Core.Path.{_≡_, refl, sym, ap, _∙_}
+use Prim.Native.Nat.{ℕ, suc, _+_, _%_, _≤_}
+use native.Mathlib.Omega.{arith}
+use borrow.Author.Tests.{eqb-true, not-true, not-false}
+use lib.Dec.{eqb}
+use lib.ListN.{length, set, length-set, length-append}
+use lib.Seq.{sets, length-sets}
+use Rattle.bench_board.specs.Board.{Buffers, Left, lent, targetOf, runningOf, siliconOf}
+use Rattle.bench_board.specs.Meets.{listsOf, metOf}
+use Rattle.bench_board.specs.declared.CallOutcome.{CallOutcome}
+use Rattle.bench_board.specs.declared.LineEvent.{LineEvent}
+use Rattle.bench_board.specs.declared.Met.{Met}
+use Rattle.bench_board.specs.declared.Registers.{Registers}
+use Rattle.bench_board.specs.declared.Running.{Running}
+use Rattle.bench_board.specs.declared.Running.the-variants.{Idle, Busy}
+use Rattle.bench_board.specs.declared.Silicon.{Silicon}
+use Rattle.bench_c.specs.BoardBytes.{outcomeAt, isOutcome, registersIn, isBoard, eventIn, isEvent, packetIn, isPacket, siliconBytes, runBytes, runningBytes, wordsBytes, boardBytes, replyBytes, answerBytes, usedOf, emptied, RunningPut, BoardPut}
+use Rattle.bench_c.specs.BoardCalls.{Bench, benchOf, Benched, benched, benchAfter, meetInto, isBench, sizesFit, meetFor, meetCall}
+use Rattle.flow.specs.Exchange as Flow
+use Rattle.flow.specs.Target as Target
+use Rattle.flow.specs.Target.{idle, busy}
+use Rattle.flow.specs.declared.Answer.{Answer}
+use Rattle.flow.specs.declared.Answer.the-variants.{ResetDone, Transferred}
+use Rattle.flow.specs.declared.Packet.{Packet}
+use Rattle.flow.specs.declared.Reply.{Reply}
+use Rattle.layout.proofs.Bytes.{sets-whole, put-in}
+use Rattle.layout.specs.Bytes.{lowFirst, flagByte, wordPut}
+use Rattle.parts.proofs.Table.{both}
+use Rattle.parts.specs.Parts.{lookupOf}
+use Rattle.parts.specs.declared.Geometry.{Geometry}
+use Rattle.parts.specs.declared.Lookup.{Lookup}
+use Rattle.parts.specs.declared.Lookup.the-variants.{Found}
+
+-- ---- putting
+
+pub pair-put : (l : List ℕ) (at a b : ℕ) → set (set l at a) (at + 1) b ≡ sets l at (a ∷ b ∷ [])
+pair-put l at a b =
+    let e : at + 1 ≡ suc at = omega arith in
+    rw e
+
+pub flagged-put : (l m : List ℕ) (at f w : ℕ) → at + 5 ≤ length l → m ≡ wordPut (set l at f) (at + 1) w → m ≡ sets l at (f ∷ lowFirst 4 w)
+flagged-put l m at f w n h =
+    let e : at + 1 ≡ suc at = omega arith in
+    let g = put-in (set l at f) m (length l) (at + 1) w (length-set l at f) (omega arith) h .0 in
+    rw e at g
+
+-- stores one after the other
+module _ (b b₁ b₂ b₃ : List ℕ) (i j k : ℕ) (u v w : List ℕ) where
+  three : b₁ ≡ sets b i u → b₂ ≡ sets b₁ j v → b₃ ≡ sets b₂ k w → b₃ ≡ sets (sets (sets b i u) j v) k w
+  three e f g = g ∙ ap (λ (l : List ℕ). sets l k w) (f ∙ ap (λ (l : List ℕ). sets l j v) e)
+
+  four : (b₄ : List ℕ) (n : ℕ) (x : List ℕ) → b₁ ≡ sets b i u → b₂ ≡ sets b₁ j v → b₃ ≡ sets b₂ k w → b₄ ≡ sets b₃ n x
+      → b₄ ≡ sets (sets (sets (sets b i u) j v) k w) n x
+  four b₄ n x e f g h = h ∙ ap (λ (l : List ℕ). sets l n x) (three e f g)
+
+module _ (b b₁ b₂ b₃ : List ℕ) where
+  pub silicon-put : (b₄ : List ℕ) (s : Silicon) → length b ≡ 46 → b₁ ≡ wordPut b 0 (s .idcode) → b₂ ≡ sets b₁ 4 (s .high ∷ s .low ∷ [])
+      → b₃ ≡ sets b₂ 6 (s .revision ∷ s .family ∷ [])
+      → b₄ ≡ wordPut b₃ 8 (s .«privileged_sum»)
+      → b₄ ≡ sets b 0 (siliconBytes (siliconOf s))
+  silicon-put b₄ s n e f g h =
+      let u = s .high ∷ s .low ∷ [] in
+      let v = s .revision ∷ s .family ∷ [] in
+      let p = put-in b b₁ 46 0 (s .idcode) n (omega arith) e in
+      let n₃ = ap length g ∙ length-sets b₂ 6 v ∙ ap length f ∙ length-sets b₁ 4 u ∙ p .1 in
+      four b b₁ b₂ b₃ 0 4 6 (lowFirst 4 (s .idcode)) u v b₄ 8 (lowFirst 4 (s .«privileged_sum»)) (p .0) f g
+      (put-in b₃ b₄ 46 8 (s .«privileged_sum») n₃ (omega arith) h .0)
+
+  pub words-put : (b₄ b₅ : List ℕ) (r : Registers) → length b ≡ 46 → b₁ ≡ wordPut b 14 (r .sysarg) → b₂ ≡ wordPut b₁ 18 (r .sysreq)
+      → b₃ ≡ wordPut b₂ 22 (r .«test_mode»)
+      → b₄ ≡ wordPut b₃ 26 (r .tar)
+      → b₅ ≡ wordPut b₄ 30 (r .posted)
+      → b₅ ≡ sets b 14 (wordsBytes (r .sysarg) (r .sysreq) (r .«test_mode») (r .tar) (r .posted))
+  words-put b₄ b₅ r n e f g h o =
+      let s₁ = put-in b b₁ 46 14 (r .sysarg) n (omega arith) e in
+      let s₂ = put-in b₁ b₂ 46 18 (r .sysreq) (s₁ .1) (omega arith) f in
+      let s₃ = put-in b₂ b₃ 46 22 (r .«test_mode») (s₂ .1) (omega arith) g in
+      let s₄ = put-in b₃ b₄ 46 26 (r .tar) (s₃ .1) (omega arith) h in
+      put-in b₄ b₅ 46 30 (r .posted) (s₄ .1) (omega arith) o .0
+      ∙ ap (λ (l : List ℕ). sets l 30 (lowFirst 4 (r .posted)))
+      (four b b₁ b₂ b₃ 14 18 22 (lowFirst 4 (r .sysarg)) (lowFirst 4 (r .sysreq)) (lowFirst 4 (r .«test_mode»)) b₄ 26 (lowFirst 4 (r .tar)) (s₁ .0) (s₂ .0) (s₃ .0) (s₄ .0))
+
+  pub run-put : (state reads succeeds sysarg level number : ℕ) → b₁ ≡ sets b 34 (state ∷ lowFirst 4 reads) → b₂ ≡ sets b₁ 39 (succeeds ∷ lowFirst 4 sysarg)
+      → b₃ ≡ sets b₂ 44 (level ∷ number ∷ [])
+      → b₃ ≡ sets b 34 (runBytes state reads succeeds sysarg level number)
+  run-put state reads succeeds sysarg level number =
+      three b b₁ b₂ b₃ 34 39 44 (state ∷ lowFirst 4 reads) (succeeds ∷ lowFirst 4 sysarg) (level ∷ number ∷ [])
+
+  pub reply-row : (reset ack parity used word : ℕ) → length b ≡ 8 → b₁ ≡ sets b 0 (reset ∷ ack ∷ []) → b₂ ≡ sets b₁ 2 (parity ∷ used ∷ [])
+      → b₃ ≡ wordPut b₂ 4 word
+      → b₃ ≡ replyBytes reset ack parity used word
+  reply-row reset ack parity used word n e f g =
+      let u = reset ∷ ack ∷ [] in
+      let v = parity ∷ used ∷ [] in
+      let n₂ = ap length f ∙ length-sets b₁ 2 v ∙ ap length e ∙ length-sets b 0 u ∙ n in
+      three b b₁ b₂ b₃ 0 2 4 u v (lowFirst 4 word) e f (put-in b₂ b₃ 8 4 word n₂ (omega arith) g .0)
+      ∙ sets-whole b (replyBytes reset ack parity used word) (sym n)
+
+running-length : (r : Target.Running) → length (runningBytes r) ≡ 12
+running-length idle = refl
+running-length (busy n s r c) = refl
+
+board-length : (t : Target.Target) → length (boardBytes t) ≡ 46
+unfolding boardBytes
+board-length t =
+    let front = siliconBytes (t .silicon) ++ (t .memory .stored ∷ t .effect ∷ wordsBytes (t .sysarg) (t .sysreq) (t .testMode) (t .tar) (t .posted)) in
+    length-append front (runningBytes (t .running)) ∙ ap (λ (n : ℕ). 34 + n) (running-length (t .running))
+
+-- the IDs, the levels, the words, what is under way
+module _ (b b₁ b₂ b₃ b₄ : List ℕ) (r : Registers) where
+  pub board-put : length b ≡ 46 → b₁ ≡ sets b 0 (siliconBytes (siliconOf (r .silicon))) → b₂ ≡ sets b₁ 12 (r .stored % 16 ∷ r .effect ∷ [])
+      → b₃ ≡ sets b₂ 14 (wordsBytes (r .sysarg) (r .sysreq) (r .«test_mode») (r .tar) (r .posted))
+      → ((x : Left) → b₄ ≡ sets b₃ 34 (runningBytes (runningOf x (r .running))))
+      → BoardPut r b₄
+  unfolding boardBytes
+  board-put n e₁ e₂ e₃ e₄ x d =
+      let t = targetOf x r d in
+      let whole : b₄ ≡ sets b 0 (boardBytes t) = four b b₁ b₂ b₃ 0 12 14 (siliconBytes (siliconOf (r .silicon))) (r .stored % 16 ∷ r .effect ∷ []) (wordsBytes (r .sysarg) (r .sysreq) (r .«test_mode») (r .tar) (r .posted)) b₄ 34 (runningBytes (runningOf x (r .running))) e₁ e₂ e₃ (e₄ x) in
+      whole ∙ sets-whole b (boardBytes t) (board-length t ∙ sym n)
+
+module _ (l m : List ℕ) (r : Running) where
+  pub idle-put : r ≡ Idle → m ≡ sets l 34 (runBytes 0 0 0 0 0 0) → RunningPut l r m
+  idle-put e h x = h ∙ ap (λ (k : Running). sets l 34 (runningBytes (runningOf x k))) (sym e)
+
+  pub busy-put : (o : CallOutcome) (c s v : ℕ) → r ≡ Busy o c → s ≡ flagByte (o .succeeds) → v ≡ flagByte (o .«new_level»)
+      → m ≡ sets l 34 (runBytes 1 (o .«busy_reads») s (o .sysarg) v c)
+      → RunningPut l r m
+  busy-put o c s v e f g h x =
+      h
+      ∙ ap (λ (n : ℕ). sets l 34 (runBytes 1 (o .«busy_reads») n (o .sysarg) v c)) f
+      ∙ ap (λ (n : ℕ). sets l 34 (runBytes 1 (o .«busy_reads») (flagByte (o .succeeds)) (o .sysarg) n c)) g
+      ∙ ap (λ (k : Running). sets l 34 (runningBytes (runningOf x k))) (sym e)
+
+module _ (m : List ℕ) (a : Answer) (u w : ℕ) where
+  pub reset-put : a ≡ ResetDone → u ≡ w → m ≡ replyBytes 1 0 0 u 0 → m ≡ answerBytes a w
+  reset-put e f h = h ∙ ap (λ (n : ℕ). replyBytes 1 0 0 n 0) f ∙ ap (λ (y : Answer). answerBytes y w) (sym e)
+
+  pub reply-put : (r : Reply) → a ≡ Transferred r → u ≡ w → m ≡ replyBytes 0 (r .ack) (r .parity) u (r .word) → m ≡ answerBytes a w
+  reply-put r e f h = h ∙ ap (λ (n : ℕ). replyBytes 0 (r .ack) (r .parity) n (r .word)) f ∙ ap (λ (y : Answer). answerBytes y w) (sym e)
+
+-- ---- the call
+
+used-same : {A B : Type 0} (l c : Bool) (a : A) (b : B) → usedOf l c ≡ usedOf (emptied (cond l [] (a ∷ []))) (emptied (cond c [] (b ∷ [])))
+used-same true true a b = refl
+used-same true false a b = refl
+used-same false true a b = refl
+used-same false false a b = refl
+
+module _ (g : Geometry) (p : Packet) (e : LineEvent) (o : CallOutcome) (x : Left) (b b′ : Bench) (r : Registers) (m : Met) where
+  pub met-bench : r ≡ registersIn (b .board)
+      → metOf x e o m (lent (b′ .flash) (b′ .locks) (b′ .latch) (b′ .params))
+      ≡ Flow.meet g p (listsOf x e o) (targetOf x r (lent (b .flash) (b .locks) (b .latch) (b .params)))
+      → BoardPut (m .registers) (b′ .board)
+      → b′ .answer ≡ answerBytes (m .answer) (usedOf (m .«line_used») (m .«call_used»))
+      → b′ ≡ meetInto g p e o x b
+  unfolding benchAfter
+  met-bench found met put says =
+      ap (λ (n : List ℕ). benchOf n (b′ .flash) (b′ .locks) (b′ .latch) (b′ .params) (b′ .answer)) (put x (lent (b′ .flash) (b′ .locks) (b′ .latch) (b′ .params)))
+      ∙ ap (λ (n : List ℕ). benchOf (boardBytes (targetOf x (m .registers) (lent (b′ .flash) (b′ .locks) (b′ .latch) (b′ .params)))) (b′ .flash) (b′ .locks) (b′ .latch) (b′ .params) n) (says ∙ ap (answerBytes (m .answer)) (used-same (m .«line_used») (m .«call_used») _ _))
+      ∙ ap benchAfter met
+      ∙ ap (λ (q : Registers). benchAfter (Flow.meet g p (listsOf x e o) (targetOf x q (lent (b .flash) (b .locks) (b .latch) (b .params))))) found
+
+-- a test that said no, one that said yes
+pub says-no : (r t : Bool) → r ≡ t → not r ≡ true → t ≡ false
+says-no r t e h = sym e ∙ not-true r h
+
+pub says-yes : (r t : Bool) → r ≡ t → not r ≡ false → t ≡ true
+says-yes r t e h = sym e ∙ not-false r h
+
+module _ (b e c q : List ℕ) where
+  pub no-board : (t : Bool) → t ≡ isBoard b → not t ≡ true → false ≡ isBench b e c q
+  no-board t k h = rw (says-no t (isBoard b) k h)
+
+  pub no-event : (t u : Bool) → t ≡ isBoard b → not t ≡ false → u ≡ isEvent e → not u ≡ true → false ≡ isBench b e c q
+  no-event t u k h l i = rw (says-yes t (isBoard b) k h, says-no u (isEvent e) l i)
+
+  pub no-call : (t u v : Bool) → t ≡ isBoard b → not t ≡ false → u ≡ isEvent e → not u ≡ false → v ≡ isOutcome c 0 → not v ≡ true
+      → false ≡ isBench b e c q
+  no-call t u v k h l i m j = rw (says-yes t (isBoard b) k h, says-yes u (isEvent e) l i, says-no v (isOutcome c 0) m j)
+
+  pub by-request : (t u v w : Bool) → t ≡ isBoard b → not t ≡ false → u ≡ isEvent e → not u ≡ false → v ≡ isOutcome c 0 → not v ≡ false → w ≡ isPacket q
+      → w ≡ isBench b e c q
+  by-request t u v w k h l i m j n =
+      rw (says-yes t (isBoard b) k h, says-yes u (isEvent e) l i, says-yes v (isOutcome c 0) m j) n
+
+pub sized : (b e c q a : List ℕ) → sizesFit b e c q a ≡ true
+    → (length b ≡ 46) × ((length e ≡ 11) × ((length c ≡ 10) × ((length q ≡ 8) × (length a ≡ 8))))
+sized b e c q a h =
+    let s = both (eqb (length b) 46) _ h in
+    let t = both (eqb (length e) 11) _ (s .1) in
+    let u = both (eqb (length c) 10) _ (t .1) in
+    let v = both (eqb (length q) 8) _ (u .1) in
+    (eqb-true _ _ (s .0), (eqb-true _ _ (t .0), (eqb-true _ _ (u .0), (eqb-true _ _ (v .0), eqb-true _ _ (v .1)))))
+
+module _ (g : Geometry) (e c q : List ℕ) (x : Left) (b : Bench) where
+  pub meet-other : isBench (b .board) e c q ≡ false → benched 13 b ≡ meetFor (Found g) e c q x b
+  meet-other h = rw h
+
+  pub meet-taken : (p : Packet) (v : LineEvent) (o : CallOutcome) (b′ : Bench) → isBench (b .board) e c q ≡ true → p ≡ packetIn q → v ≡ eventIn e
+      → o ≡ outcomeAt c 0
+      → b′ ≡ meetInto g p v o x b
+      → benched 0 b′ ≡ meetFor (Found g) e c q x b
+  meet-taken p v o b′ h ep ev eo k =
+      let k′ : b′ ≡ meetInto g (packetIn q) (eventIn e) (outcomeAt c 0) x b
+      = k
+      ∙ ap (λ (y : Packet). meetInto g y v o x b) ep
+      ∙ ap (λ (y : LineEvent). meetInto g (packetIn q) y o x b) ev
+      ∙ ap (λ (y : CallOutcome). meetInto g (packetIn q) (eventIn e) y x b) eo in
+      ap (benched 0) k′ ∙ rw h
+
+module _ (part macros : ℕ) (e c q : List ℕ) (x : Left) (b : Bench) where
+  pub call-wrong : sizesFit (b .board) e c q (b .answer) ≡ false → benched 12 b ≡ meetCall part macros e c q x b
+  unfolding meetCall
+  call-wrong h = rw h
+
+  pub call-right : (l : Lookup) (z : Benched) → sizesFit (b .board) e c q (b .answer) ≡ true → lookupOf part macros ≡ l → z ≡ meetFor l e c q x b
+      → z ≡ meetCall part macros e c q x b
+  unfolding meetCall
+  call-right l z h f k = k ∙ ap (λ (y : Lookup). meetFor y e c q x b) (sym f) ∙ rw h

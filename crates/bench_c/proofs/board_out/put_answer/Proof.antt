@@ -1,0 +1,27 @@
+-- A reset or a reply. Assumes nothing.
+use Rattle.bench_c.proofs.Boards.{reset-put, reply-put}
+use borrow.Author.Needs.{needs}
+use Rattle.bench_c.proofs.board_out.put_answer.Statement.{statement}
+use Rattle.bench_c.proofs.board_out.put_answer.Tie as tie
+
+returns : tie.Need-returns
+returns c =
+    reset-put _ (c .before .before .before .before .before .before .before .before .args .a) _ _ (c .before .before .before .before .enum-told .given .1) (c .before .before .before .before .before .before .used-of .ensures) (c .before .before .put-reply .ensures)
+
+returns-2 : tie.Need-returns-2
+returns-2 c =
+    reply-put _ (c .before .before .before .before .before .before .before .before .before .args .a) _ _ _ (c .before .before .before .before .before .a .given .1) (c .before .before .before .before .before .before .before .used-of .ensures) (c .before .before .put-reply2 .ensures)
+
+pub put-answer-spec : {M : Type 1} → statement M
+put-answer-spec =
+    tie.close
+    (tie.spec
+    (λ c κs. search needs)
+    (λ c. search needs)
+    (λ c κs. search needs)
+    (λ c. search needs)
+    (λ c κs. search needs)
+    (λ c. search needs)
+    returns
+    (λ c. search needs)
+    returns-2)

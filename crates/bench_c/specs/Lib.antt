@@ -1,0 +1,3 @@
+pub mod BoardBytes
+pub mod BoardCalls
+pub mod BoardClaims

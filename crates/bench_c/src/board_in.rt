@@ -1,0 +1,176 @@
+// The bench board and what is handed in with a request, found in a caller's bytes.
+ghost use mathlib.Core.Path.{_≡_};
+ghost use Prim.Native.Nat.{_+_, _≤_};
+ghost use lib.ListN.{length};
+ghost use Rattle.bench_c.specs.BoardBytes.{outcomeAt, isOutcome, siliconIn, runningIn, registersIn, isBoard, fateIn, eventIn, isEvent, packetIn, isPacket};
+use bench_board::CallOutcome;
+use bench_board::Fate;
+use bench_board::LineEvent;
+use bench_board::Registers;
+use bench_board::Running;
+use bench_board::Silicon;
+use flow::Packet;
+use flow::Reply;
+
+// How a call will go, from a place on.
+pub(crate) fn outcome_at(bytes: &[u8], at: usize) -> CallOutcome
+    requires { ⌜ at + 10 ≤ length (now bytes) ⌝ }
+    ensures { λ r. ⌜ r ≡ outcomeAt (now (bytes .entry)) at ⌝ }
+{
+    let reads = image::word_at(bytes, at);
+    let sysarg = image::word_at(bytes, at + 5);
+    CallOutcome {
+        busy_reads: reads,
+        succeeds: bytes[at + 4] == 1,
+        sysarg: sysarg,
+        new_level: bytes[at + 9] == 1,
+    }
+}
+
+pub(crate) fn is_outcome(bytes: &[u8], at: usize) -> bool
+    requires { ⌜ at + 10 ≤ length (now bytes) ⌝ }
+    ensures { λ r. ⌜ r ≡ isOutcome (now (bytes .entry)) at ⌝ }
+{
+    if bytes[at + 4] <= 1 {
+        return bytes[at + 9] <= 1;
+    }
+    false
+}
+
+fn silicon_in(bytes: &[u8]) -> Silicon
+    requires { ⌜ length (now bytes) ≡ 46 ⌝ }
+    ensures { λ r. ⌜ r ≡ siliconIn (now (bytes .entry)) ⌝ }
+{
+    let idcode = image::word_at(bytes, 0);
+    let sum = image::word_at(bytes, 8);
+    Silicon {
+        idcode: idcode,
+        high: bytes[4],
+        low: bytes[5],
+        revision: bytes[6],
+        family: bytes[7],
+        privileged_sum: sum,
+    }
+}
+
+fn running_in(bytes: &[u8]) -> Running
+    requires { ⌜ length (now bytes) ≡ 46 ⌝ }
+    ensures { λ r. ⌜ r ≡ runningIn (now (bytes .entry)) ⌝ }
+{
+    if bytes[34] == 0 {
+        return Running::Idle;
+    }
+    let o = outcome_at(bytes, 35);
+    Running::Busy(o, bytes[45])
+}
+
+// The registers that a board's bytes hold.
+pub(crate) fn registers_in(bytes: &[u8]) -> Registers
+    requires { ⌜ length (now bytes) ≡ 46 ⌝ }
+    ensures { λ r. ⌜ r ≡ registersIn (now (bytes .entry)) ⌝ }
+{
+    let silicon = silicon_in(bytes);
+    let running = running_in(bytes);
+    let sysarg = image::word_at(bytes, 14);
+    let sysreq = image::word_at(bytes, 18);
+    let test_mode = image::word_at(bytes, 22);
+    let tar = image::word_at(bytes, 26);
+    let posted = image::word_at(bytes, 30);
+    Registers {
+        silicon: silicon,
+        stored: bytes[12],
+        effect: bytes[13],
+        sysarg: sysarg,
+        sysreq: sysreq,
+        test_mode: test_mode,
+        tar: tar,
+        posted: posted,
+        running: running,
+    }
+}
+
+// Whether bytes are ones that a board has.
+pub(crate) fn is_board(bytes: &[u8]) -> bool
+    requires { ⌜ length (now bytes) ≡ 46 ⌝ }
+    ensures { λ r. ⌜ r ≡ isBoard (now (bytes .entry)) ⌝ }
+{
+    if bytes[34] == 0 {
+        return true;
+    }
+    if bytes[34] == 1 {
+        return is_outcome(bytes, 35);
+    }
+    false
+}
+
+fn fate_in(n: u8) -> Fate
+    ensures { λ r. ⌜ r ≡ fateIn n ⌝ }
+{
+    if n == 0 {
+        return Fate::Clean;
+    }
+    if n == 1 {
+        return Fate::Waits;
+    }
+    if n == 2 {
+        return Fate::Faults;
+    }
+    if n == 3 {
+        return Fate::Garbles;
+    }
+    Fate::Silent(n == 5)
+}
+
+// The event that bytes hold.
+pub(crate) fn event_in(bytes: &[u8]) -> LineEvent
+    requires { ⌜ length (now bytes) ≡ 11 ⌝ }
+    ensures { λ r. ⌜ r ≡ eventIn (now (bytes .entry)) ⌝ }
+{
+    let fate = fate_in(bytes[0]);
+    let word = image::word_at(bytes, 2);
+    let other = image::word_at(bytes, 7);
+    LineEvent {
+        fate: fate,
+        junk: Reply {
+            ack: bytes[1],
+            word: word,
+            parity: bytes[6],
+        },
+        other: other,
+    }
+}
+
+pub(crate) fn is_event(bytes: &[u8]) -> bool
+    requires { ⌜ length (now bytes) ≡ 11 ⌝ }
+    ensures { λ r. ⌜ r ≡ isEvent (now (bytes .entry)) ⌝ }
+{
+    bytes[0] <= 5
+}
+
+// The request that an outcome's bytes hold.
+pub(crate) fn packet_in(bytes: &[u8]) -> Packet
+    requires { ⌜ length (now bytes) ≡ 8 ⌝ }
+    ensures { λ r. ⌜ r ≡ packetIn (now (bytes .entry)) ⌝ }
+{
+    if bytes[0] == 1 {
+        return Packet::Xres;
+    }
+    if bytes[0] == 2 {
+        return Packet::LineReset;
+    }
+    if bytes[0] == 3 {
+        return Packet::Read(bytes[1]);
+    }
+    let word = image::word_at(bytes, 4);
+    Packet::Write(bytes[1], word, bytes[2])
+}
+
+pub(crate) fn is_packet(bytes: &[u8]) -> bool
+    requires { ⌜ length (now bytes) ≡ 8 ⌝ }
+    ensures { λ r. ⌜ r ≡ isPacket (now (bytes .entry)) ⌝ }
+{
+    if 1 <= bytes[0] {
+        return bytes[0] <= 4;
+    }
+    false
+}

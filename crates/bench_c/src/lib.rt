@@ -1,0 +1,188 @@
+// The bench board as a call, for tests of hosts: registers, events and answers stand in the caller's bytes (include/halzuqeen_bench.h).
+ghost use mathlib.Core.Bool.{true};
+ghost use mathlib.Core.Path.{_≡_};
+ghost use lib.ListN.{length};
+ghost use Rattle.bench_board.specs.Board.{left};
+ghost use Rattle.bench_c.specs.BoardCalls.{benchOf, benched, isBench, sizesFit, meetInto, meetFor, meetCall};
+
+mod board_in;
+mod board_out;
+
+use bench_board::CallOutcome;
+use bench_board::LineEvent;
+use board_in::event_in;
+use board_in::is_board;
+use board_in::is_event;
+use board_in::is_outcome;
+use board_in::is_packet;
+use board_in::outcome_at;
+use board_in::packet_in;
+use board_in::registers_in;
+use board_out::put_answer;
+use board_out::put_board;
+use flow::Packet;
+use parts::Geometry;
+use parts::Lookup;
+
+// Whether all that is of a fixed size is of it.
+fn sizes_fit(board: &[u8], event: &[u8], call: &[u8], request: &[u8], answer: &[u8]) -> bool
+    ensures { λ r. ⌜ r ≡ sizesFit (now (board .entry)) (now (event .entry)) (now (call .entry)) (now (request .entry)) (now (answer .entry)) ⌝ }
+{
+    if board.len() != 46 {
+        return false;
+    }
+    if event.len() != 11 {
+        return false;
+    }
+    if call.len() != 10 {
+        return false;
+    }
+    if request.len() != 8 {
+        return false;
+    }
+    answer.len() == 8
+}
+
+// Whether bytes are ones that a board, an event, a call and a request have.
+fn is_bench(board: &[u8], event: &[u8], call: &[u8], request: &[u8]) -> bool
+    requires { ⌜ (length (now board) ≡ 46) × ((length (now event) ≡ 11) × ((length (now call) ≡ 10) × (length (now request) ≡ 8))) ⌝ }
+    ensures { λ r. ⌜ r ≡ isBench (now (board .entry)) (now (event .entry)) (now (call .entry)) (now (request .entry)) ⌝ }
+{
+    if !is_board(board) {
+        return false;
+    }
+    if !is_event(event) {
+        return false;
+    }
+    if !is_outcome(call, 0) {
+        return false;
+    }
+    is_packet(request)
+}
+
+// A packet met, on bytes of a board's length.
+fn meet_on(
+    g: Geometry,
+    board: &mut [u8],
+    flash: &mut [u8],
+    locks: &mut [u8],
+    latch: &mut [u8],
+    params: &mut [u32],
+    left_flash: &[u8],
+    left_locks: &[u8],
+    left_latch: &[u8],
+    p: Packet,
+    e: LineEvent,
+    o: CallOutcome,
+    answer: &mut [u8],
+)
+    requires { ⌜ (length (now board) ≡ 46) × (length (now answer) ≡ 8) ⌝ }
+    ensures { λ _. ⌜ benchOf (now (board .exit)) (now (flash .exit)) (now (locks .exit)) (now (latch .exit)) (now (params .exit)) (now (answer .exit)) ≡ meetInto g p e o (left (now («left_flash» .entry)) (now («left_locks» .entry)) (now («left_latch» .entry))) (benchOf (now (board .entry)) (now (flash .entry)) (now (locks .entry)) (now (latch .entry)) (now (params .entry)) (now (answer .entry))) ⌝ }
+{
+    let r = registers_in(board);
+    let m = bench_board::meet(
+        g,
+        r,
+        flash,
+        locks,
+        latch,
+        params,
+        left_flash,
+        left_locks,
+        left_latch,
+        p,
+        e,
+        o,
+    );
+    let registers = m.registers;
+    let a = m.answer;
+    put_board(board, registers);
+    put_answer(answer, a, m.line_used, m.call_used);
+}
+
+// A request met, or 13.
+fn meet_in(
+    g: Geometry,
+    board: &mut [u8],
+    flash: &mut [u8],
+    locks: &mut [u8],
+    latch: &mut [u8],
+    params: &mut [u32],
+    left_flash: &[u8],
+    left_locks: &[u8],
+    left_latch: &[u8],
+    event: &[u8],
+    call: &[u8],
+    request: &[u8],
+    answer: &mut [u8],
+) -> u32
+    requires { ⌜ sizesFit (now board) (now event) (now call) (now request) (now answer) ≡ true ⌝ }
+    ensures { λ r. ⌜ benched r (benchOf (now (board .exit)) (now (flash .exit)) (now (locks .exit)) (now (latch .exit)) (now (params .exit)) (now (answer .exit))) ≡ meetFor (Lookup.Found g) (now (event .entry)) (now (call .entry)) (now (request .entry)) (left (now («left_flash» .entry)) (now («left_locks» .entry)) (now («left_latch» .entry))) (benchOf (now (board .entry)) (now (flash .entry)) (now (locks .entry)) (now (latch .entry)) (now (params .entry)) (now (answer .entry))) ⌝ }
+{
+    if !is_bench(board, event, call, request) {
+        return 13;
+    }
+    let p = packet_in(request);
+    let e = event_in(event);
+    let o = outcome_at(call, 0);
+    meet_on(
+        g,
+        board,
+        flash,
+        locks,
+        latch,
+        params,
+        left_flash,
+        left_locks,
+        left_latch,
+        p,
+        e,
+        o,
+        answer,
+    );
+    0
+}
+
+// The board meets a request.
+#[no_mangle]
+pub extern "C" fn halzuqeen_bench_meet(
+    part: u8,
+    macros: u8,
+    board: &mut [u8],
+    flash: &mut [u8],
+    locks: &mut [u8],
+    latch: &mut [u8],
+    params: &mut [u32],
+    left_flash: &[u8],
+    left_locks: &[u8],
+    left_latch: &[u8],
+    event: &[u8],
+    call: &[u8],
+    request: &[u8],
+    answer: &mut [u8],
+) -> u32
+    ensures { λ r. ⌜ benched r (benchOf (now (board .exit)) (now (flash .exit)) (now (locks .exit)) (now (latch .exit)) (now (params .exit)) (now (answer .exit))) ≡ meetCall part macros (now (event .entry)) (now (call .entry)) (now (request .entry)) (left (now («left_flash» .entry)) (now («left_locks» .entry)) (now («left_latch» .entry))) (benchOf (now (board .entry)) (now (flash .entry)) (now (locks .entry)) (now (latch .entry)) (now (params .entry)) (now (answer .entry))) ⌝ }
+{
+    if !sizes_fit(board, event, call, request, answer) {
+        return 12;
+    }
+    let found = parts::find(part, macros);
+    match found {
+        Lookup::Found(g) => meet_in(
+            g,
+            board,
+            flash,
+            locks,
+            latch,
+            params,
+            left_flash,
+            left_locks,
+            left_latch,
+            event,
+            call,
+            request,
+            answer,
+        ),
+        Lookup::Refused(n) => n as u32,
+    }
+}

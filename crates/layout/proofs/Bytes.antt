@@ -1,0 +1,61 @@
+-- Laws of numbers and flags as bytes. Assumes nothing.
+use mathlib.Core.Bool.{Bool, true, false, cond}
+use mathlib.Core.List.{List, _++_, append-nil}
+use mathlib.Core.Path.{_≡_, refl, sym, ap, _∙_}
+use Prim.Native.Nat.{ℕ, suc, _+_, _*_, _/_, _%_, _≤_, _<_}
+use native.Mathlib.Omega.{arith}
+use borrow.Author.Tests.{le-leb, lt-leb}
+use lib.Dec.{eqb, leb}
+use lib.ListN.{length, set, drop-of-length-le}
+use lib.Seq.{sets, sets-eq, length-sets}
+use Rattle.layout.specs.Bytes.{lowFirst, flagByte, wordPut, Word}
+
+-- what four bytes of a number come to
+abbrev pub low32 : ℕ → ℕ
+low32 v = v % 256 + 256 * (v / 256 % 256) + 65536 * (v / 256 / 256 % 256) + 16777216 * (v / 256 / 256 / 256 % 256)
+
+pub low-same : (v : ℕ) → Word v → low32 v ≡ v
+low-same v h = omega arith
+
+pub low-less : (v : ℕ) → low32 v ≤ v
+low-less v = omega arith
+
+pub flag-same : (f : Bool) → eqb (flagByte f) 1 ≡ f
+flag-same true = refl
+flag-same false = refl
+
+-- a store of as many elements as the list has
+pub sets-whole : (l vs : List ℕ) → length vs ≡ length l → sets l 0 vs ≡ vs
+sets-whole l vs e =
+    sets-eq vs l 0 (omega arith)
+    ∙ ap (λ (r : List ℕ). vs ++ r) (drop-of-length-le l {i = 0 + length vs} (omega arith))
+    ∙ append-nil vs
+
+-- four stores are a word's
+stores : (l : List ℕ) (at w : ℕ)
+    → set (set (set (set l at (w % 256)) (at + 1) (w / 256 % 256)) (at + 2) (w / 256 / 256 % 256)) (at + 3) (w / 256 / 256 / 256 % 256)
+    ≡ sets l at (lowFirst 4 w)
+stores l at w =
+    let e : at + 1 ≡ suc at = omega arith in
+    let f : at + 2 ≡ suc (suc at) = omega arith in
+    let g : at + 3 ≡ suc (suc (suc at)) = omega arith in
+    rw (e, f, g)
+
+pub no-room : (l : List ℕ) (at w : ℕ) → length l < at + 4 → l ≡ wordPut l at w
+unfolding wordPut
+no-room l at w h = rw (lt-leb (at + 4) (length l) h)
+
+room : (l : List ℕ) (at w : ℕ) → at + 4 ≤ length l → sets l at (lowFirst 4 w) ≡ wordPut l at w
+unfolding wordPut
+room l at w h = rw (le-leb (at + 4) (length l) h)
+
+pub put-stores : (l : List ℕ) (at w : ℕ) → at + 4 ≤ length l
+    → set (set (set (set l at (w % 256)) (at + 1) (w / 256 % 256)) (at + 2) (w / 256 / 256 % 256)) (at + 3) (w / 256 / 256 / 256 % 256)
+    ≡ wordPut l at w
+put-stores l at w h = stores l at w ∙ room l at w h
+
+-- a word put where there is room for it: what is stored, and that the length stays
+pub put-in : (l m : List ℕ) (n at w : ℕ) → length l ≡ n → at + 4 ≤ n → m ≡ wordPut l at w → (m ≡ sets l at (lowFirst 4 w)) × (length m ≡ n)
+put-in l m n at w e h p =
+    let q : m ≡ sets l at (lowFirst 4 w) = p ∙ sym (room l at w (omega arith)) in
+    (q, ap length q ∙ length-sets l at (lowFirst 4 w) ∙ e)
