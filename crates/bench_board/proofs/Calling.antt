@@ -2,27 +2,25 @@
 use mathlib.Core.Bool.{Bool, true, false, _&&_, _||_, cond}
 use mathlib.Core.List.{List}
 use mathlib.Core.Path.{_≡_, refl, sym, ap, _∙_}
-use Prim.Native.Nat.{ℕ, _+_, _*_, _/_, _%_, _<_}
+use Prim.Native.Nat.{ℕ, _+_, _*_, _%_, _<_}
 use native.Mathlib.Omega.{arith}
 use borrow.Author.Tests.{ne-eqb}
 use lib.Dec.{eqb}
-use lib.ListN.{getD, take, drop}
-use Rattle.bench_board.specs.Meets.{ended, Effects, Fails, Succeeds, Protects, Answers, Resets, Alters}
+use Rattle.bench_board.specs.Meets.{ended, Fails, Succeeds, Answers, Resets, Alters}
 use Rattle.bench_board.specs.Board.{Buffers, Left, runningOf, siliconOf, memoryOf, targetOf}
-use Rattle.bench_board.specs.Acts.{after}
-use Rattle.bench_board.specs.declared.Act.{Act}
 use Rattle.bench_board.specs.declared.Running.{Running}
 use Rattle.bench_board.specs.declared.Running.the-variants.{Idle, Busy}
-use Rattle.bench_board.specs.declared.Act.the-variants.{Keep, Leave, Erase, FillLatch, ProgramRow, WriteLocks}
 use Rattle.bench_board.specs.declared.CallOutcome.{CallOutcome}
-use Rattle.bench_board.specs.declared.Effect.{Effect}
 use Rattle.bench_board.specs.declared.Next.{Next}
 use Rattle.bench_board.specs.declared.Registers.{Registers}
 use Rattle.bench_board.specs.declared.Silicon.{Silicon}
-use Rattle.flow.specs.Calls.{dropped, reset, bytesIn, levelSent, macroSent, failedArg, listAt, effectOf, sysargAfter, sysreqAfter, leftBy, finish}
+use Rattle.bench_memory.specs.Acts.{after, Effects}
+use Rattle.bench_memory.specs.declared.Act.{Act}
+use Rattle.bench_memory.specs.declared.Act.the-variants.{Keep, Leave}
+use Rattle.bench_memory.specs.declared.Effect.{Effect}
+use Rattle.flow.specs.Calls.{dropped, reset, levelSent, macroSent, failedArg, listAt, effectOf, sysargAfter, sysreqAfter, leftBy, finish}
 use Rattle.flow.specs.Target.{Memory, Target, idle, setReset}
 use Rattle.image.specs.Words.{total}
-use Rattle.parts.specs.Sizes.{rowBytes, rowsPerMacro, locksIn}
 use Rattle.parts.specs.declared.Geometry.{Geometry}
 
 abbrev quiet : ℕ → Bool
@@ -38,46 +36,6 @@ module _ (r : Registers) (o : CallOutcome) (c arg : ℕ) (a : arg ≡ failedArg 
       → l < 16 → Fails o c r (ended r l arg 0 Leave)
   unfolding finish leftBy
   failed-left q l e h g x b = let f : l % 16 ≡ l = omega arith in rw (q, a, f, e)
-
--- call 0x0D
-module _ (g : Geometry) (r : Registers) where
-  pub reopened : (eqb (r .effect) 2 && eqb (levelSent (r .sysarg)) 1) ≡ true → Protects g r (record { act = Erase; stored = 1 })
-  unfolding effectOf
-  reopened t ps x b e = (rw t, refl)
-
-  pub protected : (eqb (r .effect) 2 && eqb (levelSent (r .sysarg)) 1) ≡ false → (s : ℕ)
-      → s ≡ cond (eqb (macroSent (r .sysarg)) 0) (levelSent (r .sysarg)) (r .stored % 16)
-      → Protects g r (record { act = WriteLocks (macroSent (r .sysarg) * (rowsPerMacro g / 8)) (rowsPerMacro g / 8); stored = s })
-  unfolding effectOf locksIn
-  protected t s e ps x b f = (rw (t, e, low (eqb (macroSent (r .sysarg)) 0)), refl)
-    where
-      low : (z : Bool) → cond z (levelSent (r .sysarg)) (r .stored % 16) % 16 ≡ cond z (levelSent (r .sysarg)) (r .stored % 16)
-      low true = omega arith
-      low false = omega arith
-
--- a successful call's effect, by its number
-module _ (g : Geometry) (r : Registers) (ps : List ℕ) (c : ℕ) where
-  pub erasing : c ≡ 0x0A → Effects g r ps c (record { act = Erase; stored = r .stored })
-  unfolding effectOf
-  erasing e x b p = (rw e, refl)
-
-  pub filling : c ≡ 4 → (n : ℕ)
-      → take n (bytesIn (drop 2 ps)) ≡ take (getD (listAt (r .sysarg) ps) 1 0 + 1) (bytesIn (drop 2 (listAt (r .sysarg) ps)))
-      → Effects g r ps c (record { act = FillLatch n; stored = r .stored })
-  unfolding effectOf
-  filling e n f x b p = (rw (e, p, f), refl)
-
-  pub programming : c ≡ 6 → (w : ℕ) → w ≡ getD (listAt (r .sysarg) ps) 0 0
-      → Effects g r ps c (record { act = ProgramRow (w / 65536 * rowBytes g); stored = r .stored })
-  unfolding effectOf
-  programming e w f x b p = (rw (e, p, f), refl)
-
-  pub protecting : c ≡ 0x0D → (t : Effect) → Protects g r t → Effects g r ps c t
-  protecting e t f x b p = rw e (f ps x b p)
-
-  pub idling : ¬ (c ≡ 0x0A) → ¬ (c ≡ 4) → ¬ (c ≡ 6) → ¬ (c ≡ 0x0D) → Effects g r ps c (record { act = Keep; stored = r .stored })
-  unfolding effectOf
-  idling n1 n2 n3 n4 x b p = (rw (ne-eqb _ _ n1, ne-eqb _ _ n2, ne-eqb _ _ n3, ne-eqb _ _ n4), refl)
 
 -- SYSARG after a success
 module _ (c : ℕ) (s : Silicon) (fs : List ℕ) where
@@ -109,7 +67,7 @@ endedWith r m ps a q = record {
   running = idle;
 }
 
-pub succeeding : (g : Geometry) (r : Registers) (fs ps : List ℕ) (c arg req : ℕ) (e : Effect) → Effects g r ps c e → Answers c (r .silicon) fs arg
+pub succeeding : (g : Geometry) (r : Registers) (fs ps : List ℕ) (c arg req : ℕ) (e : Effect) → Effects g (r .effect) (r .sysarg) (r .stored) ps c e → Answers c (r .silicon) fs arg
     → req ≡ sysreqAfter c (siliconOf (r .silicon)) (r .effect)
     → Succeeds g fs ps c r (ended r (e .stored) arg req (e .act))
 unfolding finish

@@ -4,15 +4,16 @@ use mathlib.Core.List.{List, [], _∷_}
 use mathlib.Core.Path.{_≡_, refl, sym, ap, _∙_}
 use Prim.Native.Nat.{ℕ}
 use lib.Dec.{eqb}
-use Rattle.bench_board.specs.Acts.{after}
 use Rattle.bench_board.specs.Board.{Buffers, Left, outcomeOf, fateOf, eventOf, targetOf}
-use Rattle.bench_board.specs.Meets.{placeOf, keeping, Makes, MakesIn, Resets, Carries, Calls, Replies, Decides, metOf, listsOf}
+use Rattle.bench_board.specs.Meets.{keeping, Makes, MakesIn, Resets, Carries, Calls, Replies, Decides, metOf, listsOf}
 use Rattle.bench_board.specs.declared.CallOutcome.{CallOutcome}
 use Rattle.bench_board.specs.declared.Decision.{Decision}
 use Rattle.bench_board.specs.declared.LineEvent.{LineEvent}
 use Rattle.bench_board.specs.declared.Next.{Next}
 use Rattle.bench_board.specs.declared.Registers.{Registers}
-use Rattle.bench_board.specs.declared.Spot.{Spot}
+use Rattle.bench_map.specs.Spots.{placeOf}
+use Rattle.bench_map.specs.declared.Spot.{Spot}
+use Rattle.bench_memory.specs.Acts.{after}
 use Rattle.flow.specs.Exchange.{Decoded, known, unknown, decode, fetch, store, carry, guarded, overDrw, carriedOut, gives, dead, silence, replyTo, barred, met, transferred, meetOn, meet}
 use Rattle.flow.specs.Exchange as Flow
 use Rattle.flow.specs.Map.{Place, place}

@@ -5,18 +5,19 @@ use Prim.Native.Nat.{ℕ, suc, _+_, _-_, _%_, _≤_, _<_}
 use native.Mathlib.Omega.{arith}
 use borrow.Author.Tests.{le-leb, lt-leb}
 use lib.ListN.{getD}
-use Rattle.bench_board.specs.Acts.{after}
 use Rattle.bench_board.specs.Board.{residueOf, outcomeOf, runningOf, targetOf}
-use Rattle.bench_board.specs.Meets.{placeOf, keeping, asking, Makes, MakesOf, MakesIn, Alters}
-use Rattle.bench_board.specs.declared.Act.{Act}
-use Rattle.bench_board.specs.declared.Act.the-variants.{PutWord}
+use Rattle.bench_board.specs.Meets.{keeping, asking, Makes, MakesOf, MakesIn, Alters}
 use Rattle.bench_board.specs.declared.CallOutcome.{CallOutcome}
 use Rattle.bench_board.specs.declared.Next.{Next}
 use Rattle.bench_board.specs.declared.Registers.{Registers}
 use Rattle.bench_board.specs.declared.Running.{Running}
 use Rattle.bench_board.specs.declared.Running.the-variants.{Idle, Busy}
-use Rattle.bench_board.specs.declared.Spot.{Spot}
-use Rattle.bench_board.specs.declared.Spot.the-variants.{InFlash, InLocks, InParams, AtLevel, AtSysreq, AtSysarg, AtTestMode, Elsewhere}
+use Rattle.bench_map.specs.Spots.{placeOf}
+use Rattle.bench_map.specs.declared.Spot.{Spot}
+use Rattle.bench_map.specs.declared.Spot.the-variants.{InFlash, InLocks, InParams, AtLevel, AtSysreq, AtSysarg, AtTestMode, Elsewhere}
+use Rattle.bench_memory.specs.Acts.{after}
+use Rattle.bench_memory.specs.declared.Act.{Act}
+use Rattle.bench_memory.specs.declared.Act.the-variants.{PutWord}
 use Rattle.flow.specs.Calls.{finish}
 use Rattle.flow.specs.Exchange.{levelWord, tick, fetch, isCall, begin, store}
 use Rattle.flow.specs.Target.{Target, busy, setPosted, setSysarg, setTestMode}

@@ -3,28 +3,25 @@ use mathlib.Core.Bool.{Bool, true, false, cond}
 use mathlib.Core.List.{List, [], _∷_}
 use mathlib.Core.Path.{_≡_}
 use Prim.Native.Nat.{ℕ, _%_}
-use Rattle.bench_board.specs.Acts.{after}
-use Rattle.bench_board.specs.Board.{Buffers, Left, residueOf, siliconOf, outcomeOf, fateOf, eventOf, memoryOf, targetOf}
-use Rattle.bench_board.specs.declared.Act.{Act}
-use Rattle.bench_board.specs.declared.Act.the-variants.{Keep}
+use Rattle.bench_board.specs.Board.{Buffers, Left, residueOf, siliconOf, outcomeOf, fateOf, eventOf, targetOf}
+use Rattle.bench_memory.specs.declared.Act.{Act}
+use Rattle.bench_memory.specs.declared.Act.the-variants.{Keep}
 use Rattle.bench_board.specs.declared.CallOutcome.{CallOutcome}
 use Rattle.bench_board.specs.declared.Decision.{Decision}
-use Rattle.bench_board.specs.declared.Effect.{Effect}
 use Rattle.bench_board.specs.declared.LineEvent.{LineEvent}
 use Rattle.bench_board.specs.declared.Met.{Met}
-use Rattle.bench_board.specs.declared.Decoded.{Decoded}
-use Rattle.bench_board.specs.declared.Decoded.the-variants.{Known, Unknown}
 use Rattle.bench_board.specs.declared.Next.{Next}
 use Rattle.bench_board.specs.declared.Registers.{Registers}
 use Rattle.bench_board.specs.declared.Silicon.{Silicon}
 use Rattle.bench_board.specs.declared.Running.{Running}
 use Rattle.bench_board.specs.declared.Running.the-variants.{Idle}
-use Rattle.bench_board.specs.declared.Spot.{Spot}
-use Rattle.bench_board.specs.declared.Spot.the-variants.{InFlash, InLocks, InParams, AtLevel, AtSysreq, AtSysarg, AtTestMode, Elsewhere}
-use Rattle.flow.specs.Calls.{effectOf, listAt, sysargAfter, finish, reset}
+use Rattle.bench_map.specs.Spots.{placeOf}
+use Rattle.bench_map.specs.declared.Spot.{Spot}
+use Rattle.bench_memory.specs.Acts.{after}
+use Rattle.flow.specs.Calls.{sysargAfter, finish, reset}
 use Rattle.flow.specs.Exchange as Flow
-use Rattle.flow.specs.Exchange.{known, unknown, carry, gives, callsOn, dead, silence, replyTo}
-use Rattle.flow.specs.Map.{Place, inFlash, inLocks, inParams, atLevel, atSysreq, atSysarg, atTestMode, elsewhere, place}
+use Rattle.flow.specs.Exchange.{carry, gives, callsOn, dead, silence, replyTo}
+use Rattle.flow.specs.Map.{place}
 use Rattle.flow.specs.Packets.{isRead}
 use Rattle.flow.specs.Target.{Lists, Memory, Target}
 use Rattle.flow.specs.declared.Reply.{Reply}
@@ -47,22 +44,6 @@ metOf x e o m b = record {
     calls = cond (m .«call_used») [] (outcomeOf x o ∷ []);
   };
 }
-
--- ---- flow's case for each of the code's
-
-abbrev pub decodedOf : Decoded → Flow.Decoded
-decodedOf (Known q) = known q
-decodedOf Unknown = unknown
-
-abbrev pub placeOf : Spot → Place
-placeOf (InFlash a) = inFlash a
-placeOf (InLocks a) = inLocks a
-placeOf (InParams k) = inParams k
-placeOf AtLevel = atLevel
-placeOf AtSysreq = atSysreq
-placeOf AtSysarg = atSysarg
-placeOf AtTestMode = atTestMode
-placeOf Elsewhere = elsewhere
 
 -- ---- registers that functions give
 
@@ -123,17 +104,6 @@ abbrev pub Alters : Next → Next → (Target → Target) → Type 0
 Alters n m f = (m .act ≡ n .act) × ((x : Left) (b : Buffers) → targetOf x (m .registers) b ≡ f (targetOf x (n .registers) b))
 
 -- ---- calls
-
--- a successful call's effect on the memory; PARAMS stay
-abbrev pub Effects : Geometry → Registers → (params : List ℕ) → (c : ℕ) → Effect → Type 0
-Effects g r ps c e =
-    (x : Left) (b : Buffers) → b .params ≡ ps
-    → (memoryOf (after x (e .act) b) (e .stored % 16) ≡ effectOf g c (r .effect) (r .sysarg) (listAt (r .sysarg) (b .params)) (memoryOf b (r .stored % 16)))
-    × ((after x (e .act) b) .params ≡ b .params)
-
--- 0x0D, whatever PARAMS hold
-abbrev pub Protects : Geometry → Registers → Effect → Type 0
-Protects g r e = (params : List ℕ) → Effects g r params 0x0D e
 
 -- the word in SYSARG after a successful call, by the flash
 abbrev pub Answers : (c : ℕ) → Silicon → (flash : List ℕ) → (word : ℕ) → Type 0

@@ -1,21 +1,18 @@
 // What a call does when it ends (document 01, 'The plain board').
-ghost use mathlib.Core.Bool.{_&&_, _||_, cond, true, false};
+ghost use mathlib.Core.Bool.{_||_};
 ghost use mathlib.Core.Path.{_≡_};
-ghost use Prim.Native.Nat.{_+_, _*_, _/_, _%_, _<_};
+ghost use Prim.Native.Nat.{_+_, _*_};
 ghost use lib.Dec.{eqb};
-ghost use lib.ListN.{getD, take, drop};
 ghost use Rattle.bench_board.specs.Board.{residueOf, siliconOf};
-ghost use Rattle.bench_board.specs.Meets.{ended, MakesOf, Effects, Fails, Succeeds, Protects, Answers, Resets, Alters};
-ghost use Rattle.flow.specs.Calls.{levelSent, macroSent, failedArg, listAt, bytesIn, sysreqAfter, finish};
+ghost use Rattle.bench_board.specs.Meets.{ended, MakesOf, Fails, Succeeds, Answers, Resets, Alters};
+ghost use Rattle.flow.specs.Calls.{failedArg, sysreqAfter, finish};
 ghost use Rattle.flow.specs.Target.{setReset};
-use crate::Act;
 use crate::CallOutcome;
-use crate::Effect;
 use crate::Next;
 use crate::Registers;
 use crate::Running;
 use crate::Silicon;
-use crate::memory;
+use bench_memory::Act;
 use parts::Geometry;
 
 // The registers at a call's end.
@@ -39,19 +36,6 @@ fn end(r: Registers, stored: u8, sysarg: u32, sysreq: u32, act: Act) -> Next
     }
 }
 
-// The level and the macro that 0x0D is given.
-fn level_sent(word: u32) -> u8
-    ensures { λ l. ⌜ l ≡ levelSent word ⌝ ∗ ⌜ l < 16 ⌝ }
-{
-    (word / 65536 % 16) as u8
-}
-
-fn macro_sent(word: u32) -> u8
-    ensures { λ m. ⌜ m ≡ macroSent word ⌝ }
-{
-    (word / 16777216) as u8
-}
-
 // A failed call's SYSARG, of another top digit.
 fn failed_arg(word: u32) -> u32
     ensures { λ r. ⌜ r ≡ failedArg word ⌝ }
@@ -72,28 +56,6 @@ fn harmless(c: u8) -> bool
     c == 0x15
 }
 
-// Whether a failed call stores the level sent: 0x0D on macro 0, where the outcome says so.
-fn relevels(new_level: bool, number: u8, c: u8) -> bool
-    ensures { λ t. ⌜ t ≡ («new_level» && eqb c 0x0D && eqb number 0) ⌝ }
-{
-    if new_level {
-        if c == 0x0D {
-            return number == 0;
-        }
-    }
-    false
-}
-
-// The level stored after a call that failed.
-fn level_left(r: Registers, o: CallOutcome, c: u8) -> u8
-    ensures { λ l. ⌜ l ≡ cond (o .«new_level» && eqb c 0x0D && eqb (macroSent (r .sysarg)) 0) (levelSent (r .sysarg)) (r .stored % 16) ⌝ ∗ ⌜ l < 16 ⌝ }
-{
-    if relevels(o.new_level, macro_sent(r.sysarg), c) {
-        return level_sent(r.sysarg);
-    }
-    r.stored % 16
-}
-
 // A call that fails.
 fn fail(r: Registers, o: CallOutcome, c: u8) -> Next
     ensures { λ n. ⌜ Fails o c r n ⌝ }
@@ -102,97 +64,13 @@ fn fail(r: Registers, o: CallOutcome, c: u8) -> Next
     if harmless(c) {
         return end(r, r.stored, arg, 0, Act::Keep);
     }
-    end(r, level_left(r, o, c), arg, 0, Act::Leave)
-}
-
-// A word of the list that a call was given.
-fn list_word(sysarg: u32, params: &[u32], k: usize) -> u32
-    ensures { λ w. ⌜ w ≡ getD (listAt sysarg (now (params .entry))) k 0 ⌝ }
-{
-    if sysarg == 0x20000100 {
-        return memory::word_of(params, k);
-    }
-    0
-}
-
-// How many bytes of PARAMS, past its second word, call 4 puts into the latch.
-fn latch_count(sysarg: u32, params: &[u32]) -> usize
-    ensures { λ n. ⌜ take n (bytesIn (drop 2 (now (params .entry)))) ≡ take (getD (listAt sysarg (now (params .entry))) 1 0 + 1) (bytesIn (drop 2 (listAt sysarg (now (params .entry))))) ⌝ }
-{
-    if sysarg == 0x20000100 {
-        return (memory::word_of(params, 1) as usize) + 1;
-    }
-    0
-}
-
-// The level stored after 0x0D: on macro 0 only, the one sent.
-fn level_after(number: u8, sent: u8, stored: u8) -> u8
-    ensures { λ l. ⌜ l ≡ cond (eqb number 0) sent stored ⌝ }
-{
-    if number == 0 { sent } else { stored }
-}
-
-// Whether 0x0D opens a board that is PROTECTED.
-fn reopens(effect: u8, sent: u8) -> bool
-    ensures { λ t. ⌜ t ≡ (eqb effect 2 && eqb sent 1) ⌝ }
-{
-    if effect == 2 {
-        return sent == 1;
-    }
-    false
-}
-
-// Call 0x0D: the macro's locks, and on macro 0 the level; with PROTECTED in effect and OPEN sent it erases.
-fn protect(g: Geometry, r: Registers) -> Effect
-    ensures { λ e. ⌜ Protects g r e ⌝ }
-{
-    let l = level_sent(r.sysarg);
-    let m = macro_sent(r.sysarg);
-    let p = g.part;
-    let n = (p.rows_per_macro / 8) as usize;
-    if reopens(r.effect, l) {
-        return Effect {
-            act: Act::Erase,
-            stored: 1,
-        };
-    }
-    Effect {
-        act: Act::WriteLocks((m as usize) * n, n),
-        stored: level_after(m, l, r.stored % 16),
-    }
-}
-
-// What a successful call does to the memory.
-fn effect_of(g: Geometry, r: Registers, params: &[u32], c: u8) -> Effect
-    ensures { λ e. ⌜ Effects g r (now (params .entry)) c e ⌝ }
-{
-    let p = g.part;
-    if c == 0x0A {
-        return Effect {
-            act: Act::Erase,
-            stored: r.stored,
-        };
-    }
-    if c == 4 {
-        return Effect {
-            act: Act::FillLatch(latch_count(r.sysarg, params)),
-            stored: r.stored,
-        };
-    }
-    if c == 6 {
-        let row = (list_word(r.sysarg, params, 0) / 65536) as usize;
-        return Effect {
-            act: Act::ProgramRow(row * (p.row_bytes as usize)),
-            stored: r.stored,
-        };
-    }
-    if c == 0x0D {
-        return protect(g, r);
-    }
-    Effect {
-        act: Act::Keep,
-        stored: r.stored,
-    }
+    end(
+        r,
+        bench_memory::level_left(r.sysarg, r.stored, o.new_level, c),
+        arg,
+        0,
+        Act::Leave,
+    )
 }
 
 // The IDs as step 2 reads them in SYSARG.
@@ -210,7 +88,8 @@ fn sysarg_after(s: Silicon, flash: &[u8], c: u8) -> u32
         return ids_of(s);
     }
     if c == 0x0B {
-        return 0xA0000000 + (s.privileged_sum % 268435456 + memory::sum_of(flash)) % 268435456;
+        return 0xA0000000
+            + (s.privileged_sum % 268435456 + bench_memory::sum_of(flash)) % 268435456;
     }
     0xA0000000
 }
@@ -230,7 +109,7 @@ fn succeed(g: Geometry, r: Registers, flash: &[u8], params: &[u32], c: u8) -> Ne
     ensures { λ n. ⌜ Succeeds g (now (flash .entry)) (now (params .entry)) c r n ⌝ }
 {
     let s = r.silicon;
-    let e = effect_of(g, r, params, c);
+    let e = bench_memory::effect_of(g, r.effect, r.sysarg, r.stored, params, c);
     let arg = sysarg_after(s, flash, c);
     let act = e.act;
     end(r, e.stored, arg, sysreq_after(s, r.effect, c), act)

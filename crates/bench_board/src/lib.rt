@@ -6,12 +6,12 @@ ghost use Rattle.flow.specs.Exchange.{known, meetOn};
 ghost use Rattle.flow.specs.Exchange as Flow;
 
 mod calls;
-mod lines;
-mod map;
-mod memory;
 mod transfers;
 mod words;
 
+use bench_lines::Decoded;
+pub use bench_lines::Fate;
+use bench_memory::Act;
 use flow::Answer;
 use flow::Packet;
 use flow::Reply;
@@ -42,15 +42,6 @@ pub enum Running {
     Busy(CallOutcome, u8),
 }
 
-// What becomes of a transfer; a silence may hide one that was carried out.
-pub enum Fate {
-    Clean,
-    Waits,
-    Faults,
-    Garbles,
-    Silent(bool),
-}
-
 // A transfer's fate, with what is free in its answer, and the word that is elsewhere.
 pub struct LineEvent {
     pub fate: Fate,
@@ -70,50 +61,10 @@ pub struct Registers {
     pub running: Running,
 }
 
-// What a request does to the lent memory.
-enum Act {
-    Keep,
-    // A word of PARAMS.
-    PutWord(usize, u32),
-    // What a failed call leaves.
-    Leave,
-    Erase,
-    // So many bytes of the list, from the latch's byte 0 on.
-    FillLatch(usize),
-    // The latch, from this byte of the flash on.
-    ProgramRow(usize),
-    // So many bytes of the latch, from this byte of the locks on.
-    WriteLocks(usize, usize),
-}
-
 // The registers after a request, and what it does to the memory.
 struct Next {
     registers: Registers,
     act: Act,
-}
-
-// What a successful call does to the memory, and the level stored after it.
-struct Effect {
-    act: Act,
-    stored: u8,
-}
-
-// A packet that the board knows, or none.
-enum Decoded {
-    Known(Request),
-    Unknown,
-}
-
-// What is at an address, with the offset there.
-enum Spot {
-    InFlash(usize),
-    InLocks(usize),
-    InParams(usize),
-    AtLevel,
-    AtSysreq,
-    AtSysarg,
-    AtTestMode,
-    Elsewhere,
 }
 
 // How a packet is met, before the memory is written.
@@ -180,12 +131,12 @@ fn decide(
     ensures { λ d. ⌜ Decides (now (flash .entry)) (now (locks .entry)) (now (params .entry)) r e o d (λ l t. Flow.meet g p l t) ⌝ }
 {
     let junk = e.junk;
-    let d = lines::request_in(p);
+    let d = bench_lines::request_in(p);
     match d {
         Decoded::Known(q) => meet_request(g, r, flash, locks, params, q, e, o),
         Decoded::Unknown => Decision {
             next: words::keep(r),
-            answer: Answer::Transferred(lines::be_silent(junk)),
+            answer: Answer::Transferred(bench_lines::be_silent(junk)),
             line_used: true,
             call_used: false,
         },
@@ -214,7 +165,7 @@ pub fn meet(
     let registers = n.registers;
     let act = n.act;
     let answer = d.answer;
-    memory::perform(
+    bench_memory::perform(
         act,
         flash,
         locks,

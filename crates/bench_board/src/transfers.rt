@@ -3,20 +3,18 @@ ghost use mathlib.Core.Bool.{_&&_, not};
 ghost use mathlib.Core.Path.{_≡_};
 ghost use lib.Dec.{eqb};
 ghost use Rattle.bench_board.specs.Board.{eventOf, fateOf};
-ghost use Rattle.bench_board.specs.Meets.{placeOf, Makes, Decides, Carries, Gives, Calls, Replies};
-ghost use Rattle.flow.specs.Exchange.{carriedOut, guarded, isCall, isSysreq, overDrw, transferred};
+ghost use Rattle.bench_board.specs.Meets.{Makes, Decides, Carries, Gives, Calls, Replies};
+ghost use Rattle.flow.specs.Exchange.{carriedOut, transferred};
 ghost use Rattle.flow.specs.Packets.{isRead};
 ghost use Rattle.flow.specs.Target.{setTar};
 use crate::CallOutcome;
 use crate::Decision;
-use crate::Fate;
 use crate::LineEvent;
 use crate::Next;
 use crate::Registers;
-use crate::Spot;
-use crate::lines;
-use crate::map;
 use crate::words;
+use bench_lines::Fate;
+use bench_map::Spot;
 use flow::Answer;
 use flow::Reply;
 use flow::Request;
@@ -85,74 +83,6 @@ fn is_read(q: Request) -> bool
     }
 }
 
-fn is_drw(q: Request) -> bool
-    ensures { λ t. ⌜ t ≡ overDrw q ⌝ }
-{
-    match q {
-        Request::Xres => false,
-        Request::LineReset => false,
-        Request::ReadIdcode => false,
-        Request::ReadDrw => true,
-        Request::WriteTar(_) => false,
-        Request::WriteDrw(_) => true,
-        Request::WriteSetup(_, _) => false,
-    }
-}
-
-// Flash and PARAMS are shut while PROTECTED is in effect.
-fn is_guarded(spot: Spot) -> bool
-    ensures { λ t. ⌜ t ≡ guarded (placeOf spot) ⌝ }
-{
-    match spot {
-        Spot::InFlash(_) => true,
-        Spot::InLocks(_) => false,
-        Spot::InParams(_) => true,
-        Spot::AtLevel => false,
-        Spot::AtSysreq => false,
-        Spot::AtSysarg => false,
-        Spot::AtTestMode => false,
-        Spot::Elsewhere => false,
-    }
-}
-
-// Whether PROTECTED in effect answers FAULT.
-fn bars(effect: u8, q: Request, spot: Spot) -> bool
-    ensures { λ t. ⌜ t ≡ (eqb effect 2 && overDrw q && guarded (placeOf spot)) ⌝ }
-{
-    if effect != 2 {
-        return false;
-    }
-    if is_drw(q) {
-        return is_guarded(spot);
-    }
-    false
-}
-
-fn at_sysreq(spot: Spot) -> bool
-    ensures { λ t. ⌜ t ≡ isSysreq (placeOf spot) ⌝ }
-{
-    match spot {
-        Spot::InFlash(_) => false,
-        Spot::InLocks(_) => false,
-        Spot::InParams(_) => false,
-        Spot::AtLevel => false,
-        Spot::AtSysreq => true,
-        Spot::AtSysarg => false,
-        Spot::AtTestMode => false,
-        Spot::Elsewhere => false,
-    }
-}
-
-// Whether a word written starts a call.
-fn is_call(w: u32, spot: Spot) -> bool
-    ensures { λ t. ⌜ t ≡ (isCall w && isSysreq (placeOf spot)) ⌝ }
-{
-    if 2147483648 <= w {
-        return at_sysreq(spot);
-    }
-    false
-}
-
 // Whether a request carried out starts a call.
 fn starts_call(q: Request, spot: Spot) -> bool
     ensures { λ t. ⌜ Calls q spot t ⌝ }
@@ -163,7 +93,7 @@ fn starts_call(q: Request, spot: Spot) -> bool
         Request::ReadIdcode => false,
         Request::ReadDrw => false,
         Request::WriteTar(_) => false,
-        Request::WriteDrw(w) => is_call(w, spot),
+        Request::WriteDrw(w) => bench_map::is_call(w, spot),
         Request::WriteSetup(_, _) => false,
     }
 }
@@ -175,9 +105,9 @@ fn answer(r: Registers, q: Request, e: LineEvent, barred: bool) -> Reply
     let junk = e.junk;
     let fate = e.fate;
     if r.effect == 4 {
-        return lines::be_silent(junk);
+        return bench_lines::be_silent(junk);
     }
-    lines::reply_to(fate, barred, is_read(q), given_word(r, q), junk)
+    bench_lines::reply_to(fate, barred, is_read(q), given_word(r, q), junk)
 }
 
 // Whether a transfer is carried out: the board is not KILLed, the place not shut, and the line lets it through.
@@ -190,7 +120,7 @@ fn goes_through(effect: u8, barred: bool, fate: Fate) -> bool
     if barred {
         return false;
     }
-    lines::lets_through(fate)
+    bench_lines::lets_through(fate)
 }
 
 // A transfer, met.
@@ -206,8 +136,8 @@ pub(crate) fn transfer(
 ) -> Decision
     ensures { λ d. ⌜ Decides (now (flash .entry)) (now (locks .entry)) (now (params .entry)) r e o d (λ l t. transferred g q (eventOf e) l t) ⌝ }
 {
-    let spot = map::spot_of(g, r.tar);
-    let barred = bars(r.effect, q, spot);
+    let spot = bench_map::spot_of(g, r.tar);
+    let barred = bench_map::bars(r.effect, q, spot);
     let fate = e.fate;
     let reply = answer(r, q, e, barred);
     if goes_through(r.effect, barred, fate) {

@@ -4,17 +4,17 @@ ghost use mathlib.Core.Bool.{cond};
 ghost use Prim.Native.Nat.{_%_, _-_, _<_};
 ghost use lib.Dec.{eqb};
 ghost use Rattle.bench_board.specs.Board.{outcomeOf, runningOf};
-ghost use Rattle.bench_board.specs.Meets.{placeOf, keeping, asking, Makes, MakesOf, MakesIn, Alters};
+ghost use Rattle.bench_board.specs.Meets.{keeping, asking, Makes, MakesOf, MakesIn, Alters};
+ghost use Rattle.bench_map.specs.Spots.{placeOf};
 ghost use Rattle.flow.specs.Exchange.{levelWord, tick, fetch, isCall, begin, store};
 ghost use Rattle.flow.specs.Target.{setPosted, setSysarg, setTestMode};
-use crate::Act;
 use crate::CallOutcome;
 use crate::Next;
 use crate::Registers;
 use crate::Running;
-use crate::Spot;
 use crate::calls;
-use crate::memory;
+use bench_map::Spot;
+use bench_memory::Act;
 use parts::Geometry;
 
 // The memory is left as it is.
@@ -150,7 +150,7 @@ pub(crate) fn read_word(
     match spot {
         Spot::InFlash(a) => post(r, image::word_at(flash, a)),
         Spot::InLocks(a) => post(r, image::word_at(locks, a)),
-        Spot::InParams(k) => post(r, memory::word_of(params, k)),
+        Spot::InParams(k) => post(r, bench_memory::word_of(params, k)),
         Spot::AtLevel => post(r, level_word(r.stored, other)),
         Spot::AtSysreq => read_sysreq(g, r, flash, params, other),
         Spot::AtSysarg => post(r, r.sysarg),

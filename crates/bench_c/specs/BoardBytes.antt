@@ -8,8 +8,8 @@ use lib.ListN.{getD}
 use lib.Seq.{sets}
 use Rattle.bench_board.specs.Board.{Buffers, Left, runningOf, targetOf}
 use Rattle.bench_board.specs.declared.CallOutcome.{CallOutcome}
-use Rattle.bench_board.specs.declared.Fate.{Fate}
-use Rattle.bench_board.specs.declared.Fate.the-variants.{Clean, Waits, Faults, Garbles, Silent}
+use Rattle.bench_lines.specs.declared.Fate.{Fate}
+use Rattle.bench_lines.specs.declared.Fate.the-variants.{Clean, Waits, Faults, Garbles, Silent}
 use Rattle.bench_board.specs.declared.LineEvent.{LineEvent}
 use Rattle.bench_board.specs.declared.Registers.{Registers}
 use Rattle.bench_board.specs.declared.Running.{Running}

@@ -2,8 +2,8 @@
 use mathlib.Core.Path.{sym, ap, _∙_}
 use borrow.Author.Needs.{needs}
 use Rattle.bench_board.proofs.Meeting.{decoded-as, meet-unknown}
-use Rattle.bench_board.specs.Meets.{decodedOf}
-use Rattle.bench_board.specs.declared.Decoded.{Decoded}
+use Rattle.bench_lines.specs.Lines.{decodedOf}
+use Rattle.bench_lines.specs.declared.Decoded.{Decoded}
 use Rattle.bench_board.proofs.decide.Statement.{statement}
 use Rattle.bench_board.proofs.decide.Tie as tie
 

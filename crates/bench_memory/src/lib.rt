@@ -1,0 +1,178 @@
+// The lent memory: words and sums of it, what calls do to it, and what an act leaves there.
+ghost use mathlib.Core.List.{[], _∷_};
+ghost use mathlib.Core.Path.{_≡_};
+ghost use Prim.Native.Nat.{_-_, _*_, _%_, min};
+ghost use lib.ListN.{getD, take, drop};
+ghost use Rattle.bench_memory.specs.Acts.{after};
+ghost use Rattle.bench_memory.specs.Lent.{lent, left};
+ghost use Rattle.flow.specs.Calls.{bytesOf, bytesIn};
+ghost use Rattle.flow.specs.Target.{lay, sized};
+ghost use Rattle.image.specs.Words.{total};
+
+mod effects;
+
+pub use effects::effect_of;
+pub use effects::level_left;
+
+// What a request does to the lent memory.
+pub enum Act {
+    Keep,
+    // A word of PARAMS.
+    PutWord(usize, u32),
+    // What a failed call leaves.
+    Leave,
+    Erase,
+    // So many bytes of the list, from the latch's byte 0 on.
+    FillLatch(usize),
+    // The latch, from this byte of the flash on.
+    ProgramRow(usize),
+    // So many bytes of the latch, from this byte of the locks on.
+    WriteLocks(usize, usize),
+}
+
+// What a successful call does to the memory, and the level stored after it.
+pub struct Effect {
+    pub act: Act,
+    pub stored: u8,
+}
+
+// A word of PARAMS, and 0 past its end.
+pub fn word_of(params: &[u32], k: usize) -> u32
+    ensures { λ w. ⌜ w ≡ getD (now (params .entry)) k 0 ⌝ }
+{
+    if k < params.len() { params[k] } else { 0 }
+}
+
+// All bytes together, modulo 2^28.
+pub fn sum_of(bytes: &[u8]) -> u32
+    ensures { λ r. ⌜ r ≡ total (now (bytes .entry)) % 268435456 ⌝ }
+{
+    let mut sum: u32 = 0;
+    let mut place: usize = 0;
+    while place < bytes.len() {
+        sum = (sum + (bytes[place] as u32)) % 268435456;
+        place += 1;
+    }
+    sum
+}
+
+// Puts a word into PARAMS, where it has the place.
+fn put_word(params: &mut [u32], k: usize, w: u32)
+    ensures { λ _. ⌜ now (params .exit) ≡ lay (now (params .entry)) k (w ∷ []) ⌝ }
+{
+    if k < params.len() {
+        params[k] = w;
+    }
+}
+
+// Lays the first n bytes of src over dst from `at` on; dst keeps its size.
+fn overlay(dst: &mut [u8], at: usize, src: &[u8], n: usize)
+    ensures { λ _. ⌜ now (dst .exit) ≡ lay (now (dst .entry)) at (take n (now (src .entry))) ⌝ }
+{
+    if dst.len() <= at {
+        return;
+    }
+    let end = least(least(n, src.len()), dst.len() - at);
+    let mut i: usize = 0;
+    while i < end {
+        dst[at + i] = src[i];
+        i += 1;
+    }
+}
+
+// Makes dst the bytes of src, cut or filled with 0 to dst's size.
+fn fit(dst: &mut [u8], src: &[u8])
+    ensures { λ _. ⌜ now (dst .exit) ≡ sized (now (dst .entry)) (now (src .entry)) ⌝ }
+{
+    let mut i: usize = 0;
+    while i < dst.len() {
+        dst[i] = byte_at(src, i);
+        i += 1;
+    }
+}
+
+// Fills the latch from byte 0 with n bytes of the list past its second word, the low byte of each word first.
+fn fill_latch(latch: &mut [u8], params: &[u32], n: usize)
+    ensures { λ _. ⌜ now (latch .exit) ≡ lay (now (latch .entry)) 0 (take n (bytesIn (drop 2 (now (params .entry))))) ⌝ }
+{
+    let end = held(params.len(), least(n, latch.len()));
+    let mut i: usize = 0;
+    while i < end {
+        latch[i] = byte_of(params[i / 4 + 2], i % 4);
+        i += 1;
+    }
+}
+
+fn least(a: usize, b: usize) -> usize
+    ensures { λ r. ⌜ r ≡ min a b ⌝ }
+{
+    if a < b { a } else { b }
+}
+
+// Of n bytes, so many as a list of `words` words holds past its second.
+fn held(words: usize, n: usize) -> usize
+    ensures { λ r. ⌜ r ≡ min n (4 * (words - 2)) ⌝ }
+{
+    if words <= 2 {
+        return 0;
+    }
+    let most = words - 2;
+    if n / 4 < most { n } else { most * 4 }
+}
+
+// A byte of src, and 0 past its end.
+fn byte_at(src: &[u8], i: usize) -> u8
+    ensures { λ b. ⌜ b ≡ getD (now (src .entry)) i 0 ⌝ }
+{
+    if i < src.len() { src[i] } else { 0 }
+}
+
+// Byte k of a word, byte 0 the low one.
+fn byte_of(w: u32, k: usize) -> u8
+    ensures { λ b. ⌜ b ≡ getD (bytesOf w) k 0 ⌝ }
+{
+    if k == 0 {
+        return (w % 256) as u8;
+    }
+    if k == 1 {
+        return (w / 256 % 256) as u8;
+    }
+    if k == 2 {
+        return (w / 65536 % 256) as u8;
+    }
+    if k == 3 {
+        return (w / 16777216 % 256) as u8;
+    }
+    0
+}
+
+// What an act leaves in the lent memory.
+pub fn perform(
+    act: Act,
+    flash: &mut [u8],
+    locks: &mut [u8],
+    latch: &mut [u8],
+    params: &mut [u32],
+    left_flash: &[u8],
+    left_locks: &[u8],
+    left_latch: &[u8],
+)
+    ensures { λ _. ⌜ lent (now (flash .exit)) (now (locks .exit)) (now (latch .exit)) (now (params .exit)) ≡ after (left (now («left_flash» .entry)) (now («left_locks» .entry)) (now («left_latch» .entry))) act (lent (now (flash .entry)) (now (locks .entry)) (now (latch .entry)) (now (params .entry))) ⌝ }
+{
+    match act {
+        Act::Keep => {}
+        Act::PutWord(k, w) => put_word(params, k, w),
+        Act::Leave => {
+            fit(flash, left_flash);
+            fit(locks, left_locks);
+            fit(latch, left_latch);
+        }
+        Act::Erase => {
+            fit(flash, &left_flash[..0]);
+            fit(locks, &left_locks[..0]);
+        }
+        Act::FillLatch(n) => fill_latch(latch, params, n),
+        Act::ProgramRow(start) => overlay(flash, start, latch, latch.len()),
+        Act::WriteLocks(start, n) => overlay(locks, start, latch, n),
+    }
+}
