@@ -1,5 +1,5 @@
 -- Laws of putting the bench board into bytes, and of its call. Assumes nothing.
-use mathlib.Core.Bool.{Bool, true, false, _&&_, not, cond}
+use mathlib.Core.Bool.{Bool, true, false, not, cond}
 use mathlib.Core.List.{List, [], _∷_, _++_}
 use mathlib.Core.Path.{_≡_, refl, sym, ap, _∙_}
 use Prim.Native.Nat.{ℕ, suc, _+_, _%_, _≤_}
@@ -8,7 +8,7 @@ use borrow.Author.Tests.{eqb-true, not-true, not-false}
 use lib.Dec.{eqb}
 use lib.ListN.{length, set, length-set, length-append}
 use lib.Seq.{sets, length-sets}
-use Rattle.bench_board.specs.Board.{Buffers, Left, lent, targetOf, runningOf, siliconOf}
+use Rattle.bench_board.specs.Board.{Left, lent, targetOf, runningOf, siliconOf}
 use Rattle.bench_board.specs.Meets.{listsOf, metOf}
 use Rattle.bench_board.specs.declared.CallOutcome.{CallOutcome}
 use Rattle.bench_board.specs.declared.LineEvent.{LineEvent}
