@@ -6,7 +6,7 @@ mod lists;
 mod port;
 
 pub use ids::Ids;
-pub use lists::{CallOutcome, Fate, Line, LineEvent, Lists};
+pub use lists::{CallOutcome, Fate, Line, LineEvent, Lists, Running};
 
 use crate::flow::{exchanged, BIT_31, LOW_28};
 use crate::image::Header;
@@ -35,14 +35,14 @@ pub struct Board {
     pub privileged: u32,
     /// The bits of the level word that aren't the level.
     pub level_rest: u32,
-    running: Option<CallOutcome>,
+    pub running: Option<Running>,
     /// Requests that no debug port would take: wrong request parity, data parity, fixed bits.
     pub malformed: u32,
 }
 
 /// What an address is.
 #[derive(Clone, Copy, PartialEq, Eq, Debug)]
-enum Place {
+pub enum Place {
     Flash(usize),
     Locks(usize),
     Level,
@@ -96,7 +96,7 @@ impl Board {
         board
     }
 
-    fn place(&self, address: u32) -> Place {
+    pub fn place(&self, address: u32) -> Place {
         if address & 3 != 0 {
             return Place::Elsewhere;
         }
@@ -135,17 +135,17 @@ impl Board {
             }
             Request::LineReset => Answer::ResetDone,
             Request::Read { byte } => self.transfer(byte, None, fate),
-            Request::Write { byte, word, parity: bit } => {
-                self.malformed += u32::from(bit != parity(word));
+            Request::Write { byte, word, parity: bit } if bit == parity(word) => {
                 self.transfer(byte, Some(word), fate)
             }
+            Request::Write { .. } => self.lost(&fate.line()),
         }
     }
 
     /// "XRES puts the stored level in effect, clears SYSREQ and drops a running call as failed."
     fn xres(&mut self) {
-        if let Some(outcome) = self.running.take() {
-            self.fail(&outcome);
+        if let Some(call) = self.running.take() {
+            self.fail(call);
         }
         self.in_effect = self.stored;
         self.sysreq = 0;
@@ -160,9 +160,8 @@ impl Board {
             Some(_) => !reads,
             None => false,
         };
-        self.malformed += u32::from(!fits);
         let Some(port) = port.filter(|_| fits) else {
-            return Self::free(7, &event);
+            return self.lost(&event);
         };
         match self.allowed(port, event.line) {
             Line::Wait => Self::free(2, &event),
@@ -181,6 +180,12 @@ impl Board {
                 None => Self::free(1, &event),
             },
         }
+    }
+
+    /// A request that no debug port takes is answered by silence and not carried out.
+    fn lost(&mut self, event: &LineEvent) -> Answer {
+        self.malformed += 1;
+        Self::free(event.silence, event)
     }
 
     /// An answer whose word and parity don't matter.
@@ -252,16 +257,14 @@ impl Board {
     /// "how many DRW reads of SYSREQ post it busy (bit 31 set), then success or failure, which
     /// takes effect there".
     fn look_at_sysreq(&mut self) -> u32 {
-        match &mut self.running {
-            Some(outcome) if outcome.busy > 0 => outcome.busy -= 1,
-            Some(_) => {
-                let outcome = self.running.take().unwrap();
-                if outcome.success {
-                    self.succeed();
-                } else {
-                    self.fail(&outcome);
-                }
+        match self.running.take() {
+            Some(mut call) if call.outcome.busy > 0 => {
+                call.outcome.busy -= 1;
+                self.running = Some(call);
+                return self.sysreq | BIT_31;
             }
+            Some(call) if call.outcome.success => self.succeed(call.command),
+            Some(call) => self.fail(call),
             None => {}
         }
         self.sysreq
@@ -272,7 +275,7 @@ impl Board {
             Place::SysReq => {
                 self.sysreq = word;
                 if word & BIT_31 != 0 {
-                    self.running = Some(fate.call());
+                    self.running = Some(Running { command: word & !BIT_31, outcome: fate.call() });
                 }
             }
             Place::SysArg => self.sysarg = word,

@@ -1,10 +1,13 @@
 //! The proved core through its C ABI, as a `Core` that is held to this crate. Every byte that a call
 //! writes or leaves is looked at, beside what it means.
 
+mod bench;
+mod boards;
 mod edges;
 mod forged;
 mod tools;
 
+pub use boards::{boards, Boards, ENDS};
 pub use edges::edges;
 pub use forged::{forged, Forged};
 pub use tools::tools;

@@ -2,7 +2,7 @@
 //! The same seed is the same run; any difference ends it with a panic.
 
 use reference::cross::{sessions, texts, Counts, Tally, TextTally};
-use reference::linked::{edges, forged, tools, Forged, Linked};
+use reference::linked::{boards, edges, forged, tools, Boards, Forged, Linked, ENDS};
 use std::time::Instant;
 use std::{env, thread};
 
@@ -12,10 +12,26 @@ struct Sizes {
     sessions: usize,
     bases: usize,
     forged: usize,
+    board_sessions: usize,
+    packets: usize,
 }
 
-const SHORT: Sizes = Sizes { texts: 120_000, sessions: 2_400, bases: 16, forged: 200_000 };
-const LONG: Sizes = Sizes { texts: 3_000_000, sessions: 60_000, bases: 400, forged: 10_000_000 };
+const SHORT: Sizes = Sizes {
+    texts: 120_000,
+    sessions: 2_400,
+    bases: 16,
+    forged: 200_000,
+    board_sessions: 480,
+    packets: 300_000,
+};
+const LONG: Sizes = Sizes {
+    texts: 3_000_000,
+    sessions: 60_000,
+    bases: 400,
+    forged: 10_000_000,
+    board_sessions: 12_000,
+    packets: 7_500_000,
+};
 const THREADS: usize = 2;
 
 /// A share of the work on each thread, with a seed of its own.
@@ -79,6 +95,27 @@ fn check_forged(seed: u64, sizes: &Sizes) {
     assert!([impossible, refused, reports, requests].iter().all(|&count| count > 0));
 }
 
+fn check_boards(seed: u64, sizes: &Sizes) {
+    let (sessions, packets) = (sizes.board_sessions / THREADS, sizes.packets / THREADS);
+    let mut sum = Boards::default();
+    shared(seed, |seed| boards(seed, sessions, packets)).iter().for_each(|part| sum.add(part));
+    let [met, single] = sum.packets;
+    println!(
+        "boards: the bench board is as ours in {} sessions, {met} packets, and at {single} single packets",
+        sum.sessions
+    );
+    println!("  {} sessions with hitches in both lists", sum.hitched);
+    show("sessions", &sum.numbers, [0, 16, 18, 19, 20, 21, 26, 27, 28, 29, 30]);
+    let line: Vec<String> = sum.reached.iter().map(|(name, count)| format!("{name} {count}")).collect();
+    println!("  packets: {}", line.join("; "));
+    for end in ENDS {
+        let calls = sum.calls.iter().filter(|((_, way), _)| *way == end);
+        let line: Vec<String> = calls.map(|((call, _), count)| format!("{call:#04X}: {count}")).collect();
+        println!("  calls {end}, 0x100 for other numbers: {}", line.join(", "));
+    }
+    sum.assert_all_reached();
+}
+
 fn main() {
     let arguments: Vec<String> = env::args().skip(1).collect();
     let long = arguments.iter().any(|word| word == "--long");
@@ -91,5 +128,6 @@ fn main() {
     check_forged(seed, sizes);
     check_texts(seed, sizes);
     check_sessions(seed, sizes);
+    check_boards(seed, sizes);
     println!("cross-checks passed in {:.0} s, seed {seed}", start.elapsed().as_secs_f64());
 }

@@ -1,27 +1,23 @@
 //! What calls do when they take effect: success and failure.
 
-use super::{Board, CallOutcome, Ids};
+use super::{Board, Ids, Running};
 use crate::flow::{
-    BIT_31, CHECKSUM, ERASE_ALL, LOAD_LATCH, LOW_28, PROGRAM_ROW, SET_IMO, SILICON_ID, WRITE_PROTECTION,
+    CHECKSUM, ERASE_ALL, LOAD_LATCH, LOW_28, PROGRAM_ROW, SET_IMO, SILICON_ID, WRITE_PROTECTION,
 };
 use crate::parts::{OPEN, PROTECTED};
 use crate::rng::Rng;
 
 impl Board {
-    fn command(&self) -> u32 {
-        self.sysreq & !BIT_31
-    }
-
-    /// Level and macro that 0x0D is sent.
+    /// Level and macro that 0x0D is sent; a level has four bits.
     fn sent(&self) -> (u8, usize) {
-        ((self.sysarg >> 16) as u8, (self.sysarg >> 24) as usize)
+        ((self.sysarg >> 16) as u8 & 0xF, (self.sysarg >> 24) as usize)
     }
 
     /// "Successful calls put 0xA0000000 in SYSARG and 0 in SYSREQ, save that 0 puts in IDs and level
     /// as step 2 reads them and 0x0B adds (S + all flash bytes) mod 2^28."
-    pub(super) fn succeed(&mut self) {
+    pub(super) fn succeed(&mut self, command: u32) {
         let (mut sysarg, mut sysreq) = (0xA000_0000, 0);
-        match self.command() {
+        match command {
             SILICON_ID => {
                 let Ids { high, low, revision, family, .. } = self.ids;
                 sysarg += u32::from_be_bytes([0, revision, high, low]);
@@ -76,15 +72,14 @@ impl Board {
             self.locks[number * size..][..size].copy_from_slice(&self.latch[..size]);
         }
         if number == 0 {
-            self.stored = level & 0xF;
+            self.stored = level;
         }
     }
 
     /// "A failed call leaves 0 in SYSREQ, a SYSARG of another top digit and, unless it is 0, 0x0B or
     /// 0x15, any flash, locks and latch; a failed 0x0D on macro 0 stores the old level or the one
     /// sent."
-    pub(super) fn fail(&mut self, outcome: &CallOutcome) {
-        let command = self.command();
+    pub(super) fn fail(&mut self, Running { command, outcome }: Running) {
         if let (Some(seed), true) = (outcome.scramble, ![SILICON_ID, CHECKSUM, SET_IMO].contains(&command)) {
             let mut rng = Rng(seed);
             rng.fill(&mut self.flash);
@@ -93,7 +88,7 @@ impl Board {
         }
         let (level, number) = self.sent();
         if command == WRITE_PROTECTION && number == 0 && outcome.stores {
-            self.stored = level & 0xF;
+            self.stored = level;
         }
         let other = if outcome.status >> 28 == 0xA { 0xF000_0000 } else { 0 };
         (self.sysarg, self.sysreq) = (outcome.status | other, 0);

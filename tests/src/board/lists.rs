@@ -57,6 +57,14 @@ impl CallOutcome {
         CallOutcome { busy: 0, success: true, status: 0xF000_0001, scramble: None, stores: false };
 }
 
+/// A call under way.
+#[derive(Clone, Copy, PartialEq, Eq, Debug)]
+pub struct Running {
+    pub command: u32,
+    /// With the busy reads that are left.
+    pub outcome: CallOutcome,
+}
+
 /// The two free lists.
 pub trait Fate {
     fn line(&mut self) -> LineEvent;

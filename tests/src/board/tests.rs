@@ -185,3 +185,30 @@ fn sums() {
     assert_eq!(call(&mut b, &mut lists, 0x0B, 0x8000_DEB6), Ok(0xA000_0005));
     assert_eq!(b.privileged, 0x0FFF_FFFE);
 }
+
+/// "post it busy (bit 31 set)" whatever is written meanwhile, and it stays the call that was started.
+#[test]
+fn sysreq_written_while_a_call_runs() {
+    let (mut b, _) = board(OPEN);
+    let mut lists = Lists { calls: vec![CallOutcome { busy: 2, ..CallOutcome::OK }], ..Lists::default() };
+    assert_eq!(write(&mut b, &mut lists, SYSREQ, BIT_31 + 0x0A), 1);
+    assert_eq!(write(&mut b, &mut lists, SYSREQ, 0x0B), 1);
+    assert_eq!(read(&mut b, &mut lists, SYSREQ), Ok(BIT_31 + 0x0B));
+    assert!(b.running.is_some() && b.flash.iter().any(|&byte| byte != 0));
+    assert_eq!(read(&mut b, &mut lists, SYSREQ), Ok(0));
+    assert!(b.running.is_none() && b.flash.iter().all(|&byte| byte == 0));
+}
+
+/// Neither a request byte nor a word of wrong parity is carried out; both take an entry of the line's list.
+#[test]
+fn malformed_requests_are_lost() {
+    let (mut b, mut lists) = board(OPEN);
+    let (tar, word) = (b.tar, b.tar ^ 4);
+    let wrong = Request::Write { byte: 0x8B, word, parity: !parity(word) };
+    for request in
+        [wrong, Request::Read { byte: 0x8B }, Request::Write { byte: 0xAB, word, parity: parity(word) }]
+    {
+        assert_eq!(ack(b.answer(request, &mut lists)), 7);
+    }
+    assert_eq!((b.tar, b.malformed, lists.line_used), (tar, 3, 3));
+}

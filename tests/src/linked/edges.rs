@@ -1,4 +1,5 @@
-//! The ABI's own edges: buffers of other sizes are 12 with nothing written, and impossible marks 13.
+//! The ABI's own edges: buffers of other sizes are 12 with nothing written, and impossible marks 13; the
+//! bench board's too.
 
 use super::outcome_bytes;
 use crate::hex::text_length;
@@ -103,10 +104,60 @@ fn parts() -> u64 {
     3 * 65_536
 }
 
+/// What the bench board is lent with fixed sizes: board, event, call, request, answer.
+const BENCH: [usize; 5] =
+    [raw::BENCH_BOARD, raw::BENCH_EVENT, raw::BENCH_CALL, raw::OUTCOME, raw::BENCH_ANSWER];
+
+/// The bench board meets a request; refused, it writes nothing.
+fn meet(part: u8, macros: u8, lent: &mut [Vec<u8>; 5]) -> u32 {
+    let before = lent.clone();
+    let [board, event, call, request, answer] = lent;
+    let (mut flash, mut locks, mut latch, mut params) = ([LEFT; 256], [LEFT; 64], [LEFT; 64], [0x5A5A; 18]);
+    let bench =
+        raw::Bench { board, flash: &mut flash, locks: &mut locks, latch: &mut latch, params: &mut params };
+    let befalls = raw::Befalls { event, call, left: [&[], &[], &[]] };
+    let number = raw::bench_meet(part, macros, bench, befalls, request, answer);
+    if number != 0 {
+        assert!(flash.iter().chain(&locks).chain(&latch).all(|&byte| byte == LEFT) && params == [0x5A5A; 18]);
+        assert_eq!(*lent, before);
+    }
+    number
+}
+
+/// The bench board's refusals: 12, then 11, then 13 for each mark that is none.
+fn bench() -> u64 {
+    let mut calls = 0;
+    for (which, size) in (0..5).flat_map(|which| other_sizes(BENCH[which]).map(move |size| (which, size))) {
+        let mut lent = BENCH.map(|right| vec![LEFT; right]);
+        lent[which] = vec![LEFT; size];
+        assert_eq!(meet(0, 0, &mut lent), 12);
+        calls += 1;
+    }
+    // A line reset, with a call running.
+    let mut fine = BENCH.map(|right| vec![0; right]);
+    (fine[0][34], fine[3][0]) = (1, 2);
+    for (part, macros) in (0..=255).flat_map(|part| (0..=255).map(move |macros| (part, macros))) {
+        let number = if SIZES.contains(&(u32::from(part), u32::from(macros))) { 0 } else { 11 };
+        assert_eq!(meet(part, macros, &mut fine.clone()), number);
+        calls += 1;
+    }
+    // Lent, byte, the marks that are some.
+    let marks = [(0, 34, 0..=1), (0, 39, 0..=1), (0, 44, 0..=1), (1, 0, 0..=5), (2, 4, 0..=1), (2, 9, 0..=1)];
+    for (which, at, some) in marks.into_iter().chain([(3, 0, 1..=4)]) {
+        for mark in 0..=255 {
+            let mut lent = fine.clone();
+            lent[which][at] = mark;
+            assert_eq!(meet(1, 1, &mut lent), if some.contains(&mark) { 0 } else { 13 });
+            calls += 1;
+        }
+    }
+    calls
+}
+
 /// Gives the number of calls made.
 pub fn edges() -> u64 {
     let mut rng = Rng(51);
-    let mut calls = parts();
+    let mut calls = parts() + bench();
     for (part, macros) in SIZES {
         calls += read_and_write(&mut rng, part, macros) + start_and_step(&mut rng, part, macros);
     }
