@@ -75,6 +75,7 @@ pub fn cases(tool: &dyn Fn(&str) -> Vec<u8>) -> Vec<Case> {
     maker.contents();
     maker.host();
     maker.damage();
+    maker.whole_fields();
     maker.cases
 }
 

@@ -26,3 +26,6 @@ pub mod Demand
 pub mod Witness
 pub mod Blame
 pub mod Examples
+pub mod Mishaps
+pub mod BoardExamples
+pub mod Starts

@@ -13,3 +13,6 @@ pub mod Machine
 pub mod Run
 pub mod Claim
 pub mod Examples
+pub mod Mishaps
+pub mod BoardExamples
+pub mod Starts

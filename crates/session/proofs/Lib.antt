@@ -10,3 +10,4 @@ pub mod Stepping
 pub mod Following
 pub mod Demand
 pub mod Kept
+pub mod Lists

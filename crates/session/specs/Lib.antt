@@ -6,3 +6,4 @@ pub mod Given
 pub mod Calls
 pub mod Claim
 pub mod Kept
+pub mod Lists

@@ -115,6 +115,15 @@ impl Maker<'_> {
             self.cases.push(Case { name, part: 1, macros: 1, room: BUFFER, text, number: None });
         }
     }
+
+    /// The version's both bytes count, the revision's none. Last, so that the texts before stay.
+    pub(super) fn whole_fields(&mut self) {
+        for (name, number, at, byte) in [("version 0x0102", 6, 0, 1), ("revision 0xFF", 0, 4, 0xFF)] {
+            let mut sections = self.sections();
+            sections[3][at] = byte;
+            self.one(name, number, plain(&short(&sections)));
+        }
+    }
 }
 
 /// Makes a row of part 1's flash one that 10 refuses, and the sum right again.

@@ -1,0 +1,122 @@
+-- The examples of the plain board hold. Assumes nothing.
+use mathlib.Core.Path.{_≡_, refl, ap, _∙_}
+use Prim.Native.Nat.{ℕ}
+use lib.Count.{ones, onesIn}
+use Rattle.flow.proofs.Hearing.{attempt, plain, aTar, aDrw, aRead, meets}
+use Rattle.flow.specs.BoardExamples.{after, TransferExamples, PacketExamples, ResetExamples, CallExamples}
+use Rattle.flow.specs.Calls.{bytesIn, effectOf, sysargAfter, sysreqAfter, leftBy, finish, reset}
+use Rattle.flow.specs.Examples.{onePart}
+use Rattle.flow.specs.Exchange.{Met, decode, carry, barred, transferred, meet}
+use Rattle.flow.specs.Map.{search, regions, lockRegions}
+use Rattle.flow.specs.Target.{Target, Lists, eventOf}
+use Rattle.flow.specs.declared.Request.the-variants.{ReadIdcode, ReadDrw, WriteTar, WriteDrw}
+use Rattle.image.specs.Words.{total, wordAt}
+use Rattle.parts.specs.Sizes.{rowsOf, locksIn, flashSize}
+
+-- a packet of a known request is met as that request
+byIdcode : (l : Lists) (b : Target) {m : Met} → transferred onePart ReadIdcode (eventOf (l .line)) l b ≡ m → after ReadIdcode l b ≡ m
+byIdcode l b e = meets onePart attempt l b ∙ e
+
+byRead : (l : Lists) (b : Target) {m : Met} → transferred onePart ReadDrw (eventOf (l .line)) l b ≡ m → after ReadDrw l b ≡ m
+byRead l b e = meets onePart (plain aRead) l b ∙ e
+
+byTar : (a : ℕ) (l : Lists) (b : Target) {m : Met} → transferred onePart (WriteTar a) (eventOf (l .line)) l b ≡ m → after (WriteTar a) l b ≡ m
+byTar a l b e = meets onePart (plain aTar) l b ∙ e
+
+byWrite : (w : ℕ) (l : Lists) (b : Target) {m : Met} → transferred onePart (WriteDrw w) (eventOf (l .line)) l b ≡ m → after (WriteDrw w) l b ≡ m
+byWrite w l b e = meets onePart (plain aDrw) l b ∙ e
+
+pub transfer-examples : TransferExamples
+unfolding transferred carry barred search regions lockRegions rowsOf locksIn flashSize wordAt
+transfer-examples = record {
+  idcode = byIdcode _ _ refl;
+  flash = byRead _ _ refl;
+  locks = byRead _ _ refl;
+  level = byRead _ _ refl;
+  sysarg = byRead _ _ refl;
+  sysreq = byRead _ _ refl;
+  testMode = byRead _ _ refl;
+  params = byRead _ _ refl;
+  pastParams = byRead _ _ refl;
+  elsewhere = byRead _ _ refl;
+  storesParams = byWrite 5 _ _ refl;
+  storesFlash = byWrite 5 _ _ refl;
+  storesLocks = byWrite 5 _ _ refl;
+  storesLevel = byWrite 5 _ _ refl;
+  waited = byRead _ _ refl;
+  faulted = byRead _ _ refl;
+  silentDone = byRead _ _ refl;
+  silentNot = byRead _ _ refl;
+  garbled = byRead _ _ refl;
+  garbledWrite = byTar 4 _ _ refl;
+  protectedFlash = byRead _ _ refl;
+  protectedParams = byWrite 5 _ _ refl;
+  protectedSilent = byRead _ _ refl;
+  protectedGarbled = byRead _ _ refl;
+  protectedLocks = byRead _ _ refl;
+  protectedTar = byTar 0 _ _ refl;
+  killed = byTar 4 _ _ refl;
+  killedIdcode = byIdcode _ _ refl;
+}
+
+pub packet-examples : PacketExamples
+unfolding meet decode ones onesIn
+packet-examples = record {
+  idcode = refl;
+  tar = refl;
+  startBit = refl;
+  parityBit = refl;
+  stopBit = refl;
+  parkBit = refl;
+  notWrite = refl;
+  notRead = refl;
+  wordParity = refl;
+  met = refl;
+}
+
+pub reset-examples : ResetExamples
+unfolding meet decode reset finish leftBy
+reset-examples = record {
+  xres = refl;
+  wakes = refl;
+  drops = refl;
+  dropsLevel = refl;
+  takesNone = refl;
+  lineReset = refl;
+}
+
+pub call-examples : CallExamples
+unfolding transferred carry barred search regions lockRegions rowsOf locksIn flashSize finish effectOf sysargAfter sysreqAfter leftBy bytesIn total
+call-examples = record {
+  begins = byWrite 0x80000015 _ _ refl;
+  noCall = ap (λ m. m .lists) (byWrite 0x15 _ _ refl);
+  noCallStores = ap (λ m. m .target .sysreq) (byWrite 0x15 _ _ refl);
+  busyRead = byRead _ _ refl;
+  takesEffect = byRead _ _ refl;
+  fails = byRead _ _ refl;
+  past = ap (λ m. m .target .running) (byWrite 0x80000015 _ _ refl);
+  ids = refl;
+  idsLevel = refl;
+  sum = refl;
+  others = refl;
+  othersDone = refl;
+  erase = refl;
+  latch = refl;
+  row = refl;
+  otherRow = refl;
+  lock = refl;
+  otherMacro = refl;
+  reopen = refl;
+  notReopen = refl;
+  imo = refl;
+  failedDigit = refl;
+  failedArg = refl;
+  failedDone = refl;
+  failed0 = refl;
+  failedSum = refl;
+  failedImo = refl;
+  failedRow = refl;
+  failedLevel = refl;
+  oldLevel = refl;
+  failedMacro1 = refl;
+}

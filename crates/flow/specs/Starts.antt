@@ -1,0 +1,69 @@
+-- What demand 3 leaves free and what it allows at most: nobody asks more of an image, a board or a list than stands here. Assumes nothing.
+use mathlib.Core.Bool.{true}
+use mathlib.Core.List.{List, [], _∷_}
+use mathlib.Core.Logic.{_⊎_}
+use mathlib.Core.Path.{_≡_}
+use Prim.Native.Nat.{ℕ, _+_, _/_, _≤_, _<_}
+use lib.ListN.{length, getD}
+use Rattle.flow.specs.Claim.{Passes, Startable, Calm}
+use Rattle.flow.specs.Examples.{onePart, twoMacros}
+use Rattle.flow.specs.Plan.{mostTraffic}
+use Rattle.flow.specs.Target.{Target, Silicon, Memory, Residue, idle, clean}
+use Rattle.flow.specs.declared.Entry.the-variants.{FromOpen, FromProtected}
+use Rattle.flow.specs.declared.Reply.{Reply}
+use Rattle.image.specs.Checks.{imageFault}
+use Rattle.image.specs.declared.Header.{Header}
+use Rattle.parts.specs.Parts.{lookupOf}
+use Rattle.parts.specs.Sizes.{rowBytes, flashSize, lockTotal}
+use Rattle.parts.specs.declared.Geometry.{Geometry}
+use Rattle.parts.specs.declared.Lookup.the-variants.{Found}
+
+-- a board on which no call runs; level in effect, PARAMS, registers and the posted word are given
+abbrev pub boardOf : Silicon → Memory → (params : List ℕ) → (effect sysarg sysreq testMode tar posted : ℕ) → Target
+boardOf x m ps e a q t p w = record {
+  silicon = x;
+  memory = m;
+  effect = e;
+  params = ps;
+  sysarg = a;
+  sysreq = q;
+  testMode = t;
+  tar = p;
+  posted = w;
+  running = idle;
+}
+
+pub record ByteIDs (x : Silicon) : Type 0 where
+  pub high : x .high < 256
+  pub low : x .low < 256
+  pub revision : x .revision < 256
+  pub family : x .family < 256
+
+pub record SizesOf (g : Geometry) (m : Memory) (words : List ℕ) : Type 0 where
+  pub flash : length (m .flash) ≡ flashSize g
+  pub locks : length (m .locks) ≡ lockTotal g
+  pub latch : length (m .latch) ≡ rowBytes g
+  pub params : 2 + rowBytes g / 4 ≤ length words
+
+pub record FreeStarts : Type 0 where
+  -- 'Sizes and addresses are those of the image's part and M; the IDs .. are free', and so is all else but the stored level
+  pub board : (g : Geometry) (x : Silicon) (m : Memory) (params : List ℕ) (effect sysarg sysreq testMode tar posted : ℕ) → ByteIDs x → SizesOf g m params
+      → (m .stored ≡ 1) ⊎ (m .stored ≡ 2)
+      → Startable g (boardOf x m params effect sysarg sysreq testMode tar posted)
+  -- 'an image that document 01's checks let pass'
+  pub image : (g : Geometry) (h : Header) (bytes : List ℕ) → lookupOf (h .part) (h .macros) ≡ Found g → imageFault h bytes ≡ 0
+      → ((j : ℕ) → getD bytes j 0 < 256)
+      → Passes g h bytes
+  -- 'nothing waits or is busy': whatever is free in the entries
+  pub calm : (junk : Reply) (other : ℕ) (residue : Residue)
+      → Calm (record {
+        line = record { fate = clean; junk = junk; other = other } ∷ [];
+        calls = record { busyReads = 0; succeeds = true; residue = residue } ∷ [];
+      })
+
+-- '17 × (plan + 29997 × loops + 29 × A) transfers, A XRES and 30 × A line resets', worked out; the last is the largest
+pub record MostExamples : Type 0 where
+  pub part1 : mostTraffic onePart FromOpen ≡ record { transfers = 265637716; xresets = 1; lineResets = 30 }
+  pub part1Protected : mostTraffic onePart FromProtected ≡ record { transfers = 267168668; xresets = 2; lineResets = 60 }
+  pub part3 : mostTraffic twoMacros FromOpen ≡ record { transfers = 1052208183; xresets = 1; lineResets = 30 }
+  pub part3Protected : mostTraffic twoMacros FromProtected ≡ record { transfers = 1053229016; xresets = 2; lineResets = 60 }

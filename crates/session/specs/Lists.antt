@@ -1,0 +1,38 @@
+-- What a list of demand 3 may hold: none of document 01's steps is left out, and what each of them changes. Assumes nothing.
+use mathlib.Core.List.{List}
+use mathlib.Core.Path.{_≡_}
+use Prim.Native.Nat.{ℕ}
+use Rattle.flow.specs.Exchange.{meet}
+use Rattle.flow.specs.Plan.{noTraffic}
+use Rattle.flow.specs.declared.Answer.{Answer}
+use Rattle.flow.specs.declared.Packet.{Packet}
+use Rattle.flow.specs.declared.Packet.the-variants.{Xres, LineReset, Read, Write}
+use Rattle.parts.specs.declared.Geometry.{Geometry}
+use Rattle.session.specs.Calls.{State, Steps, sent}
+use Rattle.session.specs.Given.{stepWith}
+use Rattle.session.specs.declared.Outcome.the-variants.{Refused, Ask, Told}
+use Rattle.session.specs.declared.Report.{Report}
+
+-- a list of n answers leads from a state to one with this session and this board
+pub record Reached (g : Geometry) (bytes : List ℕ) (n : ℕ) (s : State) (Session Board : State → Type 0) : Type 0 where
+  pub state : State
+  pub steps : Steps g bytes n s state
+  pub session : Session state
+  pub board : Board state
+
+pub record ListExamples : Type 0 where
+  -- 'a step carries the board's answer to the last request'; 'The board meets every request once'
+  pub answer : (g : Geometry) (bytes : List ℕ) (s : State) (p : Packet) → s .stands ≡ Ask p
+      → Reached g bytes 1 s
+      (λ t. t .session ≡ (stepWith (s .session) bytes ((meet g p (s .lists) (s .target)) .answer)) .session)
+      (λ t. t .target ≡ (meet g p (s .lists) (s .target)) .target)
+  -- 'or anything that 12 or 14 refuses, after which the request still stands': any image and any answer, and nothing has changed
+  pub refusal : (g : Geometry) (bytes : List ℕ) (s : State) (lent : List ℕ) (a : Answer) (number : ℕ)
+      → (stepWith (s .session) lent a) .outcome ≡ Refused number
+      → Steps g bytes 0 s s
+  -- 'after the report, any answer': the board meets nothing
+  pub later : (g : Geometry) (bytes : List ℕ) (s : State) (a : Answer) (r : Report) → s .stands ≡ Told r
+      → Reached g bytes 0 s (λ t. t .session ≡ (stepWith (s .session) bytes a) .session) (λ t. t .target ≡ s .target)
+  -- 'the reads and writes handed out, repeats included, resets not', and the resets
+  pub sent : (byte word parityBit : ℕ)
+      → sent (Write byte word parityBit) (sent (Read byte) (sent LineReset (sent Xres noTraffic))) ≡ record { transfers = 2; xresets = 1; lineResets = 1 }
