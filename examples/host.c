@@ -42,7 +42,7 @@ static int refused(uint32_t number)
 }
 
 /* The report in an outcome of kind 5. */
-static int told(const uint8_t *outcome)
+static int reported(const uint8_t *outcome)
 {
     const uint8_t *bytes = outcome + HALZUQEEN_OUTCOME_TRANSFERS;
     unsigned long transfers = bytes[0] | (unsigned long)bytes[1] << 8 | (unsigned long)bytes[2] << 16
@@ -66,7 +66,7 @@ static int program(const uint8_t *record, size_t size, int leave)
         number = halzuqeen_step(session, SESSION, image, size, answer.reset_done, answer.ack, answer.word,
             answer.parity, outcome, OUTCOME);
     }
-    return number == 0 ? told(outcome) : refused(number);
+    return number == 0 ? reported(outcome) : refused(number);
 }
 
 int main(int count, char **words)

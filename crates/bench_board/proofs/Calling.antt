@@ -14,11 +14,11 @@ use Rattle.bench_board.specs.declared.CallOutcome.{CallOutcome}
 use Rattle.bench_board.specs.declared.Next.{Next}
 use Rattle.bench_board.specs.declared.Registers.{Registers}
 use Rattle.bench_board.specs.declared.Silicon.{Silicon}
-use Rattle.bench_memory.specs.Acts.{after, Effects}
+use Rattle.bench_memory.specs.Acts.{buffersAfter, Effects}
 use Rattle.bench_memory.specs.declared.Act.{Act}
 use Rattle.bench_memory.specs.declared.Act.the-variants.{Keep, Leave}
 use Rattle.bench_memory.specs.declared.Effect.{Effect}
-use Rattle.flow.specs.Calls.{dropped, reset, levelSent, macroSent, failedArg, listAt, effectOf, sysargAfter, sysreqAfter, leftBy, finish}
+use Rattle.flow.specs.Calls.{dropped, reset, levelSent, macroSent, failedArg, listAt, effectOf, sysargAfter, sysreqAfter, afterFailure, finish}
 use Rattle.flow.specs.Target.{Memory, Target, idle, setReset}
 use Rattle.image.specs.Words.{total}
 use Rattle.parts.specs.declared.Geometry.{Geometry}
@@ -29,12 +29,12 @@ quiet c = eqb c 0 || eqb c 0x0B || eqb c 0x15
 -- a failed call
 module _ (r : Registers) (o : CallOutcome) (c arg : ℕ) (a : arg ≡ failedArg (o .sysarg)) where
   pub failed-quiet : quiet c ≡ true → Fails o c r (ended r (r .stored) arg 0 Keep)
-  unfolding finish leftBy
+  unfolding finish afterFailure
   failed-quiet q g x b = rw (q, a)
 
   pub failed-left : quiet c ≡ false → (l : ℕ) → l ≡ cond (o .«new_level» && eqb c 0x0D && eqb (macroSent (r .sysarg)) 0) (levelSent (r .sysarg)) (r .stored % 16)
       → l < 16 → Fails o c r (ended r l arg 0 Leave)
-  unfolding finish leftBy
+  unfolding finish afterFailure
   failed-left q l e h g x b = let f : l % 16 ≡ l = omega arith in rw (q, a, f, e)
 
 -- SYSARG after a success
@@ -73,7 +73,7 @@ pub succeeding : (g : Geometry) (r : Registers) (fs ps : List ℕ) (c arg req : 
 unfolding finish
 succeeding g r fs ps c arg req e f a q o x b h k =
     let w = f x b k in
-    ap (λ (m : Memory). endedWith r m ((after x (e .act) b) .params) arg req) (w .0)
+    ap (λ (m : Memory). endedWith r m ((buffersAfter x (e .act) b) .params) arg req) (w .0)
     ∙ ap (λ (l : List ℕ). endedWith r (effectOf g c (r .effect) (r .sysarg) (listAt (r .sysarg) (b .params)) (memoryOf b (r .stored % 16))) l arg req) (w .1)
     ∙ rw (a (memoryOf b (r .stored % 16)) h, q)
 
@@ -84,12 +84,12 @@ droppedFor g x r b k = setReset (dropped g (runningOf x k) (targetOf x r b))
 pub reset-idle : (r : Registers) (m : Next) → r .running ≡ Idle → Alters (record { registers = r; act = Keep }) m setReset → Resets r m
 unfolding reset
 reset-idle r m e a g x b =
-    ap (λ (t : Act). targetOf x (m .registers) (after x t b)) (a .0) ∙ a .1 x b ∙ ap (λ (k : Running). droppedFor g x r b k) (sym e)
+    ap (λ (t : Act). targetOf x (m .registers) (buffersAfter x t b)) (a .0) ∙ a .1 x b ∙ ap (λ (k : Running). droppedFor g x r b k) (sym e)
 
 pub reset-busy : (r : Registers) (o : CallOutcome) (c : ℕ) (n m : Next) → r .running ≡ Busy o c → Fails o c r n → Alters n m setReset → Resets r m
 unfolding reset
 reset-busy r o c n m e f a g x b =
-    ap (λ (t : Act). targetOf x (m .registers) (after x t b)) (a .0)
-    ∙ a .1 x (after x (n .act) b)
+    ap (λ (t : Act). targetOf x (m .registers) (buffersAfter x t b)) (a .0)
+    ∙ a .1 x (buffersAfter x (n .act) b)
     ∙ ap setReset (f g x b)
     ∙ ap (λ (k : Running). droppedFor g x r b k) (sym e)

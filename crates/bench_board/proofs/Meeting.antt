@@ -4,7 +4,7 @@ use mathlib.Core.List.{List, [], _∷_}
 use mathlib.Core.Path.{_≡_, refl, sym, ap, _∙_}
 use Prim.Native.Nat.{ℕ}
 use lib.Dec.{eqb}
-use Rattle.bench_board.specs.Board.{Buffers, Left, outcomeOf, fateOf, eventOf, targetOf}
+use Rattle.bench_board.specs.Board.{Buffers, Left, callOutcomeOf, transferOutcomeOf, lineEventOf, targetOf}
 use Rattle.bench_board.specs.Meets.{keeping, Makes, MakesIn, Resets, Carries, Calls, Replies, Decides, metOf, listsOf}
 use Rattle.bench_board.specs.declared.CallOutcome.{CallOutcome}
 use Rattle.bench_board.specs.declared.Decision.{Decision}
@@ -13,8 +13,8 @@ use Rattle.bench_board.specs.declared.Next.{Next}
 use Rattle.bench_board.specs.declared.Registers.{Registers}
 use Rattle.bench_map.specs.Spots.{placeOf}
 use Rattle.bench_map.specs.declared.Spot.{Spot}
-use Rattle.bench_memory.specs.Acts.{after}
-use Rattle.flow.specs.Exchange.{Decoded, known, unknown, decode, fetch, store, carry, guarded, overDrw, carriedOut, gives, dead, silence, replyTo, barred, met, transferred, meetOn, meet}
+use Rattle.bench_memory.specs.Acts.{buffersAfter}
+use Rattle.flow.specs.Exchange.{Decoded, known, unknown, decode, fetch, store, carry, guarded, overDrw, carriedOut, gives, killed, silentReply, replyTo, barred, met, transferred, meetOn, meet}
 use Rattle.flow.specs.Exchange as Flow
 use Rattle.flow.specs.Map.{Place, place}
 use Rattle.flow.specs.Packets.{isRead}
@@ -33,7 +33,7 @@ module _ (g : Geometry) (fs ks ps : List ℕ) (q : Request) (other : ℕ) (o : C
 
   -- the request as it is known
   abbrev done : (x : Left) (b : Buffers) → Request → Target
-  done x b k = carry g k other (outcomeOf x o) (targetOf x r b)
+  done x b k = carry g k other (callOutcomeOf x o) (targetOf x r b)
 
   pub carry-none : (k : Request) → q ≡ k → ((x : Left) (b : Buffers) → targetOf x r b ≡ done x b k) → Out (keeping r)
   carry-none k e f w x b hf hk hp = f x b ∙ sym (ap (λ (t : Request). done x b t) e)
@@ -49,24 +49,24 @@ module _ (g : Geometry) (fs ks ps : List ℕ) (q : Request) (other : ℕ) (o : C
   unfolding carry
   carry-tar n a e m w x b hf hk hp = m x b ∙ sym (ap (λ (t : Request). done x b t) e)
 
-  pub carry-write : (n : Next) (v : ℕ) → q ≡ WriteDrw v → Makes r n (λ x t. store v (outcomeOf x o) (placeOf p) t) → Out n
+  pub carry-write : (n : Next) (v : ℕ) → q ≡ WriteDrw v → Makes r n (λ x t. store v (callOutcomeOf x o) (placeOf p) t) → Out n
   unfolding carry
   carry-write n v e m w x b hf hk hp =
       m x b
-      ∙ ap (λ (s : Place). store v (outcomeOf x o) s (targetOf x r b)) w
+      ∙ ap (λ (s : Place). store v (callOutcomeOf x o) s (targetOf x r b)) w
       ∙ sym (ap (λ (t : Request). done x b t) e)
 
 -- what requests that alter nothing carry out
 module _ (g : Geometry) (other : ℕ) (o : CallOutcome) (r : Registers) (x : Left) (b : Buffers) where
-  pub none-xres : targetOf x r b ≡ carry g Xres other (outcomeOf x o) (targetOf x r b)
+  pub none-xres : targetOf x r b ≡ carry g Xres other (callOutcomeOf x o) (targetOf x r b)
   unfolding carry
   none-xres = refl
 
-  pub none-line : targetOf x r b ≡ carry g LineReset other (outcomeOf x o) (targetOf x r b)
+  pub none-line : targetOf x r b ≡ carry g LineReset other (callOutcomeOf x o) (targetOf x r b)
   unfolding carry
   none-line = refl
 
-  pub none-idcode : targetOf x r b ≡ carry g ReadIdcode other (outcomeOf x o) (targetOf x r b)
+  pub none-idcode : targetOf x r b ≡ carry g ReadIdcode other (callOutcomeOf x o) (targetOf x r b)
   unfolding carry
   none-idcode = refl
 
@@ -74,47 +74,47 @@ module _ (g : Geometry) (other : ℕ) (o : CallOutcome) (r : Registers) (x : Lef
 module _ (g : Geometry) (fs ks ps : List ℕ) (q : Request) (e : LineEvent) (o : CallOutcome) (p : Spot) (r : Registers) (bars : Bool) (a : Reply)
     (at : placeOf p ≡ place g (r .tar)) (shut : bars ≡ (eqb (r .effect) 2 && overDrw q && guarded (placeOf p))) (said : Replies q e bars r a) where
   abbrev through : Bool
-  through = not (eqb (r .effect) 4) && not bars && carriedOut (fateOf (e .fate))
+  through = not (eqb (r .effect) 4) && not bars && carriedOut (transferOutcomeOf (e .outcome))
 
   -- by whether it is barred
   abbrev metFor : (x : Left) (b : Buffers) → Bool → Flow.Met
   metFor x b z =
       let t = targetOf x r b in
-      met (not (dead t) && not z && carriedOut (fateOf (e .fate))) g q (eventOf e) (listsOf x e o)
-      (cond (dead t) (silence (e .junk)) (replyTo (fateOf (e .fate)) z (isRead q) (gives q t) (e .junk))) t
+      met (not (killed t) && not z && carriedOut (transferOutcomeOf (e .outcome))) g q (lineEventOf e) (listsOf x e o)
+      (cond (killed t) (silentReply (e .filler)) (replyTo (transferOutcomeOf (e .outcome)) z (isRead q) (gives q t) (e .filler))) t
 
   barred-so : (x : Left) (b : Buffers) → barred g q (targetOf x r b) ≡ bars
   unfolding barred
   barred-so x b = ap (λ (s : Place). eqb (r .effect) 2 && overDrw q && guarded s) (sym at) ∙ sym shut
 
-  met-so : (x : Left) (b : Buffers) → transferred g q (eventOf e) (listsOf x e o) (targetOf x r b) ≡ metFor x b bars
+  met-so : (x : Left) (b : Buffers) → transferred g q (lineEventOf e) (listsOf x e o) (targetOf x r b) ≡ metFor x b bars
   unfolding transferred
   met-so x b = ap (λ (z : Bool). metFor x b z) (barred-so x b)
 
   abbrev told : (x : Left) → Target → Reply → Bool → Flow.Met
-  told x t y s = record { target = t; answer = Transferred y; lists = record { line = []; calls = cond s [] (outcomeOf x o ∷ []) } }
+  told x t y s = record { target = t; answer = Transferred y; lists = record { line = []; calls = cond s [] (callOutcomeOf x o ∷ []) } }
 
   abbrev metThrough : (x : Left) (b : Buffers) → Bool → Flow.Met
   metThrough x b z =
       let t = targetOf x r b in
-      met z g q (eventOf e) (listsOf x e o)
-      (cond (dead t) (silence (e .junk)) (replyTo (fateOf (e .fate)) bars (isRead q) (gives q t) (e .junk))) t
+      met z g q (lineEventOf e) (listsOf x e o)
+      (cond (killed t) (silentReply (e .filler)) (replyTo (transferOutcomeOf (e .outcome)) bars (isRead q) (gives q t) (e .filler))) t
 
   abbrev saidBy : (x : Left) (b : Buffers) → Reply
   saidBy x b =
-      let t = targetOf x r b in cond (dead t) (silence (e .junk)) (replyTo (fateOf (e .fate)) bars (isRead q) (gives q t) (e .junk))
+      let t = targetOf x r b in cond (killed t) (silentReply (e .filler)) (replyTo (transferOutcomeOf (e .outcome)) bars (isRead q) (gives q t) (e .filler))
 
   pub carried-out : (n : Next) (s : Bool) → through ≡ true → Carries g fs ks ps q (e .other) o p r n → Calls q p s
-      → Decides fs ks ps r e o (record { next = n; answer = Transferred a; «line_used» = true; «call_used» = s }) (λ l t. transferred g q (eventOf e) l t)
+      → Decides fs ks ps r e o (record { next = n; answer = Transferred a; «line_used» = true; «call_used» = s }) (λ l t. transferred g q (lineEventOf e) l t)
   carried-out n s h m k x b hf hk hp =
       ap (λ (t : Target). told x t a s) (m at x b hf hk hp)
-      ∙ ap (λ (y : Reply). told x (carry g q (e .other) (outcomeOf x o) (targetOf x r b)) y s) (said x b)
-      ∙ ap (λ (z : Bool). told x (carry g q (e .other) (outcomeOf x o) (targetOf x r b)) (saidBy x b) z) (k g (targetOf x r b) at)
+      ∙ ap (λ (y : Reply). told x (carry g q (e .other) (callOutcomeOf x o) (targetOf x r b)) y s) (said x b)
+      ∙ ap (λ (z : Bool). told x (carry g q (e .other) (callOutcomeOf x o) (targetOf x r b)) (saidBy x b) z) (k g (targetOf x r b) at)
       ∙ sym (ap (λ (z : Bool). metThrough x b z) h)
       ∙ sym (met-so x b)
 
   pub left-out : through ≡ false
-      → Decides fs ks ps r e o (record { next = keeping r; answer = Transferred a; «line_used» = true; «call_used» = false }) (λ l t. transferred g q (eventOf e) l t)
+      → Decides fs ks ps r e o (record { next = keeping r; answer = Transferred a; «line_used» = true; «call_used» = false }) (λ l t. transferred g q (lineEventOf e) l t)
   left-out h x b hf hk hp =
       ap (λ (y : Reply). told x (targetOf x r b) y false) (said x b)
       ∙ sym (ap (λ (z : Bool). metThrough x b z) h)
@@ -128,10 +128,10 @@ module _ (g : Geometry) (fs ks ps : List ℕ) (q : Request) (e : LineEvent) (o :
   meet-as d k h m x b hf hk hp =
       m x b hf hk hp ∙ sym (ap (λ (t : Request). meetOn g (known t) (listsOf x e o) (targetOf x r b)) h)
 
-  pub meet-transfer : (d : Decision) (k : Request) → q ≡ k → Decides fs ks ps r e o d (λ l t. transferred g q (eventOf e) l t)
-      → Decides fs ks ps r e o d (λ l t. transferred g k (eventOf e) l t)
+  pub meet-transfer : (d : Decision) (k : Request) → q ≡ k → Decides fs ks ps r e o d (λ l t. transferred g q (lineEventOf e) l t)
+      → Decides fs ks ps r e o d (λ l t. transferred g k (lineEventOf e) l t)
   meet-transfer d k h m x b hf hk hp =
-      m x b hf hk hp ∙ ap (λ (t : Request). transferred g t (eventOf e) (listsOf x e o) (targetOf x r b)) h
+      m x b hf hk hp ∙ ap (λ (t : Request). transferred g t (lineEventOf e) (listsOf x e o) (targetOf x r b)) h
 
   -- a reset: neither list is used
   abbrev resetMet : (x : Left) → Target → Flow.Met
@@ -154,7 +154,7 @@ module _ (g : Geometry) (fs ks ps : List ℕ) (p : Packet) (e : LineEvent) (o : 
 
 -- a packet that is no request
 pub meet-unknown : (g : Geometry) (fs ks ps : List ℕ) (p : Packet) (e : LineEvent) (o : CallOutcome) (r : Registers) (a : Reply) → unknown ≡ decode p
-    → a ≡ silence (e .junk)
+    → a ≡ silentReply (e .filler)
     → Decides fs ks ps r e o (record { next = keeping r; answer = Transferred a; «line_used» = true; «call_used» = false }) (λ l t. meet g p l t)
 meet-unknown g fs ks ps p e o r a k h =
     decoded-as g fs ks ps p e o r (record { next = keeping r; answer = Transferred a; «line_used» = true; «call_used» = false }) unknown k
@@ -162,7 +162,7 @@ meet-unknown g fs ks ps p e o r a k h =
 
 -- once the act is performed
 pub performed : (g : Geometry) (x : Left) (e : LineEvent) (o : CallOutcome) (p : Packet) (r : Registers) (d : Decision) (b b′ : Buffers)
-    → Decides (b .flash) (b .locks) (b .params) r e o d (λ l t. meet g p l t) → b′ ≡ after x (d .next .act) b
+    → Decides (b .flash) (b .locks) (b .params) r e o d (λ l t. meet g p l t) → b′ ≡ buffersAfter x (d .next .act) b
     → metOf x e o (record { registers = d .next .registers; answer = d .answer; «line_used» = d .«line_used»; «call_used» = d .«call_used» }) b′
     ≡ meet g p (listsOf x e o) (targetOf x r b)
 performed g x e o p r d b b′ m h =

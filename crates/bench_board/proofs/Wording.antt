@@ -5,7 +5,7 @@ use Prim.Native.Nat.{ℕ, suc, _+_, _-_, _%_, _≤_, _<_}
 use native.Mathlib.Omega.{arith}
 use borrow.Author.Tests.{le-leb, lt-leb}
 use lib.ListN.{getD}
-use Rattle.bench_board.specs.Board.{residueOf, outcomeOf, runningOf, targetOf}
+use Rattle.bench_board.specs.Board.{residueOf, callOutcomeOf, runningOf, targetOf}
 use Rattle.bench_board.specs.Meets.{keeping, asking, Makes, MakesOf, MakesIn, Alters}
 use Rattle.bench_board.specs.declared.CallOutcome.{CallOutcome}
 use Rattle.bench_board.specs.declared.Next.{Next}
@@ -15,7 +15,7 @@ use Rattle.bench_board.specs.declared.Running.the-variants.{Idle, Busy}
 use Rattle.bench_map.specs.Spots.{placeOf}
 use Rattle.bench_map.specs.declared.Spot.{Spot}
 use Rattle.bench_map.specs.declared.Spot.the-variants.{InFlash, InLocks, InParams, AtLevel, AtSysreq, AtSysarg, AtTestMode, Elsewhere}
-use Rattle.bench_memory.specs.Acts.{after}
+use Rattle.bench_memory.specs.Acts.{buffersAfter}
 use Rattle.bench_memory.specs.declared.Act.{Act}
 use Rattle.bench_memory.specs.declared.Act.the-variants.{PutWord}
 use Rattle.flow.specs.Calls.{finish}
@@ -33,8 +33,8 @@ module _ (g : Geometry) (fs ps : List ℕ) (r : Registers) (other : ℕ) (o : Ca
   pub ended-there : (n m : Next) → o .«busy_reads» ≡ 0 → MakesOf fs ps r n (λ x t. finish g (o .succeeds) (residueOf x o) c t)
       → Alters n m (λ t. setPosted (n .registers .sysreq) t) → MakesOf fs ps r m (λ x t. tick g other (runningOf x (Busy o c)) t)
   ended-there n m e f a x b hf hp =
-      ap (λ (t : Act). targetOf x (m .registers) (after x t b)) (a .0)
-      ∙ a .1 x (after x (n .act) b)
+      ap (λ (t : Act). targetOf x (m .registers) (buffersAfter x t b)) (a .0)
+      ∙ a .1 x (buffersAfter x (n .act) b)
       ∙ ap (λ (t : Target). setPosted (t .sysreq) t) (f x b hf hp)
       ∙ sym (ap (λ (k : ℕ). tick g other (busy k (o .succeeds) (residueOf x o) c) (targetOf x r b)) e)
 
@@ -84,16 +84,16 @@ module _ (g : Geometry) (fs ks ps : List ℕ) (r : Registers) (other : ℕ) (n :
 
 -- a write of SYSREQ
 module _ (r : Registers) (w : ℕ) (o : CallOutcome) where
-  pub call-begun : 2147483648 ≤ w → Makes r (keeping (asking w (r .posted) (Busy o (w % 256)) r)) (λ x t. begin (isCall w) w (outcomeOf x o) t)
+  pub call-begun : 2147483648 ≤ w → Makes r (keeping (asking w (r .posted) (Busy o (w % 256)) r)) (λ x t. begin (isCall w) w (callOutcomeOf x o) t)
   call-begun h x b = rw (le-leb 2147483648 w h)
 
-  pub sysreq-written : w < 2147483648 → Makes r (keeping (asking w (r .posted) (r .running) r)) (λ x t. begin (isCall w) w (outcomeOf x o) t)
+  pub sysreq-written : w < 2147483648 → Makes r (keeping (asking w (r .posted) (r .running) r)) (λ x t. begin (isCall w) w (callOutcomeOf x o) t)
   sysreq-written h x b = rw (lt-leb 2147483648 w h)
 
 -- a word written at TAR
 module _ (r : Registers) (w : ℕ) (o : CallOutcome) (spot : Spot) where
   abbrev Written : Next → Type 0
-  Written n = Makes r n (λ x t. store w (outcomeOf x o) (placeOf spot) t)
+  Written n = Makes r n (λ x t. store w (callOutcomeOf x o) (placeOf spot) t)
 
   pub write-flash : (a : ℕ) → spot ≡ InFlash a → Written (keeping r)
   write-flash a e x b = rw e
@@ -107,7 +107,7 @@ module _ (r : Registers) (w : ℕ) (o : CallOutcome) (spot : Spot) where
   pub write-level : spot ≡ AtLevel → Written (keeping r)
   write-level e x b = rw e
 
-  pub write-sysreq : (n : Next) → spot ≡ AtSysreq → Makes r n (λ x t. begin (isCall w) w (outcomeOf x o) t) → Written n
+  pub write-sysreq : (n : Next) → spot ≡ AtSysreq → Makes r n (λ x t. begin (isCall w) w (callOutcomeOf x o) t) → Written n
   write-sysreq n e m x b = m x b ∙ rw e
 
   pub write-sysarg : (n : Next) → spot ≡ AtSysarg → Makes r n (λ x t. setSysarg w t) → Written n

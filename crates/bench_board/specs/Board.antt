@@ -8,22 +8,22 @@ use Rattle.bench_board.specs.declared.Running.the-variants.{Idle, Busy}
 use Rattle.bench_board.specs.declared.Silicon.{Silicon}
 use Rattle.flow.specs.Target.{Target, Residue, idle, busy}
 use Rattle.flow.specs.Target as Flow
--- the lent buffers and what is left in them stand in bench_memory, the fates in bench_lines
-pub use Rattle.bench_lines.specs.Lines.{fateOf}
+-- the lent buffers and what is left in them stand in bench_memory, the outcomes in bench_lines
+pub use Rattle.bench_lines.specs.Lines.{transferOutcomeOf}
 pub use Rattle.bench_memory.specs.Lent.{Buffers, Left, lent, left, memoryOf}
 
 abbrev pub residueOf : Left → CallOutcome → Residue
 residueOf x o = record { flash = x .flash; locks = x .locks; latch = x .latch; sysarg = o .sysarg; newLevel = o .«new_level» }
 
-abbrev pub outcomeOf : Left → CallOutcome → Flow.CallOutcome
-outcomeOf x o = record { busyReads = o .«busy_reads»; succeeds = o .succeeds; residue = residueOf x o }
+abbrev pub callOutcomeOf : Left → CallOutcome → Flow.CallOutcome
+callOutcomeOf x o = record { busyReads = o .«busy_reads»; succeeds = o .succeeds; residue = residueOf x o }
 
 abbrev pub runningOf : Left → Running → Flow.Running
 runningOf x Idle = idle
 runningOf x (Busy o c) = busy (o .«busy_reads») (o .succeeds) (residueOf x o) c
 
-abbrev pub eventOf : LineEvent → Flow.LineEvent
-eventOf e = record { fate = fateOf (e .fate); junk = e .junk; other = e .other }
+abbrev pub lineEventOf : LineEvent → Flow.LineEvent
+lineEventOf e = record { outcome = transferOutcomeOf (e .outcome); filler = e .filler; other = e .other }
 
 abbrev pub siliconOf : Silicon → Flow.Silicon
 siliconOf s = record {

@@ -3,7 +3,7 @@ use mathlib.Core.Bool.{Bool, true, false, cond}
 use mathlib.Core.List.{List, [], _∷_}
 use mathlib.Core.Path.{_≡_}
 use Prim.Native.Nat.{ℕ, _%_}
-use Rattle.bench_board.specs.Board.{Buffers, Left, residueOf, siliconOf, outcomeOf, fateOf, eventOf, targetOf}
+use Rattle.bench_board.specs.Board.{Buffers, Left, residueOf, siliconOf, callOutcomeOf, transferOutcomeOf, lineEventOf, targetOf}
 use Rattle.bench_memory.specs.declared.Act.{Act}
 use Rattle.bench_memory.specs.declared.Act.the-variants.{Keep}
 use Rattle.bench_board.specs.declared.CallOutcome.{CallOutcome}
@@ -17,10 +17,10 @@ use Rattle.bench_board.specs.declared.Running.{Running}
 use Rattle.bench_board.specs.declared.Running.the-variants.{Idle}
 use Rattle.bench_map.specs.Spots.{placeOf}
 use Rattle.bench_map.specs.declared.Spot.{Spot}
-use Rattle.bench_memory.specs.Acts.{after}
+use Rattle.bench_memory.specs.Acts.{buffersAfter}
 use Rattle.flow.specs.Calls.{sysargAfter, finish, reset}
 use Rattle.flow.specs.Exchange as Flow
-use Rattle.flow.specs.Exchange.{carry, gives, callsOn, dead, silence, replyTo}
+use Rattle.flow.specs.Exchange.{carry, gives, callsOn, killed, silentReply, replyTo}
 use Rattle.flow.specs.Map.{place}
 use Rattle.flow.specs.Packets.{isRead}
 use Rattle.flow.specs.Target.{Lists, Memory, Target}
@@ -32,7 +32,7 @@ use Rattle.parts.specs.declared.Geometry.{Geometry}
 
 -- the lists that a call of `meet` is given
 abbrev pub listsOf : Left → LineEvent → CallOutcome → Lists
-listsOf x e o = record { line = eventOf e ∷ []; calls = outcomeOf x o ∷ [] }
+listsOf x e o = record { line = lineEventOf e ∷ []; calls = callOutcomeOf x o ∷ [] }
 
 -- what a call of `meet` gave, with the buffers as it left them
 abbrev pub metOf : Left → LineEvent → CallOutcome → Met → Buffers → Flow.Met
@@ -40,8 +40,8 @@ metOf x e o m b = record {
   target = targetOf x (m .registers) b;
   answer = m .answer;
   lists = record {
-    line = cond (m .«line_used») [] (eventOf e ∷ []);
-    calls = cond (m .«call_used») [] (outcomeOf x o ∷ []);
+    line = cond (m .«line_used») [] (lineEventOf e ∷ []);
+    calls = cond (m .«call_used») [] (callOutcomeOf x o ∷ []);
   };
 }
 
@@ -86,18 +86,18 @@ ended r l a q t = record {
 
 -- registers and memory after are the target that f makes of the one before, whatever is lent
 abbrev pub Makes : Registers → Next → (Left → Target → Target) → Type 0
-Makes r n f = (x : Left) (b : Buffers) → targetOf x (n .registers) (after x (n .act) b) ≡ f x (targetOf x r b)
+Makes r n f = (x : Left) (b : Buffers) → targetOf x (n .registers) (buffersAfter x (n .act) b) ≡ f x (targetOf x r b)
 
 -- the same, if flash and PARAMS are these
 abbrev pub MakesOf : (flash params : List ℕ) → Registers → Next → (Left → Target → Target) → Type 0
 MakesOf fs ps r n f =
-    (x : Left) (b : Buffers) → b .flash ≡ fs → b .params ≡ ps → targetOf x (n .registers) (after x (n .act) b) ≡ f x (targetOf x r b)
+    (x : Left) (b : Buffers) → b .flash ≡ fs → b .params ≡ ps → targetOf x (n .registers) (buffersAfter x (n .act) b) ≡ f x (targetOf x r b)
 
 -- the same, if flash, locks and PARAMS are these
 abbrev pub MakesIn : (flash locks params : List ℕ) → Registers → Next → (Left → Target → Target) → Type 0
 MakesIn fs ks ps r n f =
     (x : Left) (b : Buffers) → b .flash ≡ fs → b .locks ≡ ks → b .params ≡ ps
-    → targetOf x (n .registers) (after x (n .act) b) ≡ f x (targetOf x r b)
+    → targetOf x (n .registers) (buffersAfter x (n .act) b) ≡ f x (targetOf x r b)
 
 -- the registers alone alter, as f alters the target
 abbrev pub Alters : Next → Next → (Target → Target) → Type 0
@@ -125,7 +125,7 @@ Resets r n = (g : Geometry) → Makes r n (λ x t. reset g t)
 
 -- a request carried out where TAR points
 abbrev pub Carries : Geometry → (flash locks params : List ℕ) → Request → (other : ℕ) → CallOutcome → Spot → Registers → Next → Type 0
-Carries g fs ks ps q w o p r n = placeOf p ≡ place g (r .tar) → MakesIn fs ks ps r n (λ x t. carry g q w (outcomeOf x o) t)
+Carries g fs ks ps q w o p r n = placeOf p ≡ place g (r .tar) → MakesIn fs ks ps r n (λ x t. carry g q w (callOutcomeOf x o) t)
 
 -- the word that a read gives
 abbrev pub Gives : Request → Registers → (word : ℕ) → Type 0
@@ -139,7 +139,7 @@ Calls q p s = (g : Geometry) (t : Target) → placeOf p ≡ place g (t .tar) →
 abbrev pub Replies : Request → LineEvent → (bars : Bool) → Registers → Reply → Type 0
 Replies q e bars r a =
     (x : Left) (b : Buffers)
-    → a ≡ cond (dead (targetOf x r b)) (silence (e .junk)) (replyTo (fateOf (e .fate)) bars (isRead q) (gives q (targetOf x r b)) (e .junk))
+    → a ≡ cond (killed (targetOf x r b)) (silentReply (e .filler)) (replyTo (transferOutcomeOf (e .outcome)) bars (isRead q) (gives q (targetOf x r b)) (e .filler))
 
 -- ---- packets
 
@@ -148,7 +148,7 @@ abbrev pub metBy : Left → LineEvent → CallOutcome → Decision → Buffers �
 metBy x e o d b =
     metOf x e o
     (record { registers = d .next .registers; answer = d .answer; «line_used» = d .«line_used»; «call_used» = d .«call_used» })
-    (after x (d .next .act) b)
+    (buffersAfter x (d .next .act) b)
 
 -- a packet is met as f says, if flash, locks and PARAMS are these
 abbrev pub Decides : (flash locks params : List ℕ) → Registers → LineEvent → CallOutcome → Decision → (Lists → Target → Flow.Met) → Type 0

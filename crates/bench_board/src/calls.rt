@@ -44,7 +44,7 @@ fn failed_arg(word: u32) -> u32
 }
 
 // Whether a call leaves the memory alone even when it fails.
-fn harmless(c: u8) -> bool
+fn keeps_memory(c: u8) -> bool
     ensures { λ r. ⌜ r ≡ (eqb c 0 || eqb c 0x0B || eqb c 0x15) ⌝ }
 {
     if c == 0 {
@@ -61,7 +61,7 @@ fn fail(r: Registers, o: CallOutcome, c: u8) -> Next
     ensures { λ n. ⌜ Fails o c r n ⌝ }
 {
     let arg = failed_arg(o.sysarg);
-    if harmless(c) {
+    if keeps_memory(c) {
         return end(r, r.stored, arg, 0, Act::Keep);
     }
     end(

@@ -10,7 +10,7 @@ mod transfers;
 mod words;
 
 use bench_lines::Decoded;
-pub use bench_lines::Fate;
+pub use bench_lines::TransferOutcome;
 use bench_memory::Act;
 use flow::Answer;
 use flow::Packet;
@@ -42,10 +42,10 @@ pub enum Running {
     Busy(CallOutcome, u8),
 }
 
-// A transfer's fate, with what is free in its answer, and the word that is elsewhere.
+// A transfer's outcome, with what is free in its answer, and the word that is elsewhere.
 pub struct LineEvent {
-    pub fate: Fate,
-    pub junk: Reply,
+    pub outcome: TransferOutcome,
+    pub filler: Reply,
     pub other: u32,
 }
 
@@ -130,13 +130,13 @@ fn decide(
 ) -> Decision
     ensures { λ d. ⌜ Decides (now (flash .entry)) (now (locks .entry)) (now (params .entry)) r e o d (λ l t. Flow.meet g p l t) ⌝ }
 {
-    let junk = e.junk;
+    let filler = e.filler;
     let d = bench_lines::request_in(p);
     match d {
         Decoded::Known(q) => meet_request(g, r, flash, locks, params, q, e, o),
         Decoded::Unknown => Decision {
             next: words::keep(r),
-            answer: Answer::Transferred(bench_lines::be_silent(junk)),
+            answer: Answer::Transferred(bench_lines::silent_reply(filler)),
             line_used: true,
             call_used: false,
         },

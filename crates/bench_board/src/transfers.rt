@@ -2,7 +2,7 @@
 ghost use mathlib.Core.Bool.{_&&_, not};
 ghost use mathlib.Core.Path.{_≡_};
 ghost use lib.Dec.{eqb};
-ghost use Rattle.bench_board.specs.Board.{eventOf, fateOf};
+ghost use Rattle.bench_board.specs.Board.{lineEventOf, transferOutcomeOf};
 ghost use Rattle.bench_board.specs.Meets.{Makes, Decides, Carries, Gives, Calls, Replies};
 ghost use Rattle.flow.specs.Exchange.{carriedOut, transferred};
 ghost use Rattle.flow.specs.Packets.{isRead};
@@ -13,7 +13,7 @@ use crate::LineEvent;
 use crate::Next;
 use crate::Registers;
 use crate::words;
-use bench_lines::Fate;
+use bench_lines::TransferOutcome;
 use bench_map::Spot;
 use flow::Answer;
 use flow::Reply;
@@ -102,17 +102,17 @@ fn starts_call(q: Request, spot: Spot) -> bool
 fn answer(r: Registers, q: Request, e: LineEvent, barred: bool) -> Reply
     ensures { λ a. ⌜ Replies q e barred r a ⌝ }
 {
-    let junk = e.junk;
-    let fate = e.fate;
+    let filler = e.filler;
+    let outcome = e.outcome;
     if r.effect == 4 {
-        return bench_lines::be_silent(junk);
+        return bench_lines::silent_reply(filler);
     }
-    bench_lines::reply_to(fate, barred, is_read(q), given_word(r, q), junk)
+    bench_lines::reply_to(outcome, barred, is_read(q), given_word(r, q), filler)
 }
 
 // Whether a transfer is carried out: the board is not KILLed, the place not shut, and the line lets it through.
-fn goes_through(effect: u8, barred: bool, fate: Fate) -> bool
-    ensures { λ t. ⌜ t ≡ (not (eqb effect 4) && not barred && carriedOut (fateOf fate)) ⌝ }
+fn goes_through(effect: u8, barred: bool, outcome: TransferOutcome) -> bool
+    ensures { λ t. ⌜ t ≡ (not (eqb effect 4) && not barred && carriedOut (transferOutcomeOf outcome)) ⌝ }
 {
     if effect == 4 {
         return false;
@@ -120,7 +120,7 @@ fn goes_through(effect: u8, barred: bool, fate: Fate) -> bool
     if barred {
         return false;
     }
-    bench_lines::lets_through(fate)
+    bench_lines::carries_out(outcome)
 }
 
 // A transfer, met.
@@ -134,13 +134,13 @@ pub(crate) fn transfer(
     e: LineEvent,
     o: CallOutcome,
 ) -> Decision
-    ensures { λ d. ⌜ Decides (now (flash .entry)) (now (locks .entry)) (now (params .entry)) r e o d (λ l t. transferred g q (eventOf e) l t) ⌝ }
+    ensures { λ d. ⌜ Decides (now (flash .entry)) (now (locks .entry)) (now (params .entry)) r e o d (λ l t. transferred g q (lineEventOf e) l t) ⌝ }
 {
     let spot = bench_map::spot_of(g, r.tar);
     let barred = bench_map::bars(r.effect, q, spot);
-    let fate = e.fate;
+    let outcome = e.outcome;
     let reply = answer(r, q, e, barred);
-    if goes_through(r.effect, barred, fate) {
+    if goes_through(r.effect, barred, outcome) {
         let n = carry_out(g, r, flash, locks, params, q, e.other, o, spot);
         let starts = starts_call(q, spot);
         return Decision {

@@ -3,7 +3,7 @@ ghost use mathlib.Core.Path.{_≡_};
 ghost use mathlib.Core.Bool.{cond};
 ghost use Prim.Native.Nat.{_%_, _-_, _<_};
 ghost use lib.Dec.{eqb};
-ghost use Rattle.bench_board.specs.Board.{outcomeOf, runningOf};
+ghost use Rattle.bench_board.specs.Board.{callOutcomeOf, runningOf};
 ghost use Rattle.bench_board.specs.Meets.{keeping, asking, Makes, MakesOf, MakesIn, Alters};
 ghost use Rattle.bench_map.specs.Spots.{placeOf};
 ghost use Rattle.flow.specs.Exchange.{levelWord, tick, fetch, isCall, begin, store};
@@ -161,7 +161,7 @@ pub(crate) fn read_word(
 
 // A write of SYSREQ; bit 31 starts a call.
 fn write_sysreq(r: Registers, w: u32, o: CallOutcome) -> Next
-    ensures { λ n. ⌜ Makes r n (λ x t. begin (isCall w) w (outcomeOf x o) t) ⌝ }
+    ensures { λ n. ⌜ Makes r n (λ x t. begin (isCall w) w (callOutcomeOf x o) t) ⌝ }
 {
     if 2147483648 <= w {
         return ask(r, w, r.posted, Running::Busy(o, (w % 256) as u8));
@@ -188,7 +188,7 @@ fn write_test_mode(r: Registers, w: u32) -> Next
 
 // A DRW write: registers and PARAMS take it, all else does not.
 pub(crate) fn write_word(r: Registers, w: u32, o: CallOutcome, spot: Spot) -> Next
-    ensures { λ n. ⌜ Makes r n (λ x t. store w (outcomeOf x o) (placeOf spot) t) ⌝ }
+    ensures { λ n. ⌜ Makes r n (λ x t. store w (callOutcomeOf x o) (placeOf spot) t) ⌝ }
 {
     match spot {
         Spot::InFlash(_) => keep(r),

@@ -17,7 +17,7 @@ use Rattle.bench_board.specs.declared.Registers.{Registers}
 use Rattle.bench_board.specs.declared.Running.{Running}
 use Rattle.bench_board.specs.declared.Running.the-variants.{Idle, Busy}
 use Rattle.bench_board.specs.declared.Silicon.{Silicon}
-use Rattle.bench_c.specs.BoardBytes.{outcomeAt, isOutcome, registersIn, isBoard, eventIn, isEvent, packetIn, isPacket, siliconBytes, runBytes, runningBytes, wordsBytes, boardBytes, replyBytes, answerBytes, usedOf, emptied, RunningPut, BoardPut}
+use Rattle.bench_c.specs.BoardBytes.{callOutcomeAt, isCallOutcome, registersIn, isBoard, eventIn, isEvent, packetIn, isPacket, siliconBytes, runBytes, runningBytes, wordsBytes, boardBytes, replyBytes, answerBytes, usedOf, emptied, RunningPut, BoardPut}
 use Rattle.bench_c.specs.BoardCalls.{Bench, benchOf, Benched, benched, benchAfter, meetInto, isBench, sizesFit, meetFor, meetCall}
 use Rattle.flow.specs.Exchange as Flow
 use Rattle.flow.specs.Target as Target
@@ -177,14 +177,14 @@ module _ (b e c q : List ℕ) where
   pub no-event : (t u : Bool) → t ≡ isBoard b → not t ≡ false → u ≡ isEvent e → not u ≡ true → false ≡ isBench b e c q
   no-event t u k h l i = rw (says-yes t (isBoard b) k h, says-no u (isEvent e) l i)
 
-  pub no-call : (t u v : Bool) → t ≡ isBoard b → not t ≡ false → u ≡ isEvent e → not u ≡ false → v ≡ isOutcome c 0 → not v ≡ true
+  pub no-call : (t u v : Bool) → t ≡ isBoard b → not t ≡ false → u ≡ isEvent e → not u ≡ false → v ≡ isCallOutcome c 0 → not v ≡ true
       → false ≡ isBench b e c q
-  no-call t u v k h l i m j = rw (says-yes t (isBoard b) k h, says-yes u (isEvent e) l i, says-no v (isOutcome c 0) m j)
+  no-call t u v k h l i m j = rw (says-yes t (isBoard b) k h, says-yes u (isEvent e) l i, says-no v (isCallOutcome c 0) m j)
 
-  pub by-request : (t u v w : Bool) → t ≡ isBoard b → not t ≡ false → u ≡ isEvent e → not u ≡ false → v ≡ isOutcome c 0 → not v ≡ false → w ≡ isPacket q
+  pub by-request : (t u v w : Bool) → t ≡ isBoard b → not t ≡ false → u ≡ isEvent e → not u ≡ false → v ≡ isCallOutcome c 0 → not v ≡ false → w ≡ isPacket q
       → w ≡ isBench b e c q
   by-request t u v w k h l i m j n =
-      rw (says-yes t (isBoard b) k h, says-yes u (isEvent e) l i, says-yes v (isOutcome c 0) m j) n
+      rw (says-yes t (isBoard b) k h, says-yes u (isEvent e) l i, says-yes v (isCallOutcome c 0) m j) n
 
 pub sized : (b e c q a : List ℕ) → sizesFit b e c q a ≡ true
     → (length b ≡ 46) × ((length e ≡ 11) × ((length c ≡ 10) × ((length q ≡ 8) × (length a ≡ 8))))
@@ -200,11 +200,11 @@ module _ (g : Geometry) (e c q : List ℕ) (x : Left) (b : Bench) where
   meet-other h = rw h
 
   pub meet-taken : (p : Packet) (v : LineEvent) (o : CallOutcome) (b′ : Bench) → isBench (b .board) e c q ≡ true → p ≡ packetIn q → v ≡ eventIn e
-      → o ≡ outcomeAt c 0
+      → o ≡ callOutcomeAt c 0
       → b′ ≡ meetInto g p v o x b
       → benched 0 b′ ≡ meetFor (Found g) e c q x b
   meet-taken p v o b′ h ep ev eo k =
-      let k′ : b′ ≡ meetInto g (packetIn q) (eventIn e) (outcomeAt c 0) x b
+      let k′ : b′ ≡ meetInto g (packetIn q) (eventIn e) (callOutcomeAt c 0) x b
       = k
       ∙ ap (λ (y : Packet). meetInto g y v o x b) ep
       ∙ ap (λ (y : LineEvent). meetInto g (packetIn q) y o x b) ev

@@ -8,8 +8,8 @@ use lib.ListN.{getD}
 use lib.Seq.{sets}
 use Rattle.bench_board.specs.Board.{Buffers, Left, runningOf, targetOf}
 use Rattle.bench_board.specs.declared.CallOutcome.{CallOutcome}
-use Rattle.bench_lines.specs.declared.Fate.{Fate}
-use Rattle.bench_lines.specs.declared.Fate.the-variants.{Clean, Waits, Faults, Garbles, Silent}
+use Rattle.bench_lines.specs.declared.TransferOutcome.{TransferOutcome}
+use Rattle.bench_lines.specs.declared.TransferOutcome.the-variants.{Clean, Waits, Faults, WrongParity, Silent}
 use Rattle.bench_board.specs.declared.LineEvent.{LineEvent}
 use Rattle.bench_board.specs.declared.Registers.{Registers}
 use Rattle.bench_board.specs.declared.Running.{Running}
@@ -27,16 +27,16 @@ use Rattle.layout.specs.Bytes.{lowFirst, flagByte}
 -- ---- found in bytes
 
 -- how a call will go, from k on: busy reads at 0, succeeds at 4, SYSARG that a failure leaves at 5, new level stored by a failed 0x0D at 9
-abbrev pub outcomeAt : List ℕ → (k : ℕ) → CallOutcome
-outcomeAt bs k = record {
+abbrev pub callOutcomeAt : List ℕ → (k : ℕ) → CallOutcome
+callOutcomeAt bs k = record {
   «busy_reads» = wordAt bs k;
   succeeds = eqb (getD bs (k + 4) 0) 1;
   sysarg = wordAt bs (k + 5);
   «new_level» = eqb (getD bs (k + 9) 0) 1;
 }
 
-abbrev pub isOutcome : List ℕ → (k : ℕ) → Bool
-isOutcome bs k = leb (getD bs (k + 4) 0) 1 && leb (getD bs (k + 9) 0) 1
+abbrev pub isCallOutcome : List ℕ → (k : ℕ) → Bool
+isCallOutcome bs k = leb (getD bs (k + 4) 0) 1 && leb (getD bs (k + 9) 0) 1
 
 -- idcode at 0, high at 4, low at 5, revision at 6, family at 7, privileged sum at 8
 abbrev pub siliconIn : List ℕ → Silicon
@@ -51,7 +51,7 @@ siliconIn bs = record {
 
 -- 0 idle, 1 busy at 34; how the call will go at 35, its number at 45
 abbrev pub runningIn : List ℕ → Running
-runningIn bs = cond (eqb (getD bs 34 0) 0) Idle (Busy (outcomeAt bs 35) (getD bs 45 0))
+runningIn bs = cond (eqb (getD bs 34 0) 0) Idle (Busy (callOutcomeAt bs 35) (getD bs 45 0))
 
 -- stored level at 12, level in effect at 13, SYSARG at 14, SYSREQ at 18, TEST_MODE at 22, TAR at 26, posted word at 30
 unfoldable pub registersIn : List ℕ → Registers
@@ -69,19 +69,19 @@ registersIn bs = record {
 
 -- what follows an idle board's byte 34 is not looked at
 abbrev pub isBoard : List ℕ → Bool
-isBoard bs = cond (eqb (getD bs 34 0) 0) true (cond (eqb (getD bs 34 0) 1) (isOutcome bs 35) false)
+isBoard bs = cond (eqb (getD bs 34 0) 0) true (cond (eqb (getD bs 34 0) 1) (isCallOutcome bs 35) false)
 
 -- 0 OK, 1 WAIT, 2 FAULT, 3 wrong parity, 4 silence not carried out, 5 silence carried out
-abbrev pub fateIn : ℕ → Fate
-fateIn n =
+abbrev pub transferOutcomeIn : ℕ → TransferOutcome
+transferOutcomeIn n =
     cond (eqb n 0) Clean
     (cond (eqb n 1) Waits
     (cond (eqb n 2) Faults
-    (cond (eqb n 3) Garbles (Silent (eqb n 5)))))
+    (cond (eqb n 3) WrongParity (Silent (eqb n 5)))))
 
--- fate at 0; what is free in the answer: acknowledgement at 1, word at 2, parity bit at 6; the word elsewhere at 7
+-- its outcome at 0; what is free in the answer: acknowledgement at 1, word at 2, parity bit at 6; the word elsewhere at 7
 abbrev pub eventIn : List ℕ → LineEvent
-eventIn bs = record { fate = fateIn (getD bs 0 0); junk = record { ack = getD bs 1 0; word = wordAt bs 2; parity = getD bs 6 0 }; other = wordAt bs 7 }
+eventIn bs = record { outcome = transferOutcomeIn (getD bs 0 0); filler = record { ack = getD bs 1 0; word = wordAt bs 2; parity = getD bs 6 0 }; other = wordAt bs 7 }
 
 abbrev pub isEvent : List ℕ → Bool
 isEvent bs = leb (getD bs 0 0) 5

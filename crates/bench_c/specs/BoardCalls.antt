@@ -8,7 +8,7 @@ use Rattle.bench_board.specs.Board.{Left, lent, targetOf}
 use Rattle.bench_board.specs.Meets.{listsOf}
 use Rattle.bench_board.specs.declared.CallOutcome.{CallOutcome}
 use Rattle.bench_board.specs.declared.LineEvent.{LineEvent}
-use Rattle.bench_c.specs.BoardBytes.{registersIn, isBoard, eventIn, isEvent, outcomeAt, isOutcome, packetIn, isPacket, boardBytes, answerBytes, usedIn}
+use Rattle.bench_c.specs.BoardBytes.{registersIn, isBoard, eventIn, isEvent, callOutcomeAt, isCallOutcome, packetIn, isPacket, boardBytes, answerBytes, usedIn}
 use Rattle.flow.specs.Exchange as Flow
 use Rattle.flow.specs.declared.Packet.{Packet}
 use Rattle.parts.specs.Parts.{lookupOf}
@@ -48,7 +48,7 @@ meetInto g p e o x b = benchAfter (Flow.meet g p (listsOf x e o) (targetOf x (re
 
 -- bytes that a board, an event, a call and a request have
 abbrev pub isBench : (board event call request : List ℕ) → Bool
-isBench b e c q = isBoard b && (isEvent e && (isOutcome c 0 && isPacket q))
+isBench b e c q = isBoard b && (isEvent e && (isCallOutcome c 0 && isPacket q))
 
 -- 12: bytes of a wrong length
 abbrev pub sizesFit : (board event call request answer : List ℕ) → Bool
@@ -58,7 +58,7 @@ sizesFit b e c q a = eqb (length b) 46 && (eqb (length e) 11 && (eqb (length c) 
 abbrev pub meetFor : Lookup → (event call request : List ℕ) → Left → Bench → Benched
 meetFor (Refused n) e c q x b = benched n b
 meetFor (Found g) e c q x b =
-    cond (isBench (b .board) e c q) (benched 0 (meetInto g (packetIn q) (eventIn e) (outcomeAt c 0) x b)) (benched 13 b)
+    cond (isBench (b .board) e c q) (benched 0 (meetInto g (packetIn q) (eventIn e) (callOutcomeAt c 0) x b)) (benched 13 b)
 
 unfoldable pub meetCall : (part macros : ℕ) (event call request : List ℕ) → Left → Bench → Benched
 meetCall part macros e c q x b =

@@ -2,20 +2,20 @@
 ghost use mathlib.Core.Path.{_≡_};
 ghost use Prim.Native.Nat.{_+_, _≤_};
 ghost use lib.ListN.{length};
-ghost use Rattle.bench_c.specs.BoardBytes.{outcomeAt, isOutcome, siliconIn, runningIn, registersIn, isBoard, fateIn, eventIn, isEvent, packetIn, isPacket};
+ghost use Rattle.bench_c.specs.BoardBytes.{callOutcomeAt, isCallOutcome, siliconIn, runningIn, registersIn, isBoard, transferOutcomeIn, eventIn, isEvent, packetIn, isPacket};
 use bench_board::CallOutcome;
-use bench_board::Fate;
 use bench_board::LineEvent;
 use bench_board::Registers;
 use bench_board::Running;
 use bench_board::Silicon;
+use bench_board::TransferOutcome;
 use flow::Packet;
 use flow::Reply;
 
 // How a call will go, from a place on.
-pub(crate) fn outcome_at(bytes: &[u8], at: usize) -> CallOutcome
+pub(crate) fn call_outcome_at(bytes: &[u8], at: usize) -> CallOutcome
     requires { ⌜ at + 10 ≤ length (now bytes) ⌝ }
-    ensures { λ r. ⌜ r ≡ outcomeAt (now (bytes .entry)) at ⌝ }
+    ensures { λ r. ⌜ r ≡ callOutcomeAt (now (bytes .entry)) at ⌝ }
 {
     let reads = image::word_at(bytes, at);
     let sysarg = image::word_at(bytes, at + 5);
@@ -27,9 +27,9 @@ pub(crate) fn outcome_at(bytes: &[u8], at: usize) -> CallOutcome
     }
 }
 
-pub(crate) fn is_outcome(bytes: &[u8], at: usize) -> bool
+pub(crate) fn is_call_outcome(bytes: &[u8], at: usize) -> bool
     requires { ⌜ at + 10 ≤ length (now bytes) ⌝ }
-    ensures { λ r. ⌜ r ≡ isOutcome (now (bytes .entry)) at ⌝ }
+    ensures { λ r. ⌜ r ≡ isCallOutcome (now (bytes .entry)) at ⌝ }
 {
     if bytes[at + 4] <= 1 {
         return bytes[at + 9] <= 1;
@@ -60,7 +60,7 @@ fn running_in(bytes: &[u8]) -> Running
     if bytes[34] == 0 {
         return Running::Idle;
     }
-    let o = outcome_at(bytes, 35);
+    let o = call_outcome_at(bytes, 35);
     Running::Busy(o, bytes[45])
 }
 
@@ -98,27 +98,27 @@ pub(crate) fn is_board(bytes: &[u8]) -> bool
         return true;
     }
     if bytes[34] == 1 {
-        return is_outcome(bytes, 35);
+        return is_call_outcome(bytes, 35);
     }
     false
 }
 
-fn fate_in(n: u8) -> Fate
-    ensures { λ r. ⌜ r ≡ fateIn n ⌝ }
+fn transfer_outcome_in(n: u8) -> TransferOutcome
+    ensures { λ r. ⌜ r ≡ transferOutcomeIn n ⌝ }
 {
     if n == 0 {
-        return Fate::Clean;
+        return TransferOutcome::Clean;
     }
     if n == 1 {
-        return Fate::Waits;
+        return TransferOutcome::Waits;
     }
     if n == 2 {
-        return Fate::Faults;
+        return TransferOutcome::Faults;
     }
     if n == 3 {
-        return Fate::Garbles;
+        return TransferOutcome::WrongParity;
     }
-    Fate::Silent(n == 5)
+    TransferOutcome::Silent(n == 5)
 }
 
 // The event that bytes hold.
@@ -126,12 +126,12 @@ pub(crate) fn event_in(bytes: &[u8]) -> LineEvent
     requires { ⌜ length (now bytes) ≡ 11 ⌝ }
     ensures { λ r. ⌜ r ≡ eventIn (now (bytes .entry)) ⌝ }
 {
-    let fate = fate_in(bytes[0]);
+    let outcome = transfer_outcome_in(bytes[0]);
     let word = image::word_at(bytes, 2);
     let other = image::word_at(bytes, 7);
     LineEvent {
-        fate: fate,
-        junk: Reply {
+        outcome: outcome,
+        filler: Reply {
             ack: bytes[1],
             word: word,
             parity: bytes[6],

@@ -10,12 +10,12 @@ mod board_out;
 
 use bench_board::CallOutcome;
 use bench_board::LineEvent;
+use board_in::call_outcome_at;
 use board_in::event_in;
 use board_in::is_board;
+use board_in::is_call_outcome;
 use board_in::is_event;
-use board_in::is_outcome;
 use board_in::is_packet;
-use board_in::outcome_at;
 use board_in::packet_in;
 use board_in::registers_in;
 use board_out::put_answer;
@@ -54,7 +54,7 @@ fn is_bench(board: &[u8], event: &[u8], call: &[u8], request: &[u8]) -> bool
     if !is_event(event) {
         return false;
     }
-    if !is_outcome(call, 0) {
+    if !is_call_outcome(call, 0) {
         return false;
     }
     is_packet(request)
@@ -124,7 +124,7 @@ fn meet_in(
     }
     let p = packet_in(request);
     let e = event_in(event);
-    let o = outcome_at(call, 0);
+    let o = call_outcome_at(call, 0);
     meet_on(
         g,
         board,

@@ -4,7 +4,7 @@ use mathlib.Core.Path.{_≡_, ap, sym, _∙_}
 use Prim.Native.Nat.{ℕ, _-_, _/_, _%_}
 use native.Mathlib.Omega.{arith}
 use borrow.Author.Tests.{eq-eqb, ne-eqb}
-use Rattle.flow.specs.Exchange.{unknown, wellFormed, readAt, writeAt, decode, garbledReply}
+use Rattle.flow.specs.Exchange.{unknown, wellFormed, readAt, writeAt, decode, wrongParityReply}
 use Rattle.flow.specs.declared.Packet.the-variants.{Read, Write}
 use Rattle.flow.specs.declared.Reply.{Reply}
 use Rattle.wire.specs.Wire.{parity}
@@ -57,8 +57,8 @@ readWith j n = record { ack = 1; word = j .word; parity = n }
 
 -- 1 - a parity bit is the other
 module _ (t : Bool) (p : ℕ) (j : Reply) (h : t ≡ true) (e : p ≡ parity (j .word)) where
-  pub garbled-even : p ≡ 0 → readWith j 1 ≡ garbledReply t j
-  garbled-even z = let q : 1 ≡ 1 - parity (j .word) = omega arith in rw h (ap (readWith j) q)
+  pub wrong-parity-even : p ≡ 0 → readWith j 1 ≡ wrongParityReply t j
+  wrong-parity-even z = let q : 1 ≡ 1 - parity (j .word) = omega arith in rw h (ap (readWith j) q)
 
-  pub garbled-odd : (p ≡ 0 → ⊥) → readWith j 0 ≡ garbledReply t j
-  garbled-odd z = let q : 0 ≡ 1 - parity (j .word) = omega arith in rw h (ap (readWith j) q)
+  pub wrong-parity-odd : (p ≡ 0 → ⊥) → readWith j 0 ≡ wrongParityReply t j
+  wrong-parity-odd z = let q : 0 ≡ 1 - parity (j .word) = omega arith in rw h (ap (readWith j) q)

@@ -1,8 +1,8 @@
 // The board's side of the wire: packets read bit by bit, and answers.
 ghost use mathlib.Core.Bool.{true, false};
 ghost use mathlib.Core.Path.{_≡_};
-ghost use Rattle.bench_lines.specs.Lines.{decodedOf, fateOf};
-ghost use Rattle.flow.specs.Exchange.{wellFormed, readAt, writeAt, decode, saying, silence, okayReply, garbledReply, replyTo, carriedOut};
+ghost use Rattle.bench_lines.specs.Lines.{decodedOf, transferOutcomeOf};
+ghost use Rattle.flow.specs.Exchange.{wellFormed, readAt, writeAt, decode, replyWith, silentReply, okayReply, wrongParityReply, replyTo, carriedOut};
 use flow::Packet;
 use flow::Reply;
 use flow::Request;
@@ -15,11 +15,11 @@ pub enum Decoded {
 }
 
 // What becomes of a transfer; a silence may hide one that was carried out.
-pub enum Fate {
+pub enum TransferOutcome {
     Clean,
     Waits,
     Faults,
-    Garbles,
+    WrongParity,
     Silent(bool),
 }
 
@@ -124,36 +124,36 @@ pub fn request_in(p: Packet) -> Decoded
 }
 
 // An acknowledgement with what is free beside it.
-fn say(ack: u8, junk: Reply) -> Reply
-    ensures { λ r. ⌜ r ≡ saying ack junk ⌝ }
+fn reply_with(ack: u8, filler: Reply) -> Reply
+    ensures { λ r. ⌜ r ≡ replyWith ack filler ⌝ }
 {
     Reply {
         ack: ack,
-        word: junk.word,
-        parity: junk.parity,
+        word: filler.word,
+        parity: filler.parity,
     }
 }
 
 // A silence: any acknowledgement but 1, 2 and 4.
-pub fn be_silent(junk: Reply) -> Reply
-    ensures { λ r. ⌜ r ≡ silence junk ⌝ }
+pub fn silent_reply(filler: Reply) -> Reply
+    ensures { λ r. ⌜ r ≡ silentReply filler ⌝ }
 {
-    let n = junk.ack;
+    let n = filler.ack;
     if n == 1 {
-        return say(0, junk);
+        return reply_with(0, filler);
     }
     if n == 2 {
-        return say(0, junk);
+        return reply_with(0, filler);
     }
     if n == 4 {
-        return say(0, junk);
+        return reply_with(0, filler);
     }
-    say(n, junk)
+    reply_with(n, filler)
 }
 
 // OK: a read's word with its parity; on a write, word and parity are free.
-fn okay(reads: bool, word: u32, junk: Reply) -> Reply
-    ensures { λ r. ⌜ r ≡ okayReply reads word junk ⌝ }
+fn okay_reply(reads: bool, word: u32, filler: Reply) -> Reply
+    ensures { λ r. ⌜ r ≡ okayReply reads word filler ⌝ }
 {
     if reads {
         return Reply {
@@ -162,54 +162,60 @@ fn okay(reads: bool, word: u32, junk: Reply) -> Reply
             parity: wire::parity_of(word),
         };
     }
-    say(1, junk)
+    reply_with(1, filler)
 }
 
 // Wrong parity: on a read any word with the other parity bit; on a write it is an OK.
-fn garbled(reads: bool, junk: Reply) -> Reply
-    ensures { λ r. ⌜ r ≡ garbledReply reads junk ⌝ }
+fn wrong_parity_reply(reads: bool, filler: Reply) -> Reply
+    ensures { λ r. ⌜ r ≡ wrongParityReply reads filler ⌝ }
 {
     if reads {
-        let p = wire::parity_of(junk.word);
+        let p = wire::parity_of(filler.word);
         return Reply {
             ack: 1,
-            word: junk.word,
+            word: filler.word,
             parity: if p == 0 { 1 } else { 0 },
         };
     }
-    say(1, junk)
+    reply_with(1, filler)
 }
 
 // The answer to a transfer that KILL does not silence.
-pub fn reply_to(fate: Fate, bars: bool, reads: bool, word: u32, junk: Reply) -> Reply
-    ensures { λ r. ⌜ r ≡ replyTo (fateOf fate) bars reads word junk ⌝ }
+pub fn reply_to(
+    outcome: TransferOutcome,
+    bars: bool,
+    reads: bool,
+    word: u32,
+    filler: Reply,
+) -> Reply
+    ensures { λ r. ⌜ r ≡ replyTo (transferOutcomeOf outcome) bars reads word filler ⌝ }
 {
-    match fate {
-        Fate::Clean => if bars {
-            say(4, junk)
+    match outcome {
+        TransferOutcome::Clean => if bars {
+            reply_with(4, filler)
         } else {
-            okay(reads, word, junk)
+            okay_reply(reads, word, filler)
         },
-        Fate::Waits => say(2, junk),
-        Fate::Faults => say(4, junk),
-        Fate::Garbles => if bars {
-            say(4, junk)
+        TransferOutcome::Waits => reply_with(2, filler),
+        TransferOutcome::Faults => reply_with(4, filler),
+        TransferOutcome::WrongParity => if bars {
+            reply_with(4, filler)
         } else {
-            garbled(reads, junk)
+            wrong_parity_reply(reads, filler)
         },
-        Fate::Silent(_) => be_silent(junk),
+        TransferOutcome::Silent(_) => silent_reply(filler),
     }
 }
 
-// Whether a fate lets a transfer be carried out.
-pub fn lets_through(fate: Fate) -> bool
-    ensures { λ t. ⌜ t ≡ carriedOut (fateOf fate) ⌝ }
+// Whether a transfer of this outcome is carried out.
+pub fn carries_out(outcome: TransferOutcome) -> bool
+    ensures { λ t. ⌜ t ≡ carriedOut (transferOutcomeOf outcome) ⌝ }
 {
-    match fate {
-        Fate::Clean => true,
-        Fate::Waits => false,
-        Fate::Faults => false,
-        Fate::Garbles => true,
-        Fate::Silent(c) => c,
+    match outcome {
+        TransferOutcome::Clean => true,
+        TransferOutcome::Waits => false,
+        TransferOutcome::Faults => false,
+        TransferOutcome::WrongParity => true,
+        TransferOutcome::Silent(c) => c,
     }
 }

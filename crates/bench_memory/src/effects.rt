@@ -24,7 +24,7 @@ fn macro_sent(word: u32) -> u8
 }
 
 // Whether a failed call stores the level sent: 0x0D on macro 0, where the outcome says so.
-fn relevels(new_level: bool, number: u8, c: u8) -> bool
+fn stores_level(new_level: bool, number: u8, c: u8) -> bool
     ensures { λ t. ⌜ t ≡ («new_level» && eqb c 0x0D && eqb number 0) ⌝ }
 {
     if new_level {
@@ -39,7 +39,7 @@ fn relevels(new_level: bool, number: u8, c: u8) -> bool
 pub fn level_left(sysarg: u32, stored: u8, new_level: bool, c: u8) -> u8
     ensures { λ l. ⌜ l ≡ cond («new_level» && eqb c 0x0D && eqb (macroSent sysarg) 0) (levelSent sysarg) (stored % 16) ⌝ ∗ ⌜ l < 16 ⌝ }
 {
-    if relevels(new_level, macro_sent(sysarg), c) {
+    if stores_level(new_level, macro_sent(sysarg), c) {
         return level_sent(sysarg);
     }
     stored % 16

@@ -3,7 +3,7 @@ ghost use mathlib.Core.List.{[], _∷_};
 ghost use mathlib.Core.Path.{_≡_};
 ghost use Prim.Native.Nat.{_-_, _*_, _%_, min};
 ghost use lib.ListN.{getD, take, drop};
-ghost use Rattle.bench_memory.specs.Acts.{after};
+ghost use Rattle.bench_memory.specs.Acts.{buffersAfter};
 ghost use Rattle.bench_memory.specs.Lent.{lent, left};
 ghost use Rattle.flow.specs.Calls.{bytesOf, bytesIn};
 ghost use Rattle.flow.specs.Target.{lay, sized};
@@ -157,7 +157,7 @@ pub fn perform(
     left_locks: &[u8],
     left_latch: &[u8],
 )
-    ensures { λ _. ⌜ lent (now (flash .exit)) (now (locks .exit)) (now (latch .exit)) (now (params .exit)) ≡ after (left (now («left_flash» .entry)) (now («left_locks» .entry)) (now («left_latch» .entry))) act (lent (now (flash .entry)) (now (locks .entry)) (now (latch .entry)) (now (params .entry))) ⌝ }
+    ensures { λ _. ⌜ lent (now (flash .exit)) (now (locks .exit)) (now (latch .exit)) (now (params .exit)) ≡ buffersAfter (left (now («left_flash» .entry)) (now («left_locks» .entry)) (now («left_latch» .entry))) act (lent (now (flash .entry)) (now (locks .entry)) (now (latch .entry)) (now (params .entry))) ⌝ }
 {
     match act {
         Act::Keep => {}

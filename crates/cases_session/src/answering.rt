@@ -3,11 +3,11 @@ use crate::digest;
 use crate::reading::Override;
 use crate::reading::Overrides;
 use bench_board::CallOutcome;
-use bench_board::Fate;
 use bench_board::LineEvent;
 use bench_board::Registers;
 use bench_board::Running;
 use bench_board::Silicon;
+use bench_board::TransferOutcome;
 use flow::Answer;
 use flow::Packet;
 use flow::Reply;
@@ -50,8 +50,8 @@ pub(crate) fn blank(h: Header, stored: u8, privileged: u32) -> Registers {
 // Past the line's list a transfer is OK; all else is free and as in tests/, where a silence is 7.
 fn calm_line() -> LineEvent {
     LineEvent {
-        fate: Fate::Clean,
-        junk: Reply {
+        outcome: TransferOutcome::Clean,
+        filler: Reply {
             ack: 7,
             word: 0,
             parity: 0,

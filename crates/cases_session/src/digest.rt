@@ -42,7 +42,7 @@ fn mixed_refusal(h: u64, given: Given) -> u64 {
     match o {
         Outcome::Refused(n) => cases::mixed(marked, n),
         Outcome::Ask(_) => cases::mixed(marked, 0),
-        Outcome::Told(_) => cases::mixed(marked, 0),
+        Outcome::Reported(_) => cases::mixed(marked, 0),
     }
 }
 

@@ -55,7 +55,7 @@ fn bench_after(given: Given, r: Registers, h: u64, transfers: u32) -> Bench {
             transfers: transfers,
             finished: true,
         },
-        Outcome::Told(_) => Bench {
+        Outcome::Reported(_) => Bench {
             registers: r,
             session: s,
             packet: Packet::Xres,
@@ -144,7 +144,7 @@ fn print_last(bench: Bench, image: &[u8]) {
     let given = session::step(s, image, Answer::ResetDone);
     let o = given.outcome;
     match o {
-        Outcome::Told(r) => printing::print_report(r, bench.digest),
+        Outcome::Reported(r) => printing::print_report(r, bench.digest),
         Outcome::Refused(n) => printing::print_refusal(n),
         Outcome::Ask(_) => printing::print_refusal(0),
     }
@@ -232,6 +232,6 @@ pub(crate) fn print_case(c: Case, image: &[u8]) {
     match o {
         Outcome::Refused(n) => printing::print_refusal(n),
         Outcome::Ask(packet) => play_on(c, s, packet, image),
-        Outcome::Told(_) => printing::print_refusal(0),
+        Outcome::Reported(_) => printing::print_refusal(0),
     }
 }

@@ -19,7 +19,7 @@ use Rattle.layout.specs.Bytes.{flagByte, Word}
 use Rattle.flow.specs.declared.Packet.{Packet}
 use Rattle.flow.specs.declared.Packet.the-variants.{Xres, LineReset, Read, Write}
 use Rattle.session.specs.declared.Outcome.{Outcome}
-use Rattle.session.specs.declared.Outcome.the-variants.{Refused, Ask, Told}
+use Rattle.session.specs.declared.Outcome.the-variants.{Refused, Ask, Reported}
 use Rattle.session.specs.declared.Progress.{Progress}
 use Rattle.session.specs.declared.Session.{Session}
 
@@ -139,4 +139,4 @@ pub outcome-back : (o : Outcome) → Word (outcomeWord o) → outcomeIn (outcome
 unfolding wordAt
 outcome-back (Refused n) h = refl
 outcome-back (Ask p) h = packet-back p h
-outcome-back (Told r) h = ap (λ (w : ℕ). Told (record { number = r .number; step = r .step; transfers = w })) (low-same (r .transfers) h)
+outcome-back (Reported r) h = ap (λ (w : ℕ). Reported (record { number = r .number; step = r .step; transfers = w })) (low-same (r .transfers) h)

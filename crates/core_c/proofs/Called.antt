@@ -8,7 +8,7 @@ use lib.ListN.{length}
 use lib.Seq.{sets}
 use Rattle.core_c.specs.Outcomes.{outcomeBytes}
 use Rattle.core_c.specs.Sessions.{sessionIn, isSession}
-use Rattle.core_c.specs.Calls.{Left, left, wrongLength, readInto, readCall, writeInto, writeCall, yes, givenInto, startCall, stepInto, stepCall}
+use Rattle.core_c.specs.Calls.{CallResult, callResult, wrongLength, readInto, readCall, writeInto, writeCall, yes, givenInto, startCall, stepInto, stepCall}
 use Rattle.core_c.specs.Records.{recordBytes, recordIn}
 use Rattle.flow.specs.declared.Answer.{Answer}
 use Rattle.hex.specs.Texts.{hexReading}
@@ -23,16 +23,16 @@ use Rattle.text.specs.Reading.{answerOf, bufferAfter}
 use Rattle.text.specs.declared.ReadAnswer.{ReadAnswer}
 
 -- what a contract says: the number, and both buffers
-abbrev pub Leaves : Left → (number : ℕ) (first second : List ℕ) → Type 0
+abbrev pub Leaves : CallResult → (number : ℕ) (first second : List ℕ) → Type 0
 Leaves x n f s = (n ≡ x .number) × ((f ≡ x .first) × (s ≡ x .second))
 
-pub leaves : (x : Left) (n : ℕ) (f s : List ℕ) → x ≡ left n f s → Leaves x n f s
-leaves x n f s e = (sym (ap (λ (y : Left). y .number) e), (sym (ap (λ (y : Left). y .first) e), sym (ap (λ (y : Left). y .second) e)))
+pub leaves : (x : CallResult) (n : ℕ) (f s : List ℕ) → x ≡ callResult n f s → Leaves x n f s
+leaves x n f s e = (sym (ap (λ (y : CallResult). y .number) e), (sym (ap (λ (y : CallResult). y .first) e), sym (ap (λ (y : CallResult). y .second) e)))
 
 -- the same as another's
-pub leaves-as : (x y : Left) (n : ℕ) (f s : List ℕ) → x ≡ y → Leaves y n f s → Leaves x n f s
+pub leaves-as : (x y : CallResult) (n : ℕ) (f s : List ℕ) → x ≡ y → Leaves y n f s → Leaves x n f s
 leaves-as x y n f s e l =
-    (l .0 ∙ sym (ap (λ (z : Left). z .number) e), (l .1 .0 ∙ sym (ap (λ (z : Left). z .first) e), l .1 .1 ∙ sym (ap (λ (z : Left). z .second) e)))
+    (l .0 ∙ sym (ap (λ (z : CallResult). z .number) e), (l .1 .0 ∙ sym (ap (λ (z : CallResult). z .first) e), l .1 .1 ∙ sym (ap (λ (z : CallResult). z .second) e)))
 
 module _ (session image : List ℕ) (a : Answer) (outcome : List ℕ) where
   pub step-wrong : ¬ (length session ≡ 45) → stepCall session image a outcome ≡ wrongLength session outcome
@@ -48,7 +48,7 @@ module _ (session image : List ℕ) (a : Answer) (outcome : List ℕ) where
   step-right e f = rw (eq-eqb (length session) 45 e, eq-eqb (length outcome) 8 f)
 
 module _ (session image : List ℕ) (a : Answer) where
-  pub step-other : isSession session ≡ false → stepInto session image a ≡ left 13 session (outcomeBytes (Refused 13))
+  pub step-other : isSession session ≡ false → stepInto session image a ≡ callResult 13 session (outcomeBytes (Refused 13))
   step-other e = rw e
 
   pub step-taken : isSession session ≡ true → stepInto session image a ≡ givenInto (stepWith (sessionIn session) image a)

@@ -12,7 +12,7 @@ use Rattle.core_c.proofs.Backs.{record-back, session-back, outcome-back
 use Rattle.core_c.proofs.Numbers.{either, is-refused, step-free, start-free}
 use Rattle.core_c.proofs.Onward.{next-step}
 use Rattle.core_c.proofs.Spelled.{record-whole, session-whole}
-use Rattle.core_c.specs.Calls.{left, wrongLength, yes, givenInto, startCall, stepInto, stepCall}
+use Rattle.core_c.specs.Calls.{callResult, wrongLength, yes, givenInto, startCall, stepInto, stepCall}
 use Rattle.core_c.specs.Claims.{Bytes, Twelve, Never13, ByteClaims}
 use Rattle.core_c.specs.Outcomes.{numberOf, outcomeBytes}
 use Rattle.core_c.specs.Records.{recordIn}
@@ -38,8 +38,8 @@ header-in bs = refl
 
 module _ (session image : List ℕ) (a : Answer) (outcome : List ℕ) (h : Bytes session) where
   refused-into : length session ≡ 45 → (t : Bool) → isSession session ≡ t
-      → ¬ ((cond t (givenInto (stepWith (sessionIn session) image a)) (left 13 session (outcomeBytes (Refused 13)))) .number ≡ 0)
-      → (cond t (givenInto (stepWith (sessionIn session) image a)) (left 13 session (outcomeBytes (Refused 13)))) .first ≡ session
+      → ¬ ((cond t (givenInto (stepWith (sessionIn session) image a)) (callResult 13 session (outcomeBytes (Refused 13)))) .number ≡ 0)
+      → (cond t (givenInto (stepWith (sessionIn session) image a)) (callResult 13 session (outcomeBytes (Refused 13)))) .first ≡ session
   refused-into n true e f =
       let r = stepWith (sessionIn session) image a in
       ap sessionBytes (session-claims .refused (sessionIn session) image a (numberOf (r .outcome)) (is-refused (r .outcome) f)) ∙ session-whole session n h e
@@ -80,8 +80,8 @@ module _ (header image : List ℕ) (leave : ℕ) (session outcome : List ℕ) wh
 
 module _ (session image : List ℕ) (a : Answer) (outcome : List ℕ) where
   gone-into : length session ≡ 45 → (t : Bool)
-      → (cond t (givenInto (stepWith (sessionIn session) image a)) (left 13 session (outcomeBytes (Refused 13)))) .number ≡ 0
-      → Never13 ((cond t (givenInto (stepWith (sessionIn session) image a)) (left 13 session (outcomeBytes (Refused 13)))) .first)
+      → (cond t (givenInto (stepWith (sessionIn session) image a)) (callResult 13 session (outcomeBytes (Refused 13)))) .number ≡ 0
+      → Never13 ((cond t (givenInto (stepWith (sessionIn session) image a)) (callResult 13 session (outcomeBytes (Refused 13)))) .first)
   gone-into n true z =
       let s = sessionIn session in
       let same = header-stays s image a ∙ header-in session in

@@ -26,7 +26,7 @@ use Rattle.session.specs.Possible.{possibleIn, possibleFor, possible}
 use Rattle.session.specs.Sessions.{standOf, resumed}
 use Rattle.session.specs.declared.Given.{Given}
 use Rattle.session.specs.declared.Outcome.{Outcome}
-use Rattle.session.specs.declared.Outcome.the-variants.{Refused, Ask, Told}
+use Rattle.session.specs.declared.Outcome.the-variants.{Refused, Ask, Reported}
 use Rattle.session.specs.declared.Session.{Session}
 
 pub either : (P : Given → Type 0) (t : Bool) (r r′ : Given) → P r → P r′ → P (cond t r r′)
@@ -37,7 +37,7 @@ either P false r r′ h h′ = h′
 pub is-refused : (o : Outcome) → ¬ (numberOf o ≡ 0) → o ≡ Refused (numberOf o)
 is-refused (Refused n) h = refl
 is-refused (Ask p) h = absurd (h refl)
-is-refused (Told r) h = absurd (h refl)
+is-refused (Reported r) h = absurd (h refl)
 
 -- what a step gives holds of every way that it can end
 module _ (P : Given → Type 0) (g : Geometry) (s : Session) (bytes : List ℕ) (a : Answer)

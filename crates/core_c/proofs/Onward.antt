@@ -9,7 +9,7 @@ use lib.ListN.{length}
 use Rattle.core_c.proofs.Backs.{Near, near, is-session}
 use Rattle.core_c.proofs.Called.{step-taken}
 use Rattle.core_c.proofs.Numbers.{not-thirteen}
-use Rattle.core_c.specs.Calls.{Left, wrongLength, stepInto, stepCall}
+use Rattle.core_c.specs.Calls.{CallResult, wrongLength, stepInto, stepCall}
 use Rattle.core_c.specs.Claims.{Twelve, Never13}
 use Rattle.core_c.specs.Sessions.{sessionBytes, sessionIn}
 use Rattle.flow.specs.declared.Entry.{Entry}
@@ -80,5 +80,5 @@ next-step s n can image a outcome = by (eqb (length (sessionBytes s)) 45 && eqb 
     by : (t : Bool) → ¬ ((cond t (stepInto (sessionBytes s) image a) (wrongLength (sessionBytes s) outcome)) .number ≡ 13)
     by true e =
         not-thirteen (sessionIn (sessionBytes s)) image a (near-possible s (sessionIn (sessionBytes s)) (near s n) can)
-        (sym (ap (λ (x : Left). x .number) (step-taken (sessionBytes s) image a (is-session s n))) ∙ e)
+        (sym (ap (λ (x : CallResult). x .number) (step-taken (sessionBytes s) image a (is-session s n))) ∙ e)
     by false e = omega (arith, e)

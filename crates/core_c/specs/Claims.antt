@@ -14,7 +14,7 @@ use Rattle.flow.specs.declared.Packet.the-variants.{Xres, LineReset, Read, Writ
 use Rattle.image.specs.declared.Header.{Header}
 use Rattle.layout.specs.Bytes.{Word}
 use Rattle.session.specs.declared.Outcome.{Outcome}
-use Rattle.session.specs.declared.Outcome.the-variants.{Refused, Ask, Told}
+use Rattle.session.specs.declared.Outcome.the-variants.{Refused, Ask, Reported}
 use Rattle.session.specs.declared.Session.{Session}
 
 -- each element is a byte
@@ -45,7 +45,7 @@ packetWord (Write request word parity) = word
 abbrev pub outcomeWord : Outcome → ℕ
 outcomeWord (Refused n) = 0
 outcomeWord (Ask p) = packetWord p
-outcomeWord (Told r) = r .transfers
+outcomeWord (Reported r) = r .transfers
 
 -- no step refuses these bytes with 13, whatever else it is lent
 abbrev pub Never13 : (session : List ℕ) → Type 0

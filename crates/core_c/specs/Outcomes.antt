@@ -9,7 +9,7 @@ use Rattle.flow.specs.declared.Packet.the-variants.{Xres, LineReset, Read, Writ
 use Rattle.image.specs.Words.{wordAt}
 use Rattle.layout.specs.Bytes.{lowFirst}
 use Rattle.session.specs.declared.Outcome.{Outcome}
-use Rattle.session.specs.declared.Outcome.the-variants.{Refused, Ask, Told}
+use Rattle.session.specs.declared.Outcome.the-variants.{Refused, Ask, Reported}
 
 -- kind at 0, a number or a request byte at 1, a parity bit or a flow step at 2, 0 at 3, a word at 4
 abbrev pub eightBytes : (kind first second word : ℕ) → List ℕ
@@ -26,7 +26,7 @@ packetBytes (Write request word parity) = eightBytes 4 request parity word
 abbrev pub outcomeBytes : Outcome → List ℕ
 outcomeBytes (Refused n) = eightBytes 0 n 0 0
 outcomeBytes (Ask p) = packetBytes p
-outcomeBytes (Told r) = eightBytes 5 (r .number) (r .step) (r .transfers)
+outcomeBytes (Reported r) = eightBytes 5 (r .number) (r .step) (r .transfers)
 
 -- what a caller finds in the bytes
 abbrev pub outcomeBy : (kind first second word : ℕ) → Outcome
@@ -35,7 +35,7 @@ outcomeBy kind first second word =
     (cond (eqb kind 2) (Ask LineReset)
     (cond (eqb kind 3) (Ask (Read first))
     (cond (eqb kind 4) (Ask (Write first word second))
-    (cond (eqb kind 5) (Told (record { number = first; step = second; transfers = word })) (Refused first)))))
+    (cond (eqb kind 5) (Reported (record { number = first; step = second; transfers = word })) (Refused first)))))
 
 abbrev pub outcomeIn : List ℕ → Outcome
 outcomeIn bs = outcomeBy (getD bs 0 0) (getD bs 1 0) (getD bs 2 0) (wordAt bs 4)
@@ -44,4 +44,4 @@ outcomeIn bs = outcomeBy (getD bs 0 0) (getD bs 1 0) (getD bs 2 0) (wordAt bs 4)
 abbrev pub numberOf : Outcome → ℕ
 numberOf (Refused n) = n
 numberOf (Ask p) = 0
-numberOf (Told r) = 0
+numberOf (Reported r) = 0

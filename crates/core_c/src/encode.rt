@@ -153,7 +153,7 @@ pub(crate) fn put_outcome(bytes: &mut [u8], o: Outcome)
     match o {
         Outcome::Refused(n) => put_eight(bytes, 0, n, 0, 0),
         Outcome::Ask(p) => put_packet(bytes, p),
-        Outcome::Told(r) => put_eight(bytes, 5, r.number, r.step, r.transfers),
+        Outcome::Reported(r) => put_eight(bytes, 5, r.number, r.step, r.transfers),
     }
 }
 
@@ -164,6 +164,6 @@ pub(crate) fn number_of(o: Outcome) -> u32
     match o {
         Outcome::Refused(n) => n as u32,
         Outcome::Ask(_) => 0,
-        Outcome::Told(_) => 0,
+        Outcome::Reported(_) => 0,
     }
 }

@@ -2,5 +2,5 @@ pub mod Meets
 pub mod Turning
 pub mod Playing
 pub mod Taking
-pub mod Rehearsing
+pub mod Reporting
 pub mod Lining

@@ -3,10 +3,10 @@ use mathlib.Core.Bool.{Bool, true, false, _&&_, not, cond}
 use mathlib.Core.List.{List, [], _∷_}
 use mathlib.Core.Path.{_≡_, refl, ap, _∙_}
 use Rattle.bench_board.specs.Meets.{listsOf}
-use Rattle.dry.specs.Stage.{noLists, nothing, calmEvent, calmOutcome}
-use Rattle.flow.specs.Exchange.{Met, Decoded, known, unknown, decode, dead, barred, met, callsOn, silence, replyTo, gives, transferred, meetOn, meet}
+use Rattle.dry.specs.Playing.{noLists, nothing, calmEvent, calmOutcome}
+use Rattle.flow.specs.Exchange.{Met, Decoded, known, unknown, decode, killed, barred, met, callsOn, silentReply, replyTo, gives, transferred, meetOn, meet}
 use Rattle.flow.specs.Packets.{isRead}
-use Rattle.flow.specs.Target.{Target, Lists, clean, eventOf}
+use Rattle.flow.specs.Target.{Target, Lists, clean, nextEvent}
 use Rattle.flow.specs.declared.Packet.{Packet}
 use Rattle.flow.specs.declared.Reply.{Reply}
 use Rattle.flow.specs.declared.Request.{Request}
@@ -28,17 +28,17 @@ cond-same true x = refl
 cond-same false x = refl
 
 module _ (g : Geometry) (b : Target) where
-  by-fate : (q : Request) (t : Bool) (a : Reply) → SameMet (met t g q (eventOf []) handed a b) (met t g q (eventOf []) noLists a b)
-  by-fate q false a = record { target = refl; answer = refl; lists = refl }
-  by-fate q true a = record {
+  by-outcome : (q : Request) (t : Bool) (a : Reply) → SameMet (met t g q (nextEvent []) handed a b) (met t g q (nextEvent []) noLists a b)
+  by-outcome q false a = record { target = refl; answer = refl; lists = refl }
+  by-outcome q true a = record {
     target = refl;
     answer = refl;
     lists = ap (λ (l : List _). record { line = []; calls = l }) (cond-same (callsOn g q b) []);
   }
 
-  same-transfer : (q : Request) → SameMet (transferred g q (eventOf []) handed b) (transferred g q (eventOf []) noLists b)
+  same-transfer : (q : Request) → SameMet (transferred g q (nextEvent []) handed b) (transferred g q (nextEvent []) noLists b)
   unfolding transferred
-  same-transfer q = by-fate q (not (dead b) && not (barred g q b) && true) _
+  same-transfer q = by-outcome q (not (killed b) && not (barred g q b) && true) _
 
   by-request : (d : Decoded) → SameMet (meetOn g d handed b) (meetOn g d noLists b)
   by-request (known Xres) = record { target = refl; answer = refl; lists = refl }

@@ -8,7 +8,7 @@ use lib.Dec.{eqb}
 use lib.ListN.{length}
 use Rattle.bench_board.specs.Board.{Buffers, targetOf}
 use Rattle.bench_board.specs.declared.Registers.{Registers}
-use Rattle.dry.specs.Stage.{partOne, noLists, nothing, meets, Turns, Staged, reportIn, DoneAsPlanned}
+use Rattle.dry.specs.Playing.{partOne, noLists, nothing, meets, Turns, Started, reportIn, DoneAsPlanned}
 use Rattle.dry.specs.declared.Turn.{Turn}
 use Rattle.dry.proofs.Meets.{same-met}
 use Rattle.flow.specs.Claim.{Passes, Startable, calmEnd, callsEnd, entryOf}
@@ -30,7 +30,7 @@ use Rattle.session.specs.Claim.{most, Demand3}
 use Rattle.session.specs.Given.{startOf, startedOn, stepWith}
 use Rattle.session.specs.declared.Given.{Given}
 use Rattle.session.specs.declared.Outcome.{Outcome}
-use Rattle.session.specs.declared.Outcome.the-variants.{Refused, Ask, Told}
+use Rattle.session.specs.declared.Outcome.the-variants.{Refused, Ask, Reported}
 use Rattle.session.specs.declared.Report.{Report}
 use Rattle.session.specs.declared.Session.{Session}
 
@@ -66,7 +66,7 @@ pub record Stands (h : Header) (bytes : List ℕ) (b₀ : Target) (n : ℕ) (s :
   pub target : state .target ≡ targetOf nothing r b
   pub lists : state .lists ≡ noLists
 
-module _ (bytes : List ℕ) (s₀ : Session) (o₀ : Outcome) (r₀ : Registers) (b₀ : Buffers) (w : Staged bytes s₀ o₀ r₀ b₀) where
+module _ (bytes : List ℕ) (s₀ : Session) (o₀ : Outcome) (r₀ : Registers) (b₀ : Buffers) (w : Started bytes s₀ o₀ r₀ b₀) where
   abbrev At : (n : ℕ) → Session → Outcome → Registers → Buffers → Type 0
   At n s o r b = Stands (w .header) bytes (targetOf nothing r₀ b₀) n s o r b
 
@@ -107,9 +107,9 @@ module _ (bytes : List ℕ) (s₀ : Session) (o₀ : Outcome) (r₀ : Registers)
   from-open : entryOf (targetOf nothing r₀ b₀) ≡ FromOpen
   from-open = rw (w .stored) refl
 
-  pub told : (n : ℕ) (s : Session) (x : Report) (r : Registers) (b : Buffers) → At n s (Told x) r b → DoneAsPlanned x
-  told n s x r b v =
-      let d = (claim n s (Told x) r b v) .calm (record { line = calmEnd; calls = callsEnd }) (w .right) x (v .stands) in
+  pub done-planned : (n : ℕ) (s : Session) (x : Report) (r : Registers) (b : Buffers) → At n s (Reported x) r b → DoneAsPlanned x
+  done-planned n s x r b v =
+      let d = (claim n s (Reported x) r b v) .calm (record { line = calmEnd; calls = callsEnd }) (w .right) x (v .stands) in
       record { number = d .0; transfers = d .1 ∙ ap (plan partOne) from-open }
 
   pub not-refused : (n : ℕ) (s : Session) (k : ℕ) (r : Registers) (b : Buffers) → At n s (Refused k) r b → ⊥
@@ -125,8 +125,8 @@ module _ (bytes : List ℕ) (s₀ : Session) (o₀ : Outcome) (r₀ : Registers)
   pub at-end : (n : ℕ) (s : Session) (o : Outcome) (r : Registers) (b : Buffers) → At n s o r b → 265637747 ≤ n → DoneAsPlanned (reportIn o)
   at-end n s o r b v h =
       let e = (claim n s o r b v) .comes (most-turns n h) in
-      let f : Told (e .report) ≡ o = sym (e .told) ∙ v .stands in
-      subst (λ (y : Outcome). DoneAsPlanned (reportIn y)) f (told n s (e .report) r b (subst (λ (y : Outcome). At n s y r b) (sym f) v))
+      let f : Reported (e .report) ≡ o = sym (e .is) ∙ v .stands in
+      subst (λ (y : Outcome). DoneAsPlanned (reportIn y)) f (done-planned n s (e .report) r b (subst (λ (y : Outcome). At n s y r b) (sym f) v))
 
 -- what a loop of turns keeps: the buffers' lengths, and what stands after so many
 pub record Playing (g : Geometry) (bytes : List ℕ) (b₀ : Buffers) (s₀ : Session) (r₀ : Registers) (o₀ : Outcome) (b : Buffers) (s : Session) (r : Registers) (o : Outcome) (n : ℕ) : Type 0 where
@@ -136,7 +136,7 @@ pub record Playing (g : Geometry) (bytes : List ℕ) (b₀ : Buffers) (s₀ : Se
   pub params : length (b .params) ≡ length (b₀ .params)
   pub few : n ≤ 265637747
   pub is : g ≡ partOne
-  pub stands : (w : Staged bytes s₀ o₀ r₀ b₀) → Stands (w .header) bytes (targetOf nothing r₀ b₀) n s o r b
+  pub stands : (w : Started bytes s₀ o₀ r₀ b₀) → Stands (w .header) bytes (targetOf nothing r₀ b₀) n s o r b
 
 module _ {g : Geometry} {bytes : List ℕ} {b₀ : Buffers} {s₀ : Session} {r₀ : Registers} {o₀ : Outcome} where
   pub first-turn : g ≡ partOne → Playing g bytes b₀ s₀ r₀ o₀ b₀ s₀ r₀ o₀ 0
@@ -169,14 +169,14 @@ module _ {g : Geometry} {bytes : List ℕ} {b₀ : Buffers} {s₀ : Session} {r�
           (subst (λ (y : Geometry). Turns y s bytes p r b t b′) (v .is) u));
     }
 
-    pub report-told : Staged bytes s₀ o₀ r₀ b₀ → {x : Report} → o ≡ Told x → DoneAsPlanned (reportIn o)
-    report-told w {x} e =
+    pub report-planned : Started bytes s₀ o₀ r₀ b₀ → {x : Report} → o ≡ Reported x → DoneAsPlanned (reportIn o)
+    report-planned w {x} e =
         subst (λ (y : Outcome). DoneAsPlanned (reportIn y)) (sym e)
-        (told bytes s₀ o₀ r₀ b₀ w n s x r b (subst (λ (y : Outcome). Stands (w .header) bytes (targetOf nothing r₀ b₀) n s y r b) e (v .stands w)))
+        (done-planned bytes s₀ o₀ r₀ b₀ w n s x r b (subst (λ (y : Outcome). Stands (w .header) bytes (targetOf nothing r₀ b₀) n s y r b) e (v .stands w)))
 
-    pub none-refused : Staged bytes s₀ o₀ r₀ b₀ → {k : ℕ} → o ≡ Refused k → DoneAsPlanned (reportIn o)
+    pub none-refused : Started bytes s₀ o₀ r₀ b₀ → {k : ℕ} → o ≡ Refused k → DoneAsPlanned (reportIn o)
     none-refused w {k} e =
         absurd (not-refused bytes s₀ o₀ r₀ b₀ w n s k r b (subst (λ (y : Outcome). Stands (w .header) bytes (targetOf nothing r₀ b₀) n s y r b) e (v .stands w)))
 
-    pub report-comes : Staged bytes s₀ o₀ r₀ b₀ → 265637747 ≤ n → DoneAsPlanned (reportIn o)
+    pub report-comes : Started bytes s₀ o₀ r₀ b₀ → 265637747 ≤ n → DoneAsPlanned (reportIn o)
     report-comes w h = at-end bytes s₀ o₀ r₀ b₀ w n s o r b (v .stands w) h

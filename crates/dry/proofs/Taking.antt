@@ -8,14 +8,14 @@ use borrow.Author.Tests.{eqb-true, eqb-false}
 use lib.Dec.{eqb, leb, lit≤}
 use lib.ListN.{length, getD, take, drop}
 use Rattle.dry.specs.Runs.{room}
-use Rattle.dry.specs.Stage.{partOne}
+use Rattle.dry.specs.Playing.{partOne}
 use Rattle.hex.specs.Records.{Record, BadRecord, DataRecord, ExtendedAddress, EndRecord, highFirst, typed, recordOf, ofSpelt, ofBody, lineRecord}
-use Rattle.hex.specs.Texts.{upperAfter, eventOf, events, outcomeOf, hexReading}
+use Rattle.hex.specs.Texts.{upperAfter, eventOf, events, contentOf, hexReading}
 use Rattle.image.specs.Checks.{imageFault}
 use Rattle.image.specs.Sections.{sectionsOf, headerOf}
 use Rattle.image.specs.Words.{total}
 use Rattle.image.specs.declared.Header.{Header}
-use Rattle.image.specs.declared.Home.the-variants.{InImage, InHeader}
+use Rattle.image.specs.declared.Location.the-variants.{InImage, InHeader}
 use Rattle.image.specs.declared.Section.{Section}
 use Rattle.parts.specs.Parts.{lookIn}
 use Rattle.parts.specs.Sizes.{rowsOf, flashSize, lockTotal, imageSize}
@@ -23,7 +23,7 @@ use Rattle.text.proofs.Capitals.{AllBytes, bytes-append, bytes-take, bytes-drop
 use Rattle.text.proofs.Pieces.{gathered-bytes}
 use Rattle.text.specs.Digits.{Spelt, Unreadable, Spells, spelt}
 use Rattle.text.specs.Lines.{Line, Ended, Open, withoutCR, linesOf}
-use Rattle.text.specs.Placing.{Event, Bad, Other, Data, End, Outcome, Refusal, Stream, after, fits, advance, place, gathered}
+use Rattle.text.specs.Placing.{Event, Bad, Other, Data, End, Content, Refusal, Stream, prepend, fits, dueAfter, placing, gathered}
 use Rattle.text.specs.Reading.{Reading, Untouched, Cleared, Taken, judged}
 
 -- ---- a record has bytes, or a number
@@ -76,9 +76,9 @@ GoodEvent Other = Unit {0}
 GoodEvent (Data a bs) = AllBytes bs
 GoodEvent End = Unit {0}
 
-abbrev GoodOutcome : Outcome → Type 0
-GoodOutcome (Refusal n) = 1 ≤ n
-GoodOutcome (Stream bs) = AllBytes bs
+abbrev GoodContent : Content → Type 0
+GoodContent (Refusal n) = 1 ≤ n
+GoodContent (Stream bs) = AllBytes bs
 
 event-good : (u : ℕ) (r : Record) → GoodRecord r → GoodEvent (eventOf u r)
 unfolding eventOf
@@ -91,31 +91,31 @@ event-good u (DataRecord low bs) h = by (leb (low + length bs) 65536)
 event-good u (ExtendedAddress n) h = tt
 event-good u EndRecord h = tt
 
-after-good : (bs : List ℕ) (o : Outcome) → AllBytes bs → GoodOutcome o → GoodOutcome (after bs o)
-unfolding after
-after-good bs (Refusal n) a h = h
-after-good bs (Stream cs) a h = bytes-append bs cs a h
+prepend-good : (bs : List ℕ) (o : Content) → AllBytes bs → GoodContent o → GoodContent (prepend bs o)
+unfolding prepend
+prepend-good bs (Refusal n) a h = h
+prepend-good bs (Stream cs) a h = bytes-append bs cs a h
 
-text-good : (ls : List Line) (u : ℕ) (due : List Section) → GoodOutcome (place due (events u ls))
-unfolding events place
+text-good : (ls : List Line) (u : ℕ) (due : List Section) → GoodContent (placing due (events u ls))
+unfolding events placing
 text-good [] u due = omega arith
 text-good (l ∷ ls) u due =
     go (eventOf u (lineRecord l)) (event-good u (lineRecord l) (line-good l)) due (λ d. text-good ls (upperAfter u (lineRecord l)) d)
   where
-    go : (e : Event) → GoodEvent e → (d : List Section) → ((d′ : List Section) → GoodOutcome (place d′ (events (upperAfter u (lineRecord l)) ls)))
-        → GoodOutcome (place d (e ∷ events (upperAfter u (lineRecord l)) ls))
+    go : (e : Event) → GoodEvent e → (d : List Section) → ((d′ : List Section) → GoodContent (placing d′ (events (upperAfter u (lineRecord l)) ls)))
+        → GoodContent (placing d (e ∷ events (upperAfter u (lineRecord l)) ls))
     go (Bad n) h d ih = h
     go Other h d ih = ih d
     go (Data a bs) h [] ih = omega arith
     go (Data a bs) h (s ∷ ss) ih = by (fits a (length bs) s)
       where
-        by : (t : Bool) → GoodOutcome (cond t (after bs (place (advance (length bs) s ss) (events (upperAfter u (lineRecord l)) ls))) (Refusal 4))
-        by true = after-good bs (place (advance (length bs) s ss) (events (upperAfter u (lineRecord l)) ls)) h (ih (advance (length bs) s ss))
+        by : (t : Bool) → GoodContent (cond t (prepend bs (placing (dueAfter (length bs) s ss) (events (upperAfter u (lineRecord l)) ls))) (Refusal 4))
+        by true = prepend-good bs (placing (dueAfter (length bs) s ss) (events (upperAfter u (lineRecord l)) ls)) h (ih (dueAfter (length bs) s ss))
         by false = omega arith
     go End h (s ∷ ss) ih = omega arith
     go End h [] ih = last (events (upperAfter u (lineRecord l)) ls)
       where
-        last : (es : List Event) → GoodOutcome (place [] (End ∷ es))
+        last : (es : List Event) → GoodContent (placing [] (End ∷ es))
         last [] = tt
         last (e ∷ es) = omega arith
 
@@ -134,7 +134,7 @@ GoodReading (Untouched n) = 1 ≤ n
 GoodReading (Cleared n size) = 1 ≤ n
 GoodReading (Taken h bytes) = TakenWell h bytes
 
-judged-good : (o : Outcome) → GoodOutcome o → GoodReading (judged partOne 1 1 o)
+judged-good : (o : Content) → GoodContent o → GoodReading (judged partOne 1 1 o)
 judged-good (Refusal n) h = h
 judged-good (Stream bs) a =
     let i = gathered InHeader (sectionsOf partOne) bs in
@@ -149,4 +149,4 @@ judged-good (Stream bs) a =
 
 pub reading-good : (text : List ℕ) → GoodReading (hexReading 1 1 text room)
 unfolding lookIn imageSize flashSize lockTotal rowsOf
-reading-good text = judged-good (outcomeOf text (sectionsOf partOne)) (text-good (linesOf text) 0 (sectionsOf partOne))
+reading-good text = judged-good (contentOf text (sectionsOf partOne)) (text-good (linesOf text) 0 (sectionsOf partOne))

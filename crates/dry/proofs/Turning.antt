@@ -8,7 +8,7 @@ use Rattle.bench_board.specs.declared.CallOutcome.{CallOutcome}
 use Rattle.bench_board.specs.declared.LineEvent.{LineEvent}
 use Rattle.bench_board.specs.declared.Met as Code
 use Rattle.bench_board.specs.declared.Registers.{Registers}
-use Rattle.dry.specs.Stage.{noLists, nothing, calmEvent, calmOutcome, meets, Turns}
+use Rattle.dry.specs.Playing.{noLists, nothing, calmEvent, calmOutcome, meets, Turns}
 use Rattle.dry.proofs.Meets.{handed, same-met}
 use Rattle.flow.specs.Exchange.{Met, meet}
 use Rattle.flow.specs.declared.Packet.{Packet}

@@ -5,7 +5,7 @@ use mathlib.Core.List.{List, [], _∷_, _++_}
 use mathlib.Core.Path.{_≡_}
 use Prim.Native.Nat.{ℕ}
 use lib.Dec.{eqb}
-use Rattle.dry.specs.Stage.{partOne}
+use Rattle.dry.specs.Playing.{partOne}
 use Rattle.dry.specs.declared.Ran.{Ran}
 use Rattle.dry.specs.declared.Ran.the-variants.{Done, Refused}
 use Rattle.flow.specs.Plan.{plan}
@@ -27,9 +27,9 @@ readNumber text = (answerOf (hexReading 1 1 text room)) .number
 unfoldable pub ranOn : (text : List ℕ) → Ran
 ranOn text = cond (eqb (readNumber text) 0) (Done (plan partOne FromOpen)) (Refused (readNumber text))
 
--- a report as a dry run tells it
-abbrev pub toldBy : Report → Ran
-toldBy r = cond (eqb (r .number) 0) (Done (r .transfers)) (Refused (r .number))
+-- what a dry run comes to, by its report
+abbrev pub ranBy : Report → Ran
+ranBy r = cond (eqb (r .number) 0) (Done (r .transfers)) (Refused (r .number))
 
 -- ---- the line
 

@@ -4,17 +4,17 @@ ghost use mathlib.Core.Path.{_≡_};
 ghost use Prim.Native.Nat.{_+_, _≤_};
 ghost use lib.ListN.{length, take, drop};
 ghost use Rattle.bench_board.specs.Board.{lent};
-ghost use Rattle.dry.specs.Runs.{toldBy, ranOn, Spells, LineOf};
-ghost use Rattle.dry.specs.Stage.{partOne, calmEvent, calmOutcome, openFor, Turns, Playable, Staged, reportIn, DoneAsPlanned};
+ghost use Rattle.dry.specs.Runs.{ranBy, ranOn, Spells, LineOf};
+ghost use Rattle.dry.specs.Playing.{partOne, calmEvent, calmOutcome, openFor, Turns, Playable, Started, reportIn, DoneAsPlanned};
 ghost use Rattle.flow.specs.Claim.{Passes};
 ghost use Rattle.io.specs.Counts.{Counts};
 ghost use Rattle.session.specs.Calls.{standing};
 use bench_board::CallOutcome;
-use bench_board::Fate;
 use bench_board::LineEvent;
 use bench_board::Registers;
 use bench_board::Running;
 use bench_board::Silicon;
+use bench_board::TransferOutcome;
 use flow::Packet;
 use flow::Reply;
 use image::Header;
@@ -45,8 +45,8 @@ fn calm_event() -> LineEvent
     ensures { λ e. ⌜ e ≡ calmEvent ⌝ }
 {
     LineEvent {
-        fate: Fate::Clean,
-        junk: Reply {
+        outcome: TransferOutcome::Clean,
+        filler: Reply {
             ack: 0,
             word: 0,
             parity: 0,
@@ -98,7 +98,7 @@ fn standing_after(p: Packet, o: Outcome) -> Outcome
     match o {
         Outcome::Refused(_) => Outcome::Ask(p),
         Outcome::Ask(_) => o,
-        Outcome::Told(_) => o,
+        Outcome::Reported(_) => o,
     }
 }
 
@@ -158,7 +158,7 @@ fn report_in(stands: Outcome) -> Report
     ensures { λ r. ⌜ r ≡ reportIn stands ⌝ }
 {
     match stands {
-        Outcome::Told(report) => report,
+        Outcome::Reported(report) => report,
         Outcome::Refused(n) => no_report(n),
         Outcome::Ask(_) => no_report(0),
     }
@@ -175,7 +175,7 @@ fn played(
     latch: &mut [u8],
     params: &mut [u32],
 ) -> Report
-    requires { ⌜ (g ≡ partOne) × Staged (now image) (first .session) (first .outcome) board (lent (now flash) (now locks) (now latch) (now params)) ⌝ }
+    requires { ⌜ (g ≡ partOne) × Started (now image) (first .session) (first .outcome) board (lent (now flash) (now locks) (now latch) (now params)) ⌝ }
     ensures { λ r. ⌜ DoneAsPlanned r ⌝ }
 {
     let mut s = first.session;
@@ -190,7 +190,7 @@ fn played(
                 s = t.session;
                 stands = t.stands;
             }
-            Outcome::Told(_) => return report_in(stands),
+            Outcome::Reported(_) => return report_in(stands),
             Outcome::Refused(_) => return report_in(stands),
         }
         turns += 1;
@@ -213,7 +213,7 @@ fn blank_flash() -> [u8; 16384]
 }
 
 // The report of a session of an image on an OPEN board with its IDs, KILL allowed.
-fn rehearse_on(g: Geometry, h: Header, image: &[u8]) -> Report
+fn report_on(g: Geometry, h: Header, image: &[u8]) -> Report
     requires { ⌜ (g ≡ partOne) × Playable h (now image) ⌝ }
     ensures { λ r. ⌜ DoneAsPlanned r ⌝ }
 {
@@ -235,20 +235,20 @@ fn rehearse_on(g: Geometry, h: Header, image: &[u8]) -> Report
     )
 }
 
-fn rehearse(h: Header, image: &[u8]) -> Report
+fn report_for(h: Header, image: &[u8]) -> Report
     requires { ⌜ Playable h (now image) ⌝ }
     ensures { λ r. ⌜ DoneAsPlanned r ⌝ }
 {
     let found = parts::find(1, 1);
     match found {
-        Lookup::Found(g) => rehearse_on(g, h, image),
+        Lookup::Found(g) => report_on(g, h, image),
         Lookup::Refused(n) => no_report(n),
     }
 }
 
-// A report as a dry run tells it.
-fn told_by(r: Report) -> Ran
-    ensures { λ ran. ⌜ ran ≡ toldBy r ⌝ }
+// What a dry run comes to, by its report.
+fn ran_by(r: Report) -> Ran
+    ensures { λ ran. ⌜ ran ≡ ranBy r ⌝ }
 {
     if r.number == 0 {
         return Ran::Done(r.transfers);
@@ -267,7 +267,7 @@ pub fn run(text: &[u8]) -> Ran
         return Ran::Refused(number);
     }
     let header = answer.header;
-    told_by(rehearse(header, &image))
+    ran_by(report_for(header, &image))
 }
 
 // Puts bytes into a line, from `at` on, and gives the place after them.
@@ -295,8 +295,8 @@ fn spell_line(word: &[u8], n: u64, line: &mut [u8]) -> usize
     put(line, second, b"\n")
 }
 
-// Puts the line that tells of a dry run at the start of `line`, and gives its length.
-fn tell(ran: Ran, line: &mut [u8; 32]) -> usize
+// Puts the line of a dry run at the start of `line`, and gives its length.
+fn ran_line(ran: Ran, line: &mut [u8; 32]) -> usize
     ensures { λ r. ⌜ Counts r (now (line .exit)) × LineOf ran (take r (now (line .exit))) ⌝ }
     ensures { λ r. ⌜ drop r (now (line .exit)) ≡ drop r (now (line .entry)) ⌝ }
 {
@@ -321,5 +321,5 @@ pub fn line_of(text: &[u8], line: &mut [u8; 32]) -> usize
     ensures { λ r. ⌜ Counts r (now (line .exit)) × LineOf (ranOn (take 65536 (now (text .entry)))) (take r (now (line .exit))) ⌝ }
     ensures { λ r. ⌜ drop r (now (line .exit)) ≡ drop r (now (line .entry)) ⌝ }
 {
-    tell(run_cut(text), line)
+    ran_line(run_cut(text), line)
 }

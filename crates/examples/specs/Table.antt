@@ -3,7 +3,7 @@ use mathlib.Core.Bool.{cond}
 use mathlib.Core.List.{List, [], _∷_}
 use Prim.Native.Nat.{ℕ, _%_}
 use lib.ListN.{getD, replicate}
-use Rattle.flow.specs.Examples.{onePart, twoMacros, p5, p6, p7}
+use Rattle.flow.specs.Examples.{partOne, twoMacros, p5, p6, p7}
 use Rattle.flow.specs.Plan.{plan}
 use Rattle.flow.specs.declared.Entry.the-variants.{FromOpen}
 use Rattle.hex.specs.Records.{Record, BadRecord, DataRecord, ExtendedAddress, EndRecord, lineRecord}
@@ -53,7 +53,7 @@ paperExamples =
     -- 'P10 16,384 bytes of 0xFF sum to 0xC000.'
     ∷ (total (replicate 16384 0xFF) % 65536) gives 0xC000
     -- 'P11 part 1, OPEN, plan 27279.'
-    ∷ plan onePart FromOpen gives 27279
+    ∷ plan partOne FromOpen gives 27279
     -- 'P12 part 3, M 2, OPEN, plan 190741.'
     ∷ plan twoMacros FromOpen gives 190741
     ∷ []

@@ -12,14 +12,14 @@ use Rattle.flow.specs.Map.{Place, inFlash, inLocks, inParams, atLevel, a
 use Rattle.flow.specs.Monitor.{watching, Watch, Delays, noticed, noticeRead, noticeStore}
 use Rattle.flow.specs.Run.{Run}
 use Rattle.flow.specs.Sequence.{write, read}
-use Rattle.flow.specs.Session.{running, settled}
-use Rattle.flow.specs.Target.{Target, CallOutcome, outcomeOf, rest, setTar}
+use Rattle.flow.specs.Session.{running, judgedTo}
+use Rattle.flow.specs.Target.{Target, CallOutcome, nextOutcome, rest, setTar}
 use Rattle.flow.specs.declared.Entry.{Entry}
 use Rattle.flow.specs.declared.Move.{Move}
 use Rattle.flow.specs.declared.Purpose.{Purpose}
 use Rattle.flow.specs.declared.Request.the-variants.{ReadDrw, WriteTar, WriteDrw}
 use Rattle.flow.proofs.Hearing.{aTar, aDrw, aRead}
-use Rattle.flow.proofs.Reaches.{Purse, spend, pay, Env, sync, Frame, Stood, Stands, Reaches}
+use Rattle.flow.proofs.Reaches.{Allowance, withTransfer, withMoves, Env, sync, Frame, Stood, Stands, Reaches}
 use Rattle.flow.proofs.Transfer.{transfer}
 use Rattle.image.specs.Image.{Image}
 use Rattle.parts.specs.declared.Geometry.{Geometry}
@@ -45,19 +45,19 @@ aimed a t = record { tar = a; counts = false; polling = t .polling; due = t .due
 
 -- the level in effect lets an access to the place through
 pub record Admits (l : ℕ) (pc : Place) : Type 0 where
-  pub alive : eqb l 4 ≡ false
+  pub not-killed : eqb l 4 ≡ false
   pub free : eqb l 2 && guarded pc ≡ false
 
 pub admits-open : (l : ℕ) (pc : Place) → l ≡ 1 → Admits l pc
-admits-open l pc e = record { alive = rw e; free = rw e }
+admits-open l pc e = record { not-killed = rw e; free = rw e }
 
 -- OPEN or PROTECTED in effect
-abbrev pub Awake : ℕ → Type 0
-Awake l = (l ≡ 1) ⊎ (l ≡ 2)
+abbrev pub Answering : ℕ → Type 0
+Answering l = (l ≡ 1) ⊎ (l ≡ 2)
 
-pub admits : (l : ℕ) (pc : Place) → guarded pc ≡ false → Awake l → Admits l pc
+pub admits : (l : ℕ) (pc : Place) → guarded pc ≡ false → Answering l → Admits l pc
 admits l pc h (inl e) = admits-open l pc e
-admits l pc h (inr e) = record { alive = rw e; free = rw (e, h) }
+admits l pc h (inr e) = record { not-killed = rw e; free = rw (e, h) }
 
 barred-tar : (g : Geometry) (a : ℕ) (b : Target) → barred g (WriteTar a) b ≡ false
 unfolding barred
@@ -127,44 +127,44 @@ module _ {i : Image} (f : Frame i) where
   -- the run after the DRW read whose word counts
   abbrev pub readRun : (s : ℕ) → Purpose → Entry → (n p a k x : ℕ) → Place → Target → Watch → Env → Run
   readRun s u y n p a k x pc b t e = record {
-    session = settled (judge i u p k x) y n s a (e .traffic .transfers);
+    session = judgedTo (judge i u p k x) y n s a (e .traffic .transfers);
     target = b;
     lists = e .lists;
     monitor = noticeRead pc x p a t (e .delays);
     traffic = e .traffic;
   }
 
-  module _ (s a w : ℕ) {y : Entry} {n : ℕ} {ms : List Move} {κ : Purse} {e : Env} {p c k : ℕ} {b : Target} {t : Watch} where
+  module _ (s a w : ℕ) {y : Entry} {n : ℕ} {ms : List Move} {κ : Allowance} {e : Env} {p c k : ℕ} {b : Target} {t : Watch} where
     write-any : Stands f y n (write s a w) ms κ e → (pc : Place) → place (i .geometry) a ≡ pc → Admits (b .effect) pc → f .Safe (b .memory)
         → (next : (e′ : Env) → e′ .lists .calls ≡ cond (isCall w && isSysreq pc) (rest (e .lists .calls)) (e .lists .calls) → Stood f y (suc (suc n)) ms κ e′
-        → Reaches f (written w pc y (suc (suc n)) p c k (store w (outcomeOf (e .lists .calls)) pc (setTar a b)) (aimed a t) e′))
+        → Reaches f (written w pc y (suc (suc n)) p c k (store w (nextOutcome (e .lists .calls)) pc (setTar a b)) (aimed a t) e′))
         → Reaches f (sync y n 0 p c k b t e)
-    unfolding write pay carry judge noticed
+    unfolding write withMoves carry judge noticed
     write-any st pc hp ok safe next =
-        transfer f aTar st (ok .alive) (barred-tar (i .geometry) a b) safe (λ o. safe) λ o₁ e₁ h₁ st₁.
-        transfer f aDrw st₁ (ok .alive) (barred-write (i .geometry) w (setTar a b) pc hp ok) safe (λ o. rw (store-memory w (outcomeOf (e₁ .lists .calls)) (place (i .geometry) a) (setTar a b)) safe) λ o₂ e₂ h₂ st₂.
+        transfer f aTar st (ok .not-killed) (barred-tar (i .geometry) a b) safe (λ o. safe) λ o₁ e₁ h₁ st₁.
+        transfer f aDrw st₁ (ok .not-killed) (barred-write (i .geometry) w (setTar a b) pc hp ok) safe (λ o. rw (store-memory w (nextOutcome (e₁ .lists .calls)) (place (i .geometry) a) (setTar a b)) safe) λ o₂ e₂ h₂ st₂.
         rw (hp, h₁) (next e₂ (rw (hp, h₁) at h₂) st₂)
 
     -- a Write elsewhere than SYSREQ
     pub write-reaches : Stands f y n (write s a w) ms κ e → (pc : Place) → place (i .geometry) a ≡ pc → Admits (b .effect) pc → f .Safe (b .memory) → isSysreq pc ≡ false
         → (next : (e′ : Env) → e′ .lists .calls ≡ e .lists .calls → Stood f y (suc (suc n)) ms κ e′
-        → Reaches f (sync y (suc (suc n)) 0 p c k (store w (outcomeOf (e .lists .calls)) pc (setTar a b)) (aimed a t) e′))
+        → Reaches f (sync y (suc (suc n)) 0 p c k (store w (nextOutcome (e .lists .calls)) pc (setTar a b)) (aimed a t) e′))
         → Reaches f (sync y n 0 p c k b t e)
     write-reaches st pc hp ok safe hs next =
         write-any st pc hp ok safe λ e′ h st′.
         rw (quiet-store (isCall w) pc p c (aimed a t) (e′ .delays) hs) (next e′ ((rw hs at h) ∙ same-calls (isCall w) (e .lists .calls)) st′)
 
   -- the Write of SYSREQ that starts a call
-  pub call-reaches : (s a w : ℕ) {y : Entry} {n : ℕ} {ms : List Move} {κ : Purse} {e : Env} {c k : ℕ} {b : Target} {t : Watch}
+  pub call-reaches : (s a w : ℕ) {y : Entry} {n : ℕ} {ms : List Move} {κ : Allowance} {e : Env} {c k : ℕ} {b : Target} {t : Watch}
       → Stands f y n (write s a w) ms κ e → place (i .geometry) a ≡ atSysreq → Admits (b .effect) atSysreq → f .Safe (b .memory) → isCall w ≡ true
       → (next : (e′ : Env) → e′ .lists .calls ≡ rest (e .lists .calls) → Stood f y (suc (suc n)) ms κ e′
-      → Reaches f (sync y (suc (suc n)) 0 0 c k (begin true w (outcomeOf (e .lists .calls)) (setTar a b)) (record { tar = a; counts = false; polling = true; due = true }) e′))
+      → Reaches f (sync y (suc (suc n)) 0 0 c k (begin true w (nextOutcome (e .lists .calls)) (setTar a b)) (record { tar = a; counts = false; polling = true; due = true }) e′))
       → Reaches f (sync y n 0 0 c k b t e)
   call-reaches s a w st hp ok safe hc next = write-any s a w st atSysreq hp ok safe λ e′ h st′. rw hc (next e′ (rw hc at h) st′)
 
-  module _ (s a : ℕ) (u : Purpose) {y : Entry} {n : ℕ} {ms : List Move} {κ : Purse} {e : Env} {p c k : ℕ} {b : Target} {t : Watch} where
+  module _ (s a : ℕ) (u : Purpose) {y : Entry} {n : ℕ} {ms : List Move} {κ : Allowance} {e : Env} {p c k : ℕ} {b : Target} {t : Watch} where
     -- any Read: the target after the first DRW read, and after the second
-    pub read-any : Stood f y n (read s a u ++ ms) (spend (spend (spend κ))) e → (pc : Place) → place (i .geometry) a ≡ pc → Admits (b .effect) pc → f .Safe (b .memory)
+    pub read-any : Stood f y n (read s a u ++ ms) (withTransfer (withTransfer (withTransfer κ))) e → (pc : Place) → place (i .geometry) a ≡ pc → Admits (b .effect) pc → f .Safe (b .memory)
         → (b₁ : ℕ → Target) (b₂ : ℕ → ℕ → Target)
         → ((o : ℕ) → fetch (i .geometry) o pc (setTar a b) ≡ b₁ o) → ((o o′ : ℕ) → fetch (i .geometry) o′ pc (b₁ o) ≡ b₂ o o′)
         → ((o : ℕ) → (b₁ o) .tar ≡ a) → ((o : ℕ) → (b₁ o) .effect ≡ b .effect)
@@ -172,13 +172,13 @@ module _ {i : Image} (f : Frame i) where
         → (next : (o o′ : ℕ) (e′ : Env) → e′ .lists .calls ≡ e .lists .calls → Stood f y (suc (suc (suc n))) ms κ e′
         → Reaches f (readRun s u y (suc (suc n)) p c k ((b₁ o) .posted) pc (b₂ o o′) (aimed a t) e′))
         → Reaches f (sync y n 0 p c k b t e)
-    unfolding read pay judge noticed
+    unfolding read withMoves judge noticed
     read-any st pc hp ok safe b₁ b₂ h₁ h₂ ht he safe₁ safe₂ next =
-        transfer f aTar st (ok .alive) (barred-tar (i .geometry) a b) safe (unfold carry in (λ o. safe)) λ _ e₁ k₁ st₁.
+        transfer f aTar st (ok .not-killed) (barred-tar (i .geometry) a b) safe (unfold carry in (λ o. safe)) λ _ e₁ k₁ st₁.
         unfold carry in
-        transfer f aRead st₁ (ok .alive) (barred-read (i .geometry) (setTar a b) pc hp ok) safe (λ o. rw (hp, h₁ o) (safe₁ o)) λ o e₂ k₂ st₂.
+        transfer f aRead st₁ (ok .not-killed) (barred-read (i .geometry) (setTar a b) pc hp ok) safe (λ o. rw (hp, h₁ o) (safe₁ o)) λ o e₂ k₂ st₂.
         rw (hp, h₁ o) (
-        transfer f aRead st₂ (rw (he o) (ok .alive)) (barred-read (i .geometry) (b₁ o) pc (there o) (rw (he o) ok)) (safe₁ o)
+        transfer f aRead st₂ (rw (he o) (ok .not-killed)) (barred-read (i .geometry) (b₁ o) pc (there o) (rw (he o) ok)) (safe₁ o)
         (λ o′. rw (there o, h₂ o o′) (safe₂ o o′)) λ o′ e₃ k₃ st₃.
         rw (there o, h₂ o o′, hp) (next o o′ e₃ (k₃ ∙ k₂ ∙ k₁) st₃))
       where
@@ -186,7 +186,7 @@ module _ {i : Image} (f : Frame i) where
         there o = ap (place (i .geometry)) (ht o) ∙ hp
 
     -- a Read of a place that nothing moves; v o is the word there, whatever is posted
-    pub read-still : Stood f y n (read s a u ++ ms) (spend (spend (spend κ))) e → (pc : Place) → place (i .geometry) a ≡ pc → Admits (b .effect) pc → f .Safe (b .memory)
+    pub read-still : Stood f y n (read s a u ++ ms) (withTransfer (withTransfer (withTransfer κ))) e → (pc : Place) → place (i .geometry) a ≡ pc → Admits (b .effect) pc → f .Safe (b .memory)
         → (v : ℕ → ℕ) → ((o z : ℕ) → fetch (i .geometry) o pc (aim a z b) ≡ aim a (v o) b)
         → (next : (o o′ : ℕ) (e′ : Env) → e′ .lists .calls ≡ e .lists .calls → Stood f y (suc (suc (suc n))) ms κ e′
         → Reaches f (readRun s u y (suc (suc n)) p c k (v o) pc (aim a (v o′) b) (aimed a t) e′))

@@ -7,21 +7,21 @@ use native.Mathlib.Omega.{arith}
 use lib.Dec.{eqb}
 use lib.ListN.{length}
 use borrow.Author.Tests.{eq-eqb}
-use Rattle.flow.specs.Calls.{finish, effectOf, sysargAfter, sysreqAfter, leftBy}
+use Rattle.flow.specs.Calls.{finish, effectOf, sysargAfter, sysreqAfter, afterFailure}
 use Rattle.flow.specs.Exchange.{carry}
 use Rattle.flow.specs.Judge.{free, succeeded, testBitSet, idsFit, levelIn, judge}
 use Rattle.flow.specs.Map.{atSysreq, atSysarg, atTestMode}
 use Rattle.flow.specs.Monitor.{watching, noticed, noticeRead}
 use Rattle.flow.specs.Run.{Run}
 use Rattle.flow.specs.Sequence.{move, key, write, read, poll, call, imoCall, acquire}
-use Rattle.flow.specs.Session.{settled}
+use Rattle.flow.specs.Session.{judgedTo}
 use Rattle.flow.specs.Target.{Target, Silicon, Memory, Residue, idle, setReset}
 use Rattle.flow.specs.declared.Entry.{Entry}
 use Rattle.flow.specs.declared.Move.{Move}
 use Rattle.flow.specs.declared.Purpose.{Purpose}
 use Rattle.flow.specs.declared.Purpose.the-variants.{Sent, Idcode, TestBit, Poll, Keep}
 use Rattle.flow.specs.declared.Request.the-variants.{LineReset, ReadIdcode, WriteSetup}
-use Rattle.flow.proofs.Access.{Awake, admits, write-reaches, read-still}
+use Rattle.flow.proofs.Access.{Answering, admits, write-reaches, read-still}
 use Rattle.flow.proofs.Attempts.{barred-off, xres-reaches, trying, attempts}
 use Rattle.flow.proofs.Calling.{Command, calling, free-zero}
 use Rattle.flow.proofs.Hearing.{aCtrl, aSelect, aCsw}
@@ -29,7 +29,7 @@ use Rattle.flow.proofs.Legs.{Core, core, Leg}
 use Rattle.flow.proofs.Phases.{call15, same-core}
 use Rattle.flow.proofs.Places.{place-sysreq, place-sysarg, place-test}
 use Rattle.flow.proofs.Polling.{idleAt, poll-idle}
-use Rattle.flow.proofs.Reaches.{Purse, spend, payRead, payFor, pay, Env, sync, rightSilicon, Frame, Stood, Stands, poorer, Reaches}
+use Rattle.flow.proofs.Reaches.{Allowance, withTransfer, withRead, withRequest, withMoves, Env, sync, rightSilicon, Frame, Stood, Stands, less-room, Reaches}
 use Rattle.flow.proofs.Table.{Facts}
 use Rattle.flow.proofs.Transfer.{transfer}
 use Rattle.image.specs.Image.{Image}
@@ -52,12 +52,12 @@ pub record Acquired {i : Image} (f : Frame i) (m : Memory) (k : ℕ) (c : Core) 
 
 -- calls that alter nothing, failed or not
 still-15 : (g : Geometry) (y : Bool) (r : Residue) (b : Target) → (finish g y r 0x15 b) .memory ≡ b .memory
-unfolding finish effectOf leftBy
+unfolding finish effectOf afterFailure
 still-15 g true r b = refl
 still-15 g false r b = refl
 
 still-0 : (g : Geometry) (y : Bool) (r : Residue) (b : Target) → (finish g y r 0 b) .memory ≡ b .memory
-unfolding finish effectOf leftBy
+unfolding finish effectOf afterFailure
 still-0 g true r b = refl
 still-0 g false r b = refl
 
@@ -69,16 +69,16 @@ effect-0 : (g : Geometry) (l a : ℕ) (ps : List ℕ) (m : Memory) → effectOf 
 unfolding effectOf
 effect-0 g l a ps m = refl
 
-module _ {i : Image} (f : Frame i) (fx : Facts (i .geometry)) (y : Entry) (m : Memory) (awake : Awake (m .stored)) (safe : f .Safe m) where
+module _ {i : Image} (f : Frame i) (fx : Facts (i .geometry)) (y : Entry) (m : Memory) (answering : Answering (m .stored)) (safe : f .Safe m) where
   stays : (b : Target) → b .memory ≡ m → f .Safe (b .memory)
   stays b e = rw e safe
 
   imo-leg : (n : ℕ) → Leg f y (imoCall (i .geometry) n) (Acquired f m) (Acquired f m)
-  unfolding imoCall pay
+  unfolding imoCall withMoves
   imo-leg zero = record { along = λ n x k later κ e b p st next. next k b p n x e st }
   imo-leg (suc z) = record {
     along = λ n x k later κ e b p st next.
-        calling f fx 1 0x15 (key 0x15) (call15 .command) st (rw (p .effect) awake) (stays b (p .fresh .memory))
+        calling f fx 1 0x15 (key 0x15) (call15 .command) st (rw (p .effect) answering) (stays b (p .fresh .memory))
         (λ y r. rw (still-15 (i .geometry) y r _) (stays b (p .fresh .memory))) (call15 .ready _ _) (call15 .good _ _) λ b′ ret n′ e′ st′.
         next k b′ (subst (Acquired f m k) (sym (same-core ret (ret .memory ∙ effect-15 _ _ _ _ _) (p .fresh .quiet))) p) n′ _ e′ st′;
   }
@@ -91,27 +91,27 @@ module _ {i : Image} (f : Frame i) (fx : Facts (i .geometry)) (y : Entry) (m : M
       ∷ move 1 (WriteSetup Csw 2) Sent
       ∷ (write 1 TEST-MODE 0x80000000 ++ (read 1 TEST-MODE TestBit ++ (poll (i .geometry) 1 ++ imoCall (i .geometry) (imoOf (i .geometry)))))
 
-  thirty : {n : ℕ} {ms : List Move} (κ : Purse) {e : Env} → Stood f y n ms (payFor LineReset Sent (payFor ReadIdcode Idcode κ)) e → Stood f y n ms (trying f 29 κ) e
-  thirty κ st = poorer (30 + κ .room) (omega arith) st
+  thirty : {n : ℕ} {ms : List Move} (κ : Allowance) {e : Env} → Stood f y n ms (withRequest LineReset Sent (withRequest ReadIdcode Idcode κ)) e → Stood f y n ms (trying f 29 κ) e
+  thirty κ st = less-room (30 + κ .room) (omega arith) st
 
-  one-poll : {n : ℕ} {ms : List Move} (κ : Purse) {e : Env} → Stood f y n ms (spend (spend (payRead Poll κ))) e → Stood f y n ms (spend (spend (spend κ))) e
-  one-poll κ st = poorer (17 + (17 + (17 + κ .room))) (omega arith) st
+  one-poll : {n : ℕ} {ms : List Move} (κ : Allowance) {e : Env} → Stood f y n ms (withTransfer (withTransfer (withRead Poll κ))) e → Stood f y n ms (withTransfer (withTransfer (withTransfer κ))) e
+  one-poll κ st = less-room (17 + (17 + (17 + κ .room))) (omega arith) st
 
   pub acquire-leg : Leg f y (acquire (i .geometry)) (Fresh f m) (Acquired f m)
-  unfolding acquire write read pay carry judge testBitSet noticed noticeRead
+  unfolding acquire write read withMoves carry judge testBitSet noticed noticeRead
   acquire-leg = record {
     along = λ n x k later κ e b p st next.
-        let lives : Awake (b .memory .stored) = rw (p .memory) awake in
-        let alive = (admits (b .memory .stored) atSysreq refl lives) .alive in
+        let answers : Answering (b .memory .stored) = rw (p .memory) answering in
+        let not-killed = (admits (b .memory .stored) atSysreq refl answers) .not-killed in
         let sf = stays b (p .memory) in
         xres-reaches f st sf (p .quiet) λ st₁.
-        attempts f 29 1 0 k (setReset b) (idleAt x) refl (thirty (pay setup κ) st₁) alive sf (p .silicon) λ id e₂ st₂.
-        transfer f aCtrl st₂ alive (barred-off (i .geometry) (WriteSetup CtrlStat 0x54000000) (setReset b) refl) sf (λ o. sf) λ _ e₃ _ st₃.
-        transfer f aSelect st₃ alive (barred-off (i .geometry) (WriteSetup Select 0) (setReset b) refl) sf (λ o. sf) λ _ e₄ _ st₄.
-        transfer f aCsw st₄ alive (barred-off (i .geometry) (WriteSetup Csw 2) (setReset b) refl) sf (λ o. sf) λ _ e₅ _ st₅.
-        write-reaches f 1 TEST-MODE 0x80000000 st₅ atTestMode (place-test (i .geometry) fx) (admits (b .memory .stored) atTestMode refl lives) sf refl λ e₆ _ st₆.
-        read-still f 1 TEST-MODE TestBit st₆ atTestMode (place-test (i .geometry) fx) (admits (b .memory .stored) atTestMode refl lives) sf (λ o. 0x80000000) (λ o z. refl) λ _ _ e₇ _ st₇.
-        poll-idle f (place-sysreq (i .geometry) fx) 1 _ (one-poll (pay (imoCall (i .geometry) (imoOf (i .geometry))) κ) st₇) (admits (b .memory .stored) atSysreq refl lives) sf refl free-zero λ e₈ _ st₈.
+        attempts f 29 1 0 k (setReset b) (idleAt x) refl (thirty (withMoves setup κ) st₁) not-killed sf (p .silicon) λ id e₂ st₂.
+        transfer f aCtrl st₂ not-killed (barred-off (i .geometry) (WriteSetup CtrlStat 0x54000000) (setReset b) refl) sf (λ o. sf) λ _ e₃ _ st₃.
+        transfer f aSelect st₃ not-killed (barred-off (i .geometry) (WriteSetup Select 0) (setReset b) refl) sf (λ o. sf) λ _ e₄ _ st₄.
+        transfer f aCsw st₄ not-killed (barred-off (i .geometry) (WriteSetup Csw 2) (setReset b) refl) sf (λ o. sf) λ _ e₅ _ st₅.
+        write-reaches f 1 TEST-MODE 0x80000000 st₅ atTestMode (place-test (i .geometry) fx) (admits (b .memory .stored) atTestMode refl answers) sf refl λ e₆ _ st₆.
+        read-still f 1 TEST-MODE TestBit st₆ atTestMode (place-test (i .geometry) fx) (admits (b .memory .stored) atTestMode refl answers) sf (λ o. 0x80000000) (λ o z. refl) λ _ _ e₇ _ st₇.
+        poll-idle f (place-sysreq (i .geometry) fx) 1 _ (one-poll (withMoves (imoCall (i .geometry) (imoOf (i .geometry))) κ) st₇) (admits (b .memory .stored) atSysreq refl answers) sf refl free-zero λ e₈ _ st₈.
         (imo-leg (imoOf (i .geometry))) .along _ _ k later κ e₈ _
         (record { fresh = record { silicon = p .silicon; memory = p .memory; room = p .room; quiet = refl }; effect = ap (λ (z : Memory). z .stored) (p .memory); idcode = id }) st₈ next;
   }
@@ -154,19 +154,19 @@ pub level-read : (x : Silicon) (l : ℕ) → Bytes x → l < 16 → levelIn (sys
 unfolding sysreqAfter
 level-read x l hb hl = omega arith
 
-module _ {i : Image} (f : Frame i) (fx : Facts (i .geometry)) (m : Memory) (awake : Awake (m .stored)) (safe : f .Safe m) (hb : Bytes (f .silicon)) (hl : m .stored < 16) where
+module _ {i : Image} (f : Frame i) (fx : Facts (i .geometry)) (m : Memory) (answering : Answering (m .stored)) (safe : f .Safe m) (hb : Bytes (f .silicon)) (hl : m .stored < 16) where
   -- the run after the Read of SYSREQ
   abbrev pub identified : Purpose → Entry → (n k : ℕ) → Target → Env → Run
   identified u y n k b e = record {
-    session = settled (judge i u 0 (sysargAfter 0 (f .silicon) m) (sysreqAfter 0 (f .silicon) (m .stored))) y n 2 0 (e .traffic .transfers);
+    session = judgedTo (judge i u 0 (sysargAfter 0 (f .silicon) m) (sysreqAfter 0 (f .silicon) (m .stored))) y n 2 0 (e .traffic .transfers);
     target = b;
     lists = e .lists;
     monitor = watching 0 0 0 (idleAt (sysreqOf (i .geometry))) (e .delays);
     traffic = e .traffic;
   }
 
-  pub silicon-reaches : (u : Purpose) {y : Entry} {n x k : ℕ} {ms : List Move} {κ : Purse} {e : Env} {b : Target} → Acquired f m k (core b)
-      → Stands f y n (call (i .geometry) 2 0 (key 0)) (read 2 (sysargOf (i .geometry)) Keep ++ (read 2 (sysreqOf (i .geometry)) u ++ ms)) (spend (spend (spend (spend (spend (spend κ)))))) e
+  pub silicon-reaches : (u : Purpose) {y : Entry} {n x k : ℕ} {ms : List Move} {κ : Allowance} {e : Env} {b : Target} → Acquired f m k (core b)
+      → Stands f y n (call (i .geometry) 2 0 (key 0)) (read 2 (sysargOf (i .geometry)) Keep ++ (read 2 (sysreqOf (i .geometry)) u ++ ms)) (withTransfer (withTransfer (withTransfer (withTransfer (withTransfer (withTransfer κ)))))) e
       → (next : (b′ : Target) → core b′ ≡ core b → (n′ : ℕ) (e′ : Env) → Stood f y (suc n′) ms κ e′ → Reaches f (identified u y n′ k b′ e′))
       → Reaches f (sync y n 0 0 0 k b (idleAt x) e)
   unfolding judge noticeRead
@@ -174,14 +174,14 @@ module _ {i : Image} (f : Frame i) (fx : Facts (i .geometry)) (m : Memory) (awak
       let sf : f .Safe (b .memory) = rw (p .fresh .memory) safe in
       let ready : free (sysreqAfter 0 (b .silicon) (b .effect)) ≡ true = rw (p .fresh .silicon, p .effect) (free-0 (f .silicon) (m .stored) hb hl) in
       let good : succeeded (sysargAfter 0 (b .silicon) (b .memory)) ≡ true = rw (p .fresh .silicon, p .fresh .memory) (good-0 (f .silicon) m hb) in
-      calling f fx 2 0 (key 0) command0 st (rw (p .effect) awake) sf (λ y r. rw (still-0 (i .geometry) y r _) sf) ready good λ b₁ ret n₁ e₁ st₁.
+      calling f fx 2 0 (key 0) command0 st (rw (p .effect) answering) sf (λ y r. rw (still-0 (i .geometry) y r _) sf) ready good λ b₁ ret n₁ e₁ st₁.
       let same : core b₁ ≡ core b = same-core ret (ret .memory ∙ effect-0 _ _ _ _ _) (p .fresh .quiet) in
-      let lives : Awake (b₁ .effect) = rw (ret .effect, p .effect) awake in
+      let answers : Answering (b₁ .effect) = rw (ret .effect, p .effect) answering in
       let sf₁ : f .Safe (b₁ .memory) = rw (ret .memory, effect-0) sf in
       let arg : b₁ .sysarg ≡ sysargAfter 0 (f .silicon) m = ret .sysarg ∙ rw (p .fresh .silicon, p .fresh .memory) in
       let req : b₁ .sysreq ≡ sysreqAfter 0 (f .silicon) (m .stored) = ret .sysreq ∙ rw (p .fresh .silicon, p .effect) in
-      read-still f 2 (sysargOf (i .geometry)) Keep st₁ atSysarg (place-sysarg (i .geometry) fx) (admits (b₁ .effect) atSysarg refl lives) sf₁
+      read-still f 2 (sysargOf (i .geometry)) Keep st₁ atSysarg (place-sysarg (i .geometry) fx) (admits (b₁ .effect) atSysarg refl answers) sf₁
       (λ o. sysargAfter 0 (f .silicon) m) (λ o z. rw arg) λ _ _ e₂ _ st₂.
-      read-still f 2 (sysreqOf (i .geometry)) u st₂ atSysreq (place-sysreq (i .geometry) fx) (admits (b₁ .effect) atSysreq refl lives) sf₁
+      read-still f 2 (sysreqOf (i .geometry)) u st₂ atSysreq (place-sysreq (i .geometry) fx) (admits (b₁ .effect) atSysreq refl answers) sf₁
       (λ o. sysreqAfter 0 (f .silicon) (m .stored)) (λ o z. rw (ret .ended, req)) λ _ _ e₃ _ st₃.
       next _ same _ e₃ st₃

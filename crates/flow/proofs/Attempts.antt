@@ -7,7 +7,7 @@ use native.Mathlib.Omega.{arith}
 use lib.Dec.{eqb, lit≤}
 use borrow.Author.Tests.{lt-ltb, le-ltb}
 use Rattle.flow.specs.Calls.{reset}
-use Rattle.flow.specs.Exchange.{decode, carry, dead, barred, guarded, overDrw, Met, transferred, meet}
+use Rattle.flow.specs.Exchange.{decode, carry, killed, barred, guarded, overDrw, Met, transferred, meet}
 use Rattle.flow.specs.Judge.{goIf, judge}
 use Rattle.flow.specs.Map.{place}
 use Rattle.flow.specs.Monitor.{watching, Watch, oneMissed, watchBy, noticed, watch}
@@ -15,16 +15,16 @@ use Rattle.flow.specs.Packets.{Verdict, again, verdict}
 use Rattle.flow.specs.Plan.{counting}
 use Rattle.flow.specs.Run.{Run, advance}
 use Rattle.flow.specs.Sequence.{move}
-use Rattle.flow.specs.Session.{running, settled, heardBy, stepOf}
-use Rattle.flow.specs.Target.{Target, Silicon, Lists, idle, clean, eventOf, setReset}
+use Rattle.flow.specs.Session.{running, judgedTo, heardBy, stepOf}
+use Rattle.flow.specs.Target.{Target, Silicon, Lists, idle, clean, nextEvent, setReset}
 use Rattle.flow.specs.declared.Entry.{Entry}
 use Rattle.flow.specs.declared.Move.{Move}
 use Rattle.flow.specs.declared.Purpose.{Purpose}
 use Rattle.flow.specs.declared.Purpose.the-variants.{Sent, Idcode}
 use Rattle.flow.specs.declared.Request.{Request}
 use Rattle.flow.specs.declared.Request.the-variants.{Xres, LineReset, ReadIdcode}
-use Rattle.flow.proofs.Hearing.{attempt, meets, listsAfter, Heard, well, held, ill, illDone, hears}
-use Rattle.flow.proofs.Reaches.{Purse, Env, sync, Frame, Stood, at-move, at-next, Reaches, stop, steps, clear}
+use Rattle.flow.proofs.Hearing.{attempt, meets, listsAfter, Heard, heardOkay, heardWait, heardError, heardErrorDone, hears}
+use Rattle.flow.proofs.Reaches.{Allowance, Env, sync, Frame, Stood, at-move, at-next, Reaches, stop, steps, clear}
 use Rattle.flow.proofs.Transfer.{more, passed, calm-event, calm-rest}
 use Rattle.image.specs.Image.{Image}
 use Rattle.parts.specs.declared.Geometry.{Geometry}
@@ -44,7 +44,7 @@ reset-by q e = record { lists = e .lists; delays = e .delays; traffic = counting
 
 module _ {i : Image} (f : Frame i) where
   -- XRES, with nothing under way
-  pub xres-reaches : {s : ℕ} {u : Purpose} {y : Entry} {n k : ℕ} {ms : List Move} {κ : Purse} {e : Env} {b : Target} {t : Watch}
+  pub xres-reaches : {s : ℕ} {u : Purpose} {y : Entry} {n k : ℕ} {ms : List Move} {κ : Allowance} {e : Env} {b : Target} {t : Watch}
       → Stood f y n (move s Xres u ∷ ms) (record { due = κ .due; room = κ .room; xres = suc (κ .xres); lines = κ .lines }) e → f .Safe (b .memory) → b .running ≡ idle
       → (Stood f y (suc n) ms κ (reset-by Xres e) → Reaches f (sync y (suc n) 0 0 0 k (setReset b) t (reset-by Xres e)))
       → Reaches f (sync y n 0 0 0 k b t e)
@@ -52,12 +52,12 @@ module _ {i : Image} (f : Frame i) where
       steps f (sync y n 0 0 0 k b t e) (sync y (suc n) 0 0 0 k (setReset b) t (reset-by Xres e)) refl safe
       (rw (at-move st) (record { transfers = omega (arith, st .room); xresets = omega (arith, st .xres); lineResets = omega (arith, st .lines) })) (clear 0 0 0 t (e .delays))
       arrives
-      (next (record { at = at-next st; spent = st .spent; room = st .room; xres = omega (arith, st .xres); lines = st .lines; calm = λ still. let c = st .calm still in record { line = c .line; calls = c .calls; none = c .none } }))
+      (next (record { at = at-next st; accounted = st .accounted; room = st .room; xres = omega (arith, st .xres); lines = st .lines; calm = λ still. let c = st .calm still in record { line = c .line; calls = c .calls; none = c .none } }))
     where
       arrives : advance i (sync y n 0 0 0 k b t e) ≡ sync y (suc n) 0 0 0 k (setReset b) t (reset-by Xres e)
       arrives = unfold advance stepOf watch meet decode reset in rw (at-move st, quiet)
 
-  line-reaches : {s : ℕ} {u : Purpose} {y : Entry} {n a k : ℕ} {ms : List Move} {κ : Purse} {e : Env} {b : Target} {t : Watch}
+  line-reaches : {s : ℕ} {u : Purpose} {y : Entry} {n a k : ℕ} {ms : List Move} {κ : Allowance} {e : Env} {b : Target} {t : Watch}
       → Stood f y n (move s LineReset u ∷ ms) (record { due = κ .due; room = κ .room; xres = κ .xres; lines = suc (κ .lines) }) e → f .Safe (b .memory)
       → (Stood f y (suc n) ms κ (reset-by LineReset e) → Reaches f (sync y (suc n) 0 0 a k b t (reset-by LineReset e)))
       → Reaches f (sync y n 0 0 a k b t e)
@@ -65,7 +65,7 @@ module _ {i : Image} (f : Frame i) where
       steps f (sync y n 0 0 a k b t e) (sync y (suc n) 0 0 a k b t (reset-by LineReset e)) refl safe
       (rw (at-move st) (record { transfers = omega (arith, st .room); xresets = omega (arith, st .xres); lineResets = omega (arith, st .lines) })) (clear 0 0 a t (e .delays))
       arrives
-      (next (record { at = at-next st; spent = st .spent; room = st .room; xres = st .xres; lines = omega (arith, st .lines); calm = λ still. let c = st .calm still in record { line = c .line; calls = c .calls; none = c .none } }))
+      (next (record { at = at-next st; accounted = st .accounted; room = st .room; xres = st .xres; lines = omega (arith, st .lines); calm = λ still. let c = st .calm still in record { line = c .line; calls = c .calls; none = c .none } }))
     where
       arrives : advance i (sync y n 0 0 a k b t e) ≡ sync y (suc n) 0 0 a k b t (reset-by LineReset e)
       arrives = unfold advance stepOf watch meet decode in rw (at-move st)
@@ -81,33 +81,33 @@ module _ {i : Image} (f : Frame i) where
   }
 
   abbrev metBy : Target → Env → Met
-  metBy b e = transferred (i .geometry) ReadIdcode (eventOf (e .lists .line)) (e .lists) b
+  metBy b e = transferred (i .geometry) ReadIdcode (nextEvent (e .lists .line)) (e .lists) b
 
-  arrives : {s : ℕ} {y : Entry} {n : ℕ} {ms : List Move} {κ : Purse} {e : Env} (a k : ℕ) (b : Target) (t : Watch) → Stood f y n (move s ReadIdcode Idcode ∷ ms) κ e
+  arrives : {s : ℕ} {y : Entry} {n : ℕ} {ms : List Move} {κ : Allowance} {e : Env} (a k : ℕ) (b : Target) (t : Watch) → Stood f y n (move s ReadIdcode Idcode ∷ ms) κ e
       → advance i (sync y n 0 0 a k b t e) ≡ tried s y n a k ((metBy b e) .target) t ((metBy b e) .lists) (verdict ReadIdcode ((metBy b e) .answer)) e
   unfolding advance stepOf watch
   arrives {e = e} a k b t st = rw (at-move st, meets (i .geometry) attempt (e .lists) b)
 
   -- what a session may still try m times more
-  abbrev pub trying : ℕ → Purse → Purse
+  abbrev pub trying : ℕ → Allowance → Allowance
   trying m κ = record { due = suc (κ .due); room = suc m + κ .room; xres = κ .xres; lines = suc m + κ .lines }
 
-  abbrev afterLine : ℕ → Purse → Purse
+  abbrev afterLine : ℕ → Allowance → Allowance
   afterLine m κ = record { due = suc (κ .due); room = suc m + κ .room; xres = κ .xres; lines = m + κ .lines }
 
   -- one attempt: `onMiss` is where a failed one leads to
-  attempt-once : (m s : ℕ) {y : Entry} {n : ℕ} {ms : List Move} {κ : Purse} {e : Env} (a k : ℕ) (b : Target) (t : Watch)
-      → Stood f y n (move s LineReset Sent ∷ move s ReadIdcode Idcode ∷ ms) (trying m κ) e → dead b ≡ false → f .Safe (b .memory) → b .silicon ≡ f .silicon
+  attempt-once : (m s : ℕ) {y : Entry} {n : ℕ} {ms : List Move} {κ : Allowance} {e : Env} (a k : ℕ) (b : Target) (t : Watch)
+      → Stood f y n (move s LineReset Sent ∷ move s ReadIdcode Idcode ∷ ms) (trying m κ) e → killed b ≡ false → f .Safe (b .memory) → b .silicon ≡ f .silicon
       → (onMiss : (f .Still → ⊥) → (l : Lists) → Stood f y (suc n) (move s ReadIdcode Idcode ∷ ms) (afterLine m κ) (reset-by LineReset e)
       → Reaches f (tried s y (suc n) a k b t l again (reset-by LineReset e)))
       → (next : eqb (f .silicon .idcode) 0x0BB11477 ≡ true → (e′ : Env) → Stood f y (suc (suc n)) ms κ e′ → Reaches f (sync y (suc (suc n)) 0 0 0 k b t e′))
       → Reaches f (sync y n 0 0 a k b t e)
   unfolding carry judge noticed
-  attempt-once m s {y} {n} {ms} {κ} {e} a k b t st alive safe own onMiss next =
-      line-reaches (record { at = st .at; spent = st .spent; room = st .room; xres = st .xres; lines = omega (arith, st .lines); calm = st .calm }) safe λ st₁.
+  attempt-once m s {y} {n} {ms} {κ} {e} a k b t st not-killed safe own onMiss next =
+      line-reaches (record { at = st .at; accounted = st .accounted; room = st .room; xres = st .xres; lines = omega (arith, st .lines); calm = st .calm }) safe λ st₁.
       steps f (sync y (suc n) 0 0 a k b t e₁) met refl safe
       (rw (at-move st₁) (record { transfers = omega (arith, st₁ .room); xresets = omega (arith, st₁ .xres); lineResets = omega (arith, st₁ .lines) })) (clear 0 0 a t (e .delays))
-      (arrives a k b t st₁) (by st₁ (hears (i .geometry) (e .lists) b attempt (eventOf (e .lists .line)) alive (barred-off (i .geometry) ReadIdcode b refl)))
+      (arrives a k b t st₁) (by st₁ (hears (i .geometry) (e .lists) b attempt (nextEvent (e .lists .line)) not-killed (barred-off (i .geometry) ReadIdcode b refl)))
     where
       e₁ : Env
       e₁ = reset-by LineReset e
@@ -115,13 +115,13 @@ module _ {i : Image} (f : Frame i) where
       met : Run
       met = tried s y (suc n) a k ((metBy b e₁) .target) t ((metBy b e₁) .lists) (verdict ReadIdcode ((metBy b e₁) .answer)) e₁
 
-      blame : ((eventOf (e .lists .line)) .fate ≡ clean → ⊥) → f .Still → ⊥
-      blame bad still = bad (calm-event ((st .calm still) .line))
+      not-calm : ((nextEvent (e .lists .line)) .outcome ≡ clean → ⊥) → f .Still → ⊥
+      not-calm bad still = bad (calm-event ((st .calm still) .line))
 
       stood : Stood f y (suc n) (move s ReadIdcode Idcode ∷ ms) (afterLine m κ) e₁ → Stood f y (suc (suc n)) ms κ (passed (listsAfter (i .geometry) ReadIdcode b (e .lists)) e₁)
       stood st₁ = record {
         at = at-next st₁;
-        spent = omega (arith, st₁ .spent);
+        accounted = omega (arith, st₁ .accounted);
         room = omega (arith, st₁ .room);
         xres = st₁ .xres;
         lines = omega (arith, st₁ .lines);
@@ -133,7 +133,7 @@ module _ {i : Image} (f : Frame i) where
 
       fit : Stood f y (suc n) (move s ReadIdcode Idcode ∷ ms) (afterLine m κ) e₁ → (z : Bool) → eqb (b .silicon .idcode) 0x0BB11477 ≡ z
           → Reaches f (record {
-            session = settled (goIf z 16 0 k) y (suc n) s 0 (suc (e .traffic .transfers));
+            session = judgedTo (goIf z 16 0 k) y (suc n) s 0 (suc (e .traffic .transfers));
             target = b;
             lists = listsAfter (i .geometry) ReadIdcode b (e .lists);
             monitor = watching 0 0 0 t (e .delays);
@@ -142,25 +142,25 @@ module _ {i : Image} (f : Frame i) where
       fit st₁ true h = next (mine true h) (passed (listsAfter (i .geometry) ReadIdcode b (e .lists)) e₁) (stood st₁)
       fit st₁ false h = stop (f .wrongId s 0 0 0 b _ t (e .delays) _ safe (mine false h))
 
-      by : Stood f y (suc n) (move s ReadIdcode Idcode ∷ ms) (afterLine m κ) e₁ → Heard (i .geometry) ReadIdcode (eventOf (e .lists .line)) (e .lists) b (metBy b e₁) → Reaches f met
-      by st₁ (well hb hv hl) = rw (hb, hv, hl) (fit st₁ (eqb (b .silicon .idcode) 0x0BB11477) refl)
-      by st₁ (held bad hb hv hl) = rw (hb, hv, hl) (onMiss (blame bad) _ st₁)
-      by st₁ (ill c hn bad hb hv) = rw (hb, hv) (onMiss (blame bad) _ st₁)
-      by st₁ (illDone c hn bad hb hv) = rw (hb, hv) (onMiss (blame bad) _ st₁)
+      by : Stood f y (suc n) (move s ReadIdcode Idcode ∷ ms) (afterLine m κ) e₁ → Heard (i .geometry) ReadIdcode (nextEvent (e .lists .line)) (e .lists) b (metBy b e₁) → Reaches f met
+      by st₁ (heardOkay hb hv hl) = rw (hb, hv, hl) (fit st₁ (eqb (b .silicon .idcode) 0x0BB11477) refl)
+      by st₁ (heardWait bad hb hv hl) = rw (hb, hv, hl) (onMiss (not-calm bad) _ st₁)
+      by st₁ (heardError c hn bad hb hv) = rw (hb, hv) (onMiss (not-calm bad) _ st₁)
+      by st₁ (heardErrorDone c hn bad hb hv) = rw (hb, hv) (onMiss (not-calm bad) _ st₁)
 
   -- the attempts; after this one m more are allowed
-  pub attempts : (m s : ℕ) {y : Entry} {n : ℕ} {ms : List Move} {κ : Purse} {e : Env} (a k : ℕ) (b : Target) (t : Watch)
-      → a + suc m ≡ 30 → Stood f y n (move s LineReset Sent ∷ move s ReadIdcode Idcode ∷ ms) (trying m κ) e → dead b ≡ false → f .Safe (b .memory) → b .silicon ≡ f .silicon
+  pub attempts : (m s : ℕ) {y : Entry} {n : ℕ} {ms : List Move} {κ : Allowance} {e : Env} (a k : ℕ) (b : Target) (t : Watch)
+      → a + suc m ≡ 30 → Stood f y n (move s LineReset Sent ∷ move s ReadIdcode Idcode ∷ ms) (trying m κ) e → killed b ≡ false → f .Safe (b .memory) → b .silicon ≡ f .silicon
       → (next : eqb (f .silicon .idcode) 0x0BB11477 ≡ true → (e′ : Env) → Stood f y (suc (suc n)) ms κ e′ → Reaches f (sync y (suc (suc n)) 0 0 0 k b t e′))
       → Reaches f (sync y n 0 0 a k b t e)
-  attempts zero s a k b t count st alive safe own next =
-      attempt-once zero s a k b t st alive safe own
+  attempts zero s a k b t count st not-killed safe own next =
+      attempt-once zero s a k b t st not-killed safe own
       (λ bad l st₁. rw (le-ltb (suc a) 30 (omega arith)) (stop (f .caught 26 s b l _ (lit≤ tt) bad safe))) next
-  attempts (suc m) s {n = n} {κ = κ} {e = e} a k b t count st alive safe own next =
-      attempt-once (suc m) s a k b t st alive safe own
+  attempts (suc m) s {n = n} {κ = κ} {e = e} a k b t count st not-killed safe own next =
+      attempt-once (suc m) s a k b t st not-killed safe own
       (λ bad l st₁.
       let again′ : suc n - 1 ≡ n = omega arith in
       rw (lt-ltb (suc a) 30 (omega arith), again′) (
       attempts m s {e = record { lists = l; delays = oneMissed (e .delays); traffic = more (counting LineReset (e .traffic)) }} (suc a) k b t (omega arith)
-      (record { at = st .at; spent = omega (arith, st₁ .spent); room = omega (arith, st₁ .room); xres = st₁ .xres; lines = omega (arith, st₁ .lines); calm = λ still. absurd (bad still) })
-      alive safe own next)) next
+      (record { at = st .at; accounted = omega (arith, st₁ .accounted); room = omega (arith, st₁ .room); xres = st₁ .xres; lines = omega (arith, st₁ .lines); calm = λ still. absurd (bad still) })
+      not-killed safe own next)) next

@@ -4,27 +4,27 @@ use Prim.Native.Nat.{ℕ}
 use lib.Count.{ones, onesIn}
 use Rattle.flow.proofs.Hearing.{attempt, plain, aTar, aDrw, aRead, meets}
 use Rattle.flow.specs.BoardExamples.{after, TransferExamples, PacketExamples, ResetExamples, CallExamples}
-use Rattle.flow.specs.Calls.{bytesIn, effectOf, sysargAfter, sysreqAfter, leftBy, finish, reset}
-use Rattle.flow.specs.Examples.{onePart}
+use Rattle.flow.specs.Calls.{bytesIn, effectOf, sysargAfter, sysreqAfter, afterFailure, finish, reset}
+use Rattle.flow.specs.Examples.{partOne}
 use Rattle.flow.specs.Exchange.{Met, decode, carry, barred, transferred, meet}
 use Rattle.flow.specs.Map.{search, regions, lockRegions}
-use Rattle.flow.specs.Target.{Target, Lists, eventOf}
+use Rattle.flow.specs.Target.{Target, Lists, nextEvent}
 use Rattle.flow.specs.declared.Request.the-variants.{ReadIdcode, ReadDrw, WriteTar, WriteDrw}
 use Rattle.image.specs.Words.{total, wordAt}
 use Rattle.parts.specs.Sizes.{rowsOf, locksIn, flashSize}
 
 -- a packet of a known request is met as that request
-byIdcode : (l : Lists) (b : Target) {m : Met} → transferred onePart ReadIdcode (eventOf (l .line)) l b ≡ m → after ReadIdcode l b ≡ m
-byIdcode l b e = meets onePart attempt l b ∙ e
+byIdcode : (l : Lists) (b : Target) {m : Met} → transferred partOne ReadIdcode (nextEvent (l .line)) l b ≡ m → after ReadIdcode l b ≡ m
+byIdcode l b e = meets partOne attempt l b ∙ e
 
-byRead : (l : Lists) (b : Target) {m : Met} → transferred onePart ReadDrw (eventOf (l .line)) l b ≡ m → after ReadDrw l b ≡ m
-byRead l b e = meets onePart (plain aRead) l b ∙ e
+byRead : (l : Lists) (b : Target) {m : Met} → transferred partOne ReadDrw (nextEvent (l .line)) l b ≡ m → after ReadDrw l b ≡ m
+byRead l b e = meets partOne (plain aRead) l b ∙ e
 
-byTar : (a : ℕ) (l : Lists) (b : Target) {m : Met} → transferred onePart (WriteTar a) (eventOf (l .line)) l b ≡ m → after (WriteTar a) l b ≡ m
-byTar a l b e = meets onePart (plain aTar) l b ∙ e
+byTar : (a : ℕ) (l : Lists) (b : Target) {m : Met} → transferred partOne (WriteTar a) (nextEvent (l .line)) l b ≡ m → after (WriteTar a) l b ≡ m
+byTar a l b e = meets partOne (plain aTar) l b ∙ e
 
-byWrite : (w : ℕ) (l : Lists) (b : Target) {m : Met} → transferred onePart (WriteDrw w) (eventOf (l .line)) l b ≡ m → after (WriteDrw w) l b ≡ m
-byWrite w l b e = meets onePart (plain aDrw) l b ∙ e
+byWrite : (w : ℕ) (l : Lists) (b : Target) {m : Met} → transferred partOne (WriteDrw w) (nextEvent (l .line)) l b ≡ m → after (WriteDrw w) l b ≡ m
+byWrite w l b e = meets partOne (plain aDrw) l b ∙ e
 
 pub transfer-examples : TransferExamples
 unfolding transferred carry barred search regions lockRegions rowsOf locksIn flashSize wordAt
@@ -75,7 +75,7 @@ packet-examples = record {
 }
 
 pub reset-examples : ResetExamples
-unfolding meet decode reset finish leftBy
+unfolding meet decode reset finish afterFailure
 reset-examples = record {
   xres = refl;
   wakes = refl;
@@ -86,7 +86,7 @@ reset-examples = record {
 }
 
 pub call-examples : CallExamples
-unfolding transferred carry barred search regions lockRegions rowsOf locksIn flashSize finish effectOf sysargAfter sysreqAfter leftBy bytesIn total
+unfolding transferred carry barred search regions lockRegions rowsOf locksIn flashSize finish effectOf sysargAfter sysreqAfter afterFailure bytesIn total
 call-examples = record {
   begins = byWrite 0x80000015 _ _ refl;
   noCall = ap (λ m. m .lists) (byWrite 0x15 _ _ refl);

@@ -12,14 +12,14 @@ use Rattle.flow.specs.Judge.{free, succeeded, judge}
 use Rattle.flow.specs.Map.{atSysreq, atSysarg}
 use Rattle.flow.specs.Monitor.{Watch, noticeRead}
 use Rattle.flow.specs.Sequence.{call, poll, read, write}
-use Rattle.flow.specs.Target.{Target, Residue, CallOutcome, idle, busy, outcomeOf}
+use Rattle.flow.specs.Target.{Target, Residue, CallOutcome, idle, busy, nextOutcome}
 use Rattle.flow.specs.declared.Entry.{Entry}
 use Rattle.flow.specs.declared.Move.{Move}
 use Rattle.flow.specs.declared.Purpose.the-variants.{Status}
-use Rattle.flow.proofs.Access.{aim, Awake, admits, write-reaches, call-reaches, read-still}
+use Rattle.flow.proofs.Access.{aim, Answering, admits, write-reaches, call-reaches, read-still}
 use Rattle.flow.proofs.Places.{place-sysreq, place-sysarg}
 use Rattle.flow.proofs.Polling.{idleAt, during, looping, loopAt, poll-busy}
-use Rattle.flow.proofs.Reaches.{Purse, spend, pay, Env, sync, Frame, Stood, Stands, poorer, Reaches, stop}
+use Rattle.flow.proofs.Reaches.{Allowance, withTransfer, withMoves, Env, sync, Frame, Stood, Stands, less-room, Reaches, stop}
 use Rattle.flow.proofs.Table.{Facts}
 use Rattle.image.specs.Image.{Image}
 use Rattle.parts.specs.Sizes.{sysreqOf, sysargOf}
@@ -55,11 +55,11 @@ pub record Returned (g : Geometry) (c w : ℕ) (b b′ : Target) : Type 0 where
   pub sysreq : b′ .sysreq ≡ sysreqAfter c (b .silicon) (b .effect)
   pub ended : b′ .running ≡ idle
 
-calm-success : {l : List CallOutcome} → CalmCalls l → (outcomeOf l) .succeeds ≡ true
+calm-success : {l : List CallOutcome} → CalmCalls l → (nextOutcome l) .succeeds ≡ true
 calm-success callsEnd = refl
 calm-success (calmCall h h′ c) = h′
 
-calm-idle : {l : List CallOutcome} → CalmCalls l → (outcomeOf l) .busyReads ≡ 0
+calm-idle : {l : List CallOutcome} → CalmCalls l → (nextOutcome l) .busyReads ≡ 0
 calm-idle callsEnd = refl
 calm-idle (calmCall h h′ c) = h
 
@@ -82,46 +82,46 @@ free-zero = refl
 
 module _ {i : Image} (f : Frame i) (fx : Facts (i .geometry)) where
   -- from the poll on
-  call-tail : (s₀ : Bool) (r₀ : Residue) (q c s : ℕ) {y : Entry} {n : ℕ} {ms : List Move} {κ : Purse} {e : Env} {k : ℕ} (b : Target) (x z : ℕ) {v : Bool}
-      → Stood f y n (poll (i .geometry) s ++ (read s (sysargOf (i .geometry)) Status ++ ms)) (looping 9999 (spend (spend (spend κ)))) e
-      → Awake (b .effect) → f .Safe (b .memory) → ((y : Bool) (r : Residue) → f .Safe ((finish (i .geometry) y r c b) .memory))
+  call-tail : (s₀ : Bool) (r₀ : Residue) (q c s : ℕ) {y : Entry} {n : ℕ} {ms : List Move} {κ : Allowance} {e : Env} {k : ℕ} (b : Target) (x z : ℕ) {v : Bool}
+      → Stood f y n (poll (i .geometry) s ++ (read s (sysargOf (i .geometry)) Status ++ ms)) (looping 9999 (withTransfer (withTransfer (withTransfer κ)))) e
+      → Answering (b .effect) → f .Safe (b .memory) → ((y : Bool) (r : Residue) → f .Safe ((finish (i .geometry) y r c b) .memory))
       → (f .Still → q ≡ 0) → (f .Still → s₀ ≡ true)
       → free (sysreqAfter c (b .silicon) (b .effect)) ≡ true → succeeded (sysargAfter c (b .silicon) (b .memory)) ≡ true
       → (next : (b′ : Target) → Returned (i .geometry) c (b .sysarg) b b′ → (n′ : ℕ) (e′ : Env) → Stood f y n′ ms κ e′
       → Reaches f (sync y n′ 0 0 0 k b′ (idleAt (sysargOf (i .geometry))) e′))
       → Reaches f (sync y n 0 0 0 k (aim x z (during (busy q s₀ r₀ c) b)) (loopAt x v true) e)
   unfolding finish judge noticeRead
-  call-tail true r₀ q c s b x z st awake safe safes idles wins ready good next =
-      poll-busy f (place-sysreq (i .geometry) fx) true r₀ c b (admits (b .effect) atSysreq refl awake) safe (safes true r₀) ready q 9999 s 0 x z refl st idles λ e₁ h₁ st₁.
-      read-still f s (sysargOf (i .geometry)) Status st₁ atSysarg (place-sysarg (i .geometry) fx) (admits (b .effect) atSysarg refl awake) (safes true r₀)
+  call-tail true r₀ q c s b x z st answering safe safes idles wins ready good next =
+      poll-busy f (place-sysreq (i .geometry) fx) true r₀ c b (admits (b .effect) atSysreq refl answering) safe (safes true r₀) ready q 9999 s 0 x z refl st idles λ e₁ h₁ st₁.
+      read-still f s (sysargOf (i .geometry)) Status st₁ atSysarg (place-sysarg (i .geometry) fx) (admits (b .effect) atSysarg refl answering) (safes true r₀)
       (λ o. sysargAfter c (b .silicon) (b .memory)) (λ o z. refl) λ o o′ e₂ h₂ st₂.
       rw (good, status-is (sysargAfter c (b .silicon) (b .memory)), good) (
       next _ (record { silicon = refl; effect = refl; params = refl; memory = refl; sysarg = refl; sysreq = refl; ended = refl }) _ e₂ st₂)
-  call-tail false r₀ q c s b x z st awake safe safes idles wins ready good next =
-      poll-busy f (place-sysreq (i .geometry) fx) false r₀ c b (admits (b .effect) atSysreq refl awake) safe (safes false r₀) free-zero q 9999 s 0 x z refl st idles λ e₁ h₁ st₁.
-      read-still f s (sysargOf (i .geometry)) Status st₁ atSysarg (place-sysarg (i .geometry) fx) (admits (b .effect) atSysarg refl awake) (safes false r₀)
+  call-tail false r₀ q c s b x z st answering safe safes idles wins ready good next =
+      poll-busy f (place-sysreq (i .geometry) fx) false r₀ c b (admits (b .effect) atSysreq refl answering) safe (safes false r₀) free-zero q 9999 s 0 x z refl st idles λ e₁ h₁ st₁.
+      read-still f s (sysargOf (i .geometry)) Status st₁ atSysarg (place-sysarg (i .geometry) fx) (admits (b .effect) atSysarg refl answering) (safes false r₀)
       (λ o. failedArg (r₀ .sysarg)) (λ o z. refl) λ o o′ e₂ h₂ st₂.
       rw (failed (r₀ .sysarg), status-is (failedArg (r₀ .sysarg)), failed (r₀ .sysarg)) (
       stop (f .caught 19 s _ _ _ (lit≤ tt) (λ still. let no′ : false ≡ true = wins still in let z : _≡_ {A = ℕ} 0 1 = cc in omega arith) (safes false r₀)))
 
   -- what a call may cost
-  call-purse : (s c w : ℕ) {y : Entry} {n : ℕ} (ms : List Move) (κ : Purse) {e : Env} → Stands f y n (call (i .geometry) s c w) ms κ e
-      → Stood f y n (call (i .geometry) s c w ++ ms) (spend (spend (spend (spend (looping 9999 (spend (spend (spend κ)))))))) e
-  unfolding call write read pay
-  call-purse s c w ms κ st = poorer (17 + (17 + (17 + (17 + (51 * 10000 + (17 + (17 + (17 + κ .room)))))))) (omega arith) st
+  call-allowance : (s c w : ℕ) {y : Entry} {n : ℕ} (ms : List Move) (κ : Allowance) {e : Env} → Stands f y n (call (i .geometry) s c w) ms κ e
+      → Stood f y n (call (i .geometry) s c w ++ ms) (withTransfer (withTransfer (withTransfer (withTransfer (looping 9999 (withTransfer (withTransfer (withTransfer κ)))))))) e
+  unfolding call write read withMoves
+  call-allowance s c w ms κ st = less-room (17 + (17 + (17 + (17 + (51 * 10000 + (17 + (17 + (17 + κ .room)))))))) (omega arith) st
 
-  pub calling : (s c w : ℕ) {y : Entry} {n : ℕ} {ms : List Move} {κ : Purse} {e : Env} {k : ℕ} {b : Target} {t : Watch}
+  pub calling : (s c w : ℕ) {y : Entry} {n : ℕ} {ms : List Move} {κ : Allowance} {e : Env} {k : ℕ} {b : Target} {t : Watch}
       → Command c → Stands f y n (call (i .geometry) s c w) ms κ e
-      → Awake (b .effect) → f .Safe (b .memory) → ((y : Bool) (r : Residue) → f .Safe ((finish (i .geometry) y r c (asked c w b)) .memory))
+      → Answering (b .effect) → f .Safe (b .memory) → ((y : Bool) (r : Residue) → f .Safe ((finish (i .geometry) y r c (asked c w b)) .memory))
       → free (sysreqAfter c (b .silicon) (b .effect)) ≡ true → succeeded (sysargAfter c (b .silicon) (b .memory)) ≡ true
       → (next : (b′ : Target) → Returned (i .geometry) c w b b′ → (n′ : ℕ) (e′ : Env) → Stood f y n′ ms κ e′
       → Reaches f (sync y n′ 0 0 0 k b′ (idleAt (sysargOf (i .geometry))) e′))
       → Reaches f (sync y n 0 0 0 k b t e)
-  unfolding call write read pay
-  calling s c w {ms = ms} {κ = κ} {b = b} cmd st awake safe safes ready good next =
-      write-reaches f s (sysargOf (i .geometry)) w (call-purse s c w ms κ st) atSysarg (place-sysarg (i .geometry) fx) (admits (b .effect) atSysarg refl awake) safe refl λ e₁ h₁ st₁.
-      call-reaches f s (sysreqOf (i .geometry)) (0x80000000 + c) st₁ (place-sysreq (i .geometry) fx) (admits (b .effect) atSysreq refl awake) safe (cmd .started) λ e₂ h₂ st₂.
+  unfolding call write read withMoves
+  calling s c w {ms = ms} {κ = κ} {b = b} cmd st answering safe safes ready good next =
+      write-reaches f s (sysargOf (i .geometry)) w (call-allowance s c w ms κ st) atSysarg (place-sysarg (i .geometry) fx) (admits (b .effect) atSysarg refl answering) safe refl λ e₁ h₁ st₁.
+      call-reaches f s (sysreqOf (i .geometry)) (0x80000000 + c) st₁ (place-sysreq (i .geometry) fx) (admits (b .effect) atSysreq refl answering) safe (cmd .started) λ e₂ h₂ st₂.
       rw (cmd .number) (
-      call-tail ((outcomeOf (e₁ .lists .calls)) .succeeds) ((outcomeOf (e₁ .lists .calls)) .residue) ((outcomeOf (e₁ .lists .calls)) .busyReads) c s (asked c w b) (sysreqOf (i .geometry)) (b .posted)
-      st₂ awake safe safes (λ still. calm-idle ((st₁ .calm still) .calls)) (λ still. calm-success ((st₁ .calm still) .calls)) ready good
+      call-tail ((nextOutcome (e₁ .lists .calls)) .succeeds) ((nextOutcome (e₁ .lists .calls)) .residue) ((nextOutcome (e₁ .lists .calls)) .busyReads) c s (asked c w b) (sysreqOf (i .geometry)) (b .posted)
+      st₂ answering safe safes (λ still. calm-idle ((st₁ .calm still) .calls)) (λ still. calm-success ((st₁ .calm still) .calls)) ready good
       λ b′ ret n′ e′ st′. next b′ (record { silicon = ret .silicon; effect = ret .effect; params = ret .params; memory = ret .memory; sysarg = ret .sysarg; sysreq = ret .sysreq; ended = ret .ended }) n′ e′ st′)

@@ -5,7 +5,7 @@ use Prim.Native.Nat.{ℕ, zero, suc, _+_, _*_, _/_, _≤_}
 use native.Mathlib.Omega.{arith}
 use lib.ListN.{length}
 use Rattle.flow.specs.Plan.{Traffic, counting, trafficIn, isPoll, pollsIn, fromProtected, plan, loops, acquisitions}
-use Rattle.flow.specs.Sequence.{write, read, call, writes, listed, pieces, imoCall, acquire, silicon, privileged, programRow, compareWord, lockStart, lockMacro, verifyMacro, program, opening, afterwards, sequence, key}
+use Rattle.flow.specs.Sequence.{write, read, call, writes, listed, inTurn, imoCall, acquire, silicon, privileged, programRow, compareWord, lockStart, lockMacro, verifyMacro, program, opening, afterwards, sequence, key}
 use Rattle.flow.specs.Totals.{SequenceCounts}
 use Rattle.flow.specs.declared.Entry.{Entry}
 use Rattle.flow.specs.declared.Entry.the-variants.{FromOpen, FromProtected}
@@ -96,10 +96,10 @@ unfolding listed
 count-listed g s c ws = joined (count-writes s PARAMS ws) (count-call g s c PARAMS)
 
 -- n pieces that count alike
-count-pieces : (f : ℕ → List Move) (t p : ℕ) → ((k : ℕ) → Totals (f k) t p 0 0) → (k n : ℕ) → Totals (pieces f k n) (n * t) (n * p) 0 0
-unfolding pieces trafficIn pollsIn
-count-pieces f t p each k zero = record { transfers = omega arith; polls = omega arith; xresets = refl; lineResets = refl }
-count-pieces f t p each k (suc n) = recount (joined (each k) (count-pieces f t p each (suc k) n)) (omega arith) (omega arith) refl refl
+count-in-turn : (f : ℕ → List Move) (t p : ℕ) → ((k : ℕ) → Totals (f k) t p 0 0) → (k n : ℕ) → Totals (inTurn f k n) (n * t) (n * p) 0 0
+unfolding inTurn trafficIn pollsIn
+count-in-turn f t p each k zero = record { transfers = omega arith; polls = omega arith; xresets = refl; lineResets = refl }
+count-in-turn f t p each k (suc n) = recount (joined (each k) (count-in-turn f t p each (suc k) n)) (omega arith) (omega arith) refl refl
 
 pub length-words : (l : List ℕ) (o n : ℕ) → length (wordsAt l o n) ≡ n
 unfolding wordsAt
@@ -124,7 +124,7 @@ count-lock i m =
 
 count-verify : (i : Image) (m : ℕ) → Totals (verifyMacro i m) (3 * (locksIn (i .geometry) m / 4)) 0 0 0
 unfolding verifyMacro
-count-verify i m = recount (count-pieces _ 3 0 (λ k. count-word 8 23 _ _ _ k) 0 (locksIn (i .geometry) m / 4)) (omega arith) (omega arith) refl refl
+count-verify i m = recount (count-in-turn _ 3 0 (λ k. count-word 8 23 _ _ _ k) 0 (locksIn (i .geometry) m / 4)) (omega arith) (omega arith) refl refl
 
 count-privileged : (g : Geometry) (s : ℕ) (u : Purpose) → isPoll u ≡ 0 → Totals (privileged g s u) 13 1 0 0
 unfolding privileged call write read trafficIn pollsIn
@@ -158,10 +158,10 @@ module _ (i : Image) (f : Facts (i .geometry)) where
       let g = i .geometry in
       recount
       (joined (count-privileged g 4 Keep refl)
-      (joined (count-pieces _ _ 2 (count-row i) 0 (rowsOf g))
-      (joined (count-pieces _ 3 0 (λ k. count-word 6 22 _ _ _ k) 0 (rowsOf g * (rowBytes g / 4)))
-      (joined (count-pieces _ _ 2 (count-lock i) 0 (macrosOf g))
-      (joined (count-pieces _ _ 0 (count-verify i) 0 (macrosOf g))
+      (joined (count-in-turn _ _ 2 (count-row i) 0 (rowsOf g))
+      (joined (count-in-turn _ 3 0 (λ k. count-word 6 22 _ _ _ k) 0 (rowsOf g * (rowBytes g / 4)))
+      (joined (count-in-turn _ _ 2 (count-lock i) 0 (macrosOf g))
+      (joined (count-in-turn _ _ 0 (count-verify i) 0 (macrosOf g))
       (joined (count-read 8 _ StoredLevel refl) (count-privileged g 9 LastSum refl)))))))
       (omega arith) (omega arith) refl refl
 

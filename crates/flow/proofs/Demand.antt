@@ -6,10 +6,10 @@ use Prim.Native.Nat.{ℕ, zero, suc, _+_, _≤_}
 use native.Mathlib.Omega.{arith}
 use lib.Dec.{eqb}
 use borrow.Author.Tests.{eq-eqb, eqb-true}
-use Rattle.flow.specs.Claim.{RightPart, NoError, Calm, entryOf, Demand3, Demand3Holds}
+use Rattle.flow.specs.Claim.{RightPart, NoError, Calm, entryOf, RunDemand3, RunDemand3Holds}
 use Rattle.flow.specs.Monitor.{Monitor, linkError}
 use Rattle.flow.specs.Plan.{Traffic, plan, mostTraffic}
-use Rattle.flow.specs.Run.{Run, advanceBy, advance, after, started, handedOutBy, handedOut}
+use Rattle.flow.specs.Run.{Run, advanceBy, advance, runAfter, started, handedOutBy, handedOut}
 use Rattle.flow.specs.Session.{Session, running, reported, moveAt}
 use Rattle.flow.specs.Target.{Target, Silicon, Lists}
 use Rattle.flow.proofs.Counting.{total, one-more}
@@ -68,8 +68,8 @@ module _ (i : Image) where
       by (running y n w p a k h) e = absurd (false≢true (sym e))
       by (reported x s h) e = refl
 
-  stays : (n : ℕ) (r : Run) → going (r .session) ≡ false → after i n r ≡ r
-  unfolding after
+  stays : (n : ℕ) (r : Run) → going (r .session) ≡ false → runAfter i n r ≡ r
+  unfolding runAfter
   stays zero r e = refl
   stays (suc n) r e = rw (advance-ended r e) (stays n r e)
 
@@ -91,8 +91,8 @@ module _ (i : Image) (lv : Level (i .header .level)) (b : Target) (l : Lists) wh
   stopped-ends : {r : Run} → Stopped i (b .silicon) l r → going (r .session) ≡ false
   stopped-ends s = ap going (s .is)
 
-  fair : (n : ℕ) (r : Run) → Reaches ours r → Fair (after i n r)
-  unfolding after frame
+  fair : (n : ℕ) (r : Run) → Reaches ours r → Fair (runAfter i n r)
+  unfolding runAfter frame
   fair zero r (here g) = done g
   fair zero r (stop s) = ended s
   fair zero r (step g safe most clean more) = onWay g safe clean
@@ -100,8 +100,8 @@ module _ (i : Image) (lv : Level (i .header .level)) (b : Target) (l : Lists) wh
   fair (suc n) r (stop s) = rw (stays i (suc n) r (stopped-ends s)) (ended s)
   fair (suc n) r (step g safe most clean more) = fair n (advance i r) more
 
-  bounded : (n : ℕ) (r : Run) → Reaches ours r → (going (r .session) ≡ false → Bounded ours (r .traffic)) → Bounded ours (handedOut i (after i n r))
-  unfolding after frame
+  bounded : (n : ℕ) (r : Run) → Reaches ours r → (going (r .session) ≡ false → Bounded ours (r .traffic)) → Bounded ours (handedOut i (runAfter i n r))
+  unfolding runAfter frame
   bounded zero r (here g) h = rw (stands-none i (r .session) (r .traffic) (finished-ends g)) (h (finished-ends g))
   bounded zero r (stop s) h = rw (stands-none i (r .session) (r .traffic) (stopped-ends s)) (h (stopped-ends s))
   bounded zero r (step g safe most clean more) h = most
@@ -109,8 +109,8 @@ module _ (i : Image) (lv : Level (i .header .level)) (b : Target) (l : Lists) wh
   bounded (suc n) r (stop s) h = rw (stays i (suc n) r (stopped-ends s), stands-none i (r .session) (r .traffic) (stopped-ends s)) (h (stopped-ends s))
   bounded (suc n) r (step g safe most clean more) h = bounded n (advance i r) more (λ _. rw (met-traffic i r g) most)
 
-  comes : (n : ℕ) (r : Run) → Reaches ours r → total (ours .most) ≤ n + total (r .traffic) → going ((after i n r) .session) ≡ false
-  unfolding after frame
+  comes : (n : ℕ) (r : Run) → Reaches ours r → total (ours .most) ≤ n + total (r .traffic) → going ((runAfter i n r) .session) ≡ false
+  unfolding runAfter frame
   comes zero r (here g) h = finished-ends g
   comes zero r (stop s) h = stopped-ends s
   comes zero r (step g safe most clean more) h =
@@ -211,7 +211,7 @@ module _ (i : Image) (lv : Level (i .header .level)) (b : Target) (l : Lists) wh
   done-of {r} (isStopped e w) = absurd (not-zero 0 (r .monitor) w refl)
 
   claim : (n : ℕ) (r : Run) → Fair r → Bounded ours (handedOut i r)
-      → (total (mostTraffic (i .geometry) (entryOf b)) ≤ n → going (r .session) ≡ false) → Demand3 i b l n r
+      → (total (mostTraffic (i .geometry) (entryOf b)) ≤ n → going (r .session) ≡ false) → RunDemand3 i b l n r
   unfolding frame
   claim n r f most late = record {
     neverVirgin = sound-of f;
@@ -226,9 +226,9 @@ module _ (i : Image) (lv : Level (i .header .level)) (b : Target) (l : Lists) wh
         let d = done-of (report-of 0 t h f e) in
         record {
           atEnd = d .0;
-          flash = d .2 .bears .flash;
-          locks = d .2 .bears .locks;
-          level = d .2 .bears .level;
+          flash = d .2 .holds-image .flash;
+          locks = d .2 .holds-image .locks;
+          level = d .2 .holds-image .level;
           planned = d .1 ∙ d .2 .count;
         };
     provoked = provoked-of f;
@@ -246,9 +246,9 @@ level-sound b (inl e) = λ h. omega arith
 level-sound b (inr e) = λ h. omega arith
 
 -- demand 3 of every image that passes, every target that may start, both free lists, every number of steps
-pub demand3-holds : Demand3Holds
+pub run-demand3-holds : RunDemand3Holds
 unfolding frame
-demand3-holds g h bytes p b s l n =
+run-demand3-holds g h bytes p b s l n =
     let i = imageOf g h bytes in
     let fx = table-facts g h bytes p in
     let v = valid g h bytes p in
@@ -257,5 +257,5 @@ demand3-holds g h bytes p b s l n =
     start-reaches (frame i lv b l) fx v (record { high = s .high; low = s .low; revision = s .revision; family = s .family }) (b .memory)
     (record { flash = s .flash; locks = s .locks; latch = s .latch }) (level-sound b (s .level)) (goes b (s .level))
     (record { silicon = refl; memory = refl; room = s .params; quiet = s .quiet }) (start-stands i fx lv b l) in
-    claim i lv b l n (after i n (started b l)) (fair i lv b l n (started b l) way) (bounded i lv b l n (started b l) way (λ e. absurd (false≢true (sym e))))
+    claim i lv b l n (runAfter i n (started b l)) (fair i lv b l n (started b l) way) (bounded i lv b l n (started b l) way (λ e. absurd (false≢true (sym e))))
     (λ late. comes i lv b l n (started b l) way (omega arith))

@@ -9,17 +9,17 @@ use lib.Dec.{eqb}
 use lib.ListN.{length, drop, length-append, length-drop, length-replicate}
 use lib.Seq.{drop-at}
 use borrow.Author.Tests.{eq-eqb}
-use Rattle.flow.specs.Calls.{finish, effectOf, leftBy, zeroed, macroSent, sysargAfter}
+use Rattle.flow.specs.Calls.{finish, effectOf, afterFailure, zeroed, macroSent, sysargAfter}
 use Rattle.flow.specs.Judge.{entryBy, report, judge}
 use Rattle.flow.specs.Monitor.{watching}
 use Rattle.flow.specs.Sequence.{key, write, writes, read, call, listed, acquire, silicon, program, opening, afterwards, sequence}
-use Rattle.flow.specs.Session.{settled}
+use Rattle.flow.specs.Session.{judgedTo}
 use Rattle.flow.specs.Target.{Target, Memory, Residue}
 use Rattle.flow.specs.declared.Entry.{Entry}
 use Rattle.flow.specs.declared.Entry.the-variants.{FromOpen, FromProtected}
 use Rattle.flow.specs.declared.Move.{Move}
 use Rattle.flow.specs.declared.Purpose.the-variants.{Keep, EntryLevel, Reopened}
-use Rattle.flow.proofs.Access.{Awake}
+use Rattle.flow.proofs.Access.{Answering}
 use Rattle.flow.proofs.Acquiring.{Fresh, Acquired, acquire-leg, Bytes, ids-read, level-read, silicon-reaches}
 use Rattle.flow.proofs.Calling.{Returned, calling}
 use Rattle.flow.proofs.Finishing.{Blank, nothing, program-reaches}
@@ -28,7 +28,7 @@ use Rattle.flow.proofs.Listing.{ListReturned, listing}
 use Rattle.flow.proofs.Lists.{total-zero}
 use Rattle.flow.proofs.Phases.{Valid, Sized, callA, callD, steady-A}
 use Rattle.flow.proofs.Polling.{idleAt}
-use Rattle.flow.proofs.Reaches.{pay, Env, sync, rightSilicon, RightIds, Frame, Stood, Stands, split, Reaches, stop}
+use Rattle.flow.proofs.Reaches.{withMoves, Env, sync, rightSilicon, RightIds, Frame, Stood, Stands, split, Reaches, stop}
 use Rattle.flow.proofs.Table.{Facts}
 use Rattle.image.specs.Image.{Image}
 use Rattle.parts.specs.Sizes.{sysargOf, sysreqOf}
@@ -48,11 +48,11 @@ effect-reopen g l ps m e = rw e
 
 safe-reopen : {i : Image} (f : Frame i) (y : Bool) (r : Residue) (b : Target) → b .effect ≡ 2 → b .sysarg ≡ reopenWord → f .Safe (b .memory)
     → f .Safe ((finish (i .geometry) y r 0x0D b) .memory)
-unfolding finish leftBy
+unfolding finish afterFailure
 safe-reopen {i} f true r b he ha safe = rw (ha, effect-reopen (i .geometry) (b .effect) [] (b .memory) he) (f .safeOpen _ refl)
 safe-reopen f false r b he ha safe = by (r .newLevel && true && eqb (macroSent (b .sysarg)) 0) refl
   where
-    by : (y : Bool) → r .newLevel && true && eqb (macroSent (b .sysarg)) 0 ≡ y → f .Safe (leftBy 0x0D (b .sysarg) r (b .memory))
+    by : (y : Bool) → r .newLevel && true && eqb (macroSent (b .sysarg)) 0 ≡ y → f .Safe (afterFailure 0x0D (b .sysarg) r (b .memory))
     by true e = f .safeOpen _ (rw (e, ha))
     by false e = f .safeSame (b .memory) _ (rw e) safe
 
@@ -68,9 +68,9 @@ pub data Goes (m : Memory) : Entry → Type 0 where
   byOpen : m .stored ≡ 1 → Goes m FromOpen
   byProtected : m .stored ≡ 2 → Goes m FromProtected
 
-pub awake-of : {m : Memory} {y : Entry} → Goes m y → Awake (m .stored)
-awake-of (byOpen e) = inl e
-awake-of (byProtected e) = inr e
+pub answering-of : {m : Memory} {y : Entry} → Goes m y → Answering (m .stored)
+answering-of (byOpen e) = inl e
+answering-of (byProtected e) = inr e
 
 -- the end of the opening is where either entry goes on
 seam : (a b c : List Move) (n : ℕ) → drop n (a ++ b) ≡ b → 1 ≤ length b → drop n (a ++ c) ≡ c
@@ -116,14 +116,14 @@ module _ {i : Image} (f : Frame i) (fx : Facts (i .geometry)) (v : Valid i) (hb 
   -- PROTECTED: reopen, steps 1 and 2 again, then 4 to 9
   protected-reaches : {n x k : ℕ} {e : Env} {b : Target} → RightIds i (f .silicon) → m .stored ≡ 2 → Acquired f m k (core b)
       → Stands f FromProtected n (afterwards i FromProtected) [] nothing e → Reaches f (sync FromProtected n 0 0 0 k b (idleAt x) e)
-  unfolding afterwards silicon read pay judge
+  unfolding afterwards silicon read withMoves judge
   protected-reaches {b = b} right two p st =
       calling f fx 3 0x0D reopenWord (callD .command) (split (call (i .geometry) 3 0x0D reopenWord) (acquire (i .geometry) ++ (silicon (i .geometry) Reopened ++ program i)) [] nothing st)
       (inr (p .effect ∙ two)) (rw (p .fresh .memory) safe) (λ y r. safe-reopen f y r _ (p .effect ∙ two) refl (rw (p .fresh .memory) safe)) (callD .ready _ _) (callD .good _ _) λ b₁ ret n₁ e₁ st₁.
       (acquire-leg f fx FromProtected (zeroed 1 m) (inl refl) (f .safeOpen _ refl)) .along _ _ _ _ _ _ _ (fresh b₁ ret)
       (split (acquire (i .geometry)) (silicon (i .geometry) Reopened ++ program i) [] nothing st₁) λ k₂ b₂ a₂ n₂ x₂ e₂ st₂.
       silicon-reaches f fx (zeroed 1 m) (inl refl) (f .safeOpen _ refl) hb (omega arith) Reopened a₂
-      (split (call (i .geometry) 2 0 (key 0)) (read 2 (sysargOf (i .geometry)) Keep ++ read 2 (sysreqOf (i .geometry)) Reopened) (program i ++ []) (pay (program i) nothing)
+      (split (call (i .geometry) 2 0 (key 0)) (read 2 (sysargOf (i .geometry)) Keep ++ read 2 (sysreqOf (i .geometry)) Reopened) (program i ++ []) (withMoves (program i) nothing)
       (split (silicon (i .geometry) Reopened) (program i) [] nothing st₂)) λ b₃ same n₃ e₃ st₃.
       rw (ids-read i (f .silicon) (zeroed 1 m) 1 hb, right .silicon, level-read (f .silicon) 1 hb (omega arith)) (
       program-reaches f fx v right (subst (Blank f _) (sym same) (blank b₂ k₂ a₂)) st₃)
@@ -144,9 +144,9 @@ module _ {i : Image} (f : Frame i) (fx : Facts (i .geometry)) (v : Valid i) (hb 
 
   -- the entry that the level decides, or another part
   decided : {y : Entry} → Goes m y → (z : Bool) → rightSilicon i (f .silicon) ≡ z → (k : ℕ) {k₁ n : ℕ} {e : Env} {b : Target} → Acquired f m k₁ (core b)
-      → Stood f FromOpen (suc n) (afterwards i FromOpen) (pay (afterwards i y) nothing) e
+      → Stood f FromOpen (suc n) (afterwards i FromOpen) (withMoves (afterwards i y) nothing) e
       → Reaches f (record {
-        session = settled (cond z (entryBy (m .stored) 0 k) (report 20)) FromOpen n 2 0 (e .traffic .transfers);
+        session = judgedTo (cond z (entryBy (m .stored) 0 k) (report 20)) FromOpen n 2 0 (e .traffic .transfers);
         target = b;
         lists = e .lists;
         monitor = watching 0 0 0 (idleAt (sysreqOf (i .geometry))) (e .delays);
@@ -157,13 +157,13 @@ module _ {i : Image} (f : Frame i) (fx : Facts (i .geometry)) (v : Valid i) (hb 
   decided (byOpen one) true h k p st =
       rw (eq-eqb (m .stored) 1 one) (
       open-reaches (record { idcode = p .idcode; silicon = h }) one (again p)
-      (record { at = st .at ∙ sym (append-nil (afterwards i FromOpen)); spent = st .spent; room = st .room; xres = st .xres; lines = st .lines; calm = st .calm }))
+      (record { at = st .at ∙ sym (append-nil (afterwards i FromOpen)); accounted = st .accounted; room = st .room; xres = st .xres; lines = st .lines; calm = st .calm }))
   decided (byProtected two) true h k {n = n} p st =
       rw two (
       protected-reaches (record { idcode = p .idcode; silicon = h }) two (again p)
       (record {
         at = seam (opening i) (afterwards i FromOpen) (afterwards i FromProtected) (suc n) (st .at) (some-moves i) ∙ sym (append-nil (afterwards i FromProtected));
-        spent = st .spent;
+        accounted = st .accounted;
         room = st .room;
         xres = st .xres;
         lines = st .lines;
@@ -172,13 +172,13 @@ module _ {i : Image} (f : Frame i) (fx : Facts (i .geometry)) (v : Valid i) (hb 
 
   -- the whole way
   pub start-reaches : {y : Entry} → Goes m y → {e : Env} {b : Target} → Fresh f m 0 (core b)
-      → Stands f FromOpen 0 (opening i) (afterwards i FromOpen) (pay (afterwards i y) nothing) e → Reaches f (sync FromOpen 0 0 0 0 0 b (idleAt 0) e)
-  unfolding opening silicon read pay judge
+      → Stands f FromOpen 0 (opening i) (afterwards i FromOpen) (withMoves (afterwards i y) nothing) e → Reaches f (sync FromOpen 0 0 0 0 0 b (idleAt 0) e)
+  unfolding opening silicon read withMoves judge
   start-reaches {y} goes p st =
-      (acquire-leg f fx FromOpen m (awake-of goes) safe) .along _ _ _ _ _ _ _ p
-      (split (acquire (i .geometry)) (silicon (i .geometry) EntryLevel) (afterwards i FromOpen) (pay (afterwards i y) nothing) st) λ k₁ b₁ a₁ n₁ x₁ e₁ st₁.
-      silicon-reaches f fx m (awake-of goes) safe hb (small goes) EntryLevel a₁
-      (split (call (i .geometry) 2 0 (key 0)) (read 2 (sysargOf (i .geometry)) Keep ++ read 2 (sysreqOf (i .geometry)) EntryLevel) (afterwards i FromOpen) (pay (afterwards i y) nothing) st₁) λ b₂ same n₂ e₂ st₂.
+      (acquire-leg f fx FromOpen m (answering-of goes) safe) .along _ _ _ _ _ _ _ p
+      (split (acquire (i .geometry)) (silicon (i .geometry) EntryLevel) (afterwards i FromOpen) (withMoves (afterwards i y) nothing) st) λ k₁ b₁ a₁ n₁ x₁ e₁ st₁.
+      silicon-reaches f fx m (answering-of goes) safe hb (small goes) EntryLevel a₁
+      (split (call (i .geometry) 2 0 (key 0)) (read 2 (sysargOf (i .geometry)) Keep ++ read 2 (sysreqOf (i .geometry)) EntryLevel) (afterwards i FromOpen) (withMoves (afterwards i y) nothing) st₁) λ b₂ same n₂ e₂ st₂.
       rw (ids-read i (f .silicon) m (m .stored) hb, level-read (f .silicon) (m .stored) hb (small goes)) (
       decided goes (rightSilicon i (f .silicon)) refl (sysargAfter 0 (f .silicon) m) (subst (Acquired f m k₁) (sym same) a₁) st₂)
     where

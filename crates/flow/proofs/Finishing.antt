@@ -7,13 +7,13 @@ use Prim.Native.Nat.{ℕ, suc, _+_, _-_, _/_, _%_}
 use native.Mathlib.Nat.{zero-mul}
 use native.Mathlib.Omega.{arith}
 use borrow.Author.Tests.{eq-eqb}
-use Rattle.flow.specs.Calls.{finish, effectOf, sysargAfter, sysreqAfter, leftBy}
+use Rattle.flow.specs.Calls.{finish, effectOf, sysargAfter, sysreqAfter, afterFailure}
 use Rattle.flow.specs.Judge.{free, succeeded, sumsFit, judge}
 use Rattle.flow.specs.Map.{atSysarg}
 use Rattle.flow.specs.Monitor.{watching, noticeRead}
 use Rattle.flow.specs.Run.{Run}
-use Rattle.flow.specs.Sequence.{key, call, read, privileged, pieces, programRow, verifyFlash, lockMacro, verifyMacro, program}
-use Rattle.flow.specs.Session.{settled}
+use Rattle.flow.specs.Sequence.{key, call, read, privileged, inTurn, programRow, verifyFlash, lockMacro, verifyMacro, program}
+use Rattle.flow.specs.Session.{judgedTo}
 use Rattle.flow.specs.Target.{Target, Silicon, Memory, Residue}
 use Rattle.flow.specs.declared.Entry.{Entry}
 use Rattle.flow.specs.declared.Move.{Move}
@@ -27,7 +27,7 @@ use Rattle.flow.proofs.Phases.{Valid, Opened, Sized, Wrote, Locked, lev
 use Rattle.flow.proofs.Places.{place-sysarg}
 use Rattle.flow.proofs.Polling.{idleAt}
 use Rattle.flow.proofs.Programming.{rows-leg}
-use Rattle.flow.proofs.Reaches.{Purse, spend, pay, Env, sync, RightIds, Bears, Frame, Stood, Stands, split, Reaches, here}
+use Rattle.flow.proofs.Reaches.{Allowance, withTransfer, withMoves, Env, sync, RightIds, HoldsImage, Frame, Stood, Stands, split, Reaches, here}
 use Rattle.flow.proofs.Table.{Facts}
 use Rattle.flow.proofs.Verifying.{flash-leg, locks-leg, level-leg}
 use Rattle.image.specs.Image.{Image}
@@ -58,7 +58,7 @@ low-28 : (x : Silicon) (m : Memory) → sysargAfter 0x0B x m % 268435456 ≡ sum
 low-28 x m = rw (sysarg-B x m) (omega arith)
 
 still-B : (g : Geometry) (y : Bool) (r : Residue) (b : Target) → (finish g y r 0x0B b) .memory ≡ b .memory
-unfolding finish effectOf leftBy
+unfolding finish effectOf afterFailure
 still-B g true r b = refl
 still-B g false r b = refl
 
@@ -79,7 +79,7 @@ pub record Blank {i : Image} (f : Frame i) (k : ℕ) (c : Core) : Type 0 where
   pub level : c .memory .stored ≡ 1
   pub erased : total (c .memory .flash) ≡ 0
 
-unfoldable pub nothing : Purse
+unfoldable pub nothing : Allowance
 nothing = record { due = 0; room = 0; xres = 0; lines = 0 }
 
 module _ {i : Image} (f : Frame i) (fx : Facts (i .geometry)) (v : Valid i) where
@@ -89,15 +89,15 @@ module _ {i : Image} (f : Frame i) (fx : Facts (i .geometry)) (v : Valid i) wher
   -- the run after the Read of SYSARG
   abbrev summed : (s : ℕ) → Purpose → Entry → (n k : ℕ) → Memory → Target → Env → Run
   summed s u y n k m b e = record {
-    session = settled (judge i u 0 k (sysargAfter 0x0B (f .silicon) m)) y n s 0 (e .traffic .transfers);
+    session = judgedTo (judge i u 0 k (sysargAfter 0x0B (f .silicon) m)) y n s 0 (e .traffic .transfers);
     target = b;
     lists = e .lists;
     monitor = watching 0 0 0 (idleAt (sysargOf (i .geometry))) (e .delays);
     traffic = e .traffic;
   }
 
-  sum-reaches : (s : ℕ) (u : Purpose) {y : Entry} {n x k : ℕ} {ms : List Move} {κ : Purse} {e : Env} {b : Target} → Opened f (core b) → f .Safe (b .memory)
-      → Stands f y n (call (i .geometry) s 0x0B sumWord) (read s (sysargOf (i .geometry)) u ++ ms) (spend (spend (spend κ))) e
+  sum-reaches : (s : ℕ) (u : Purpose) {y : Entry} {n x k : ℕ} {ms : List Move} {κ : Allowance} {e : Env} {b : Target} → Opened f (core b) → f .Safe (b .memory)
+      → Stands f y n (call (i .geometry) s 0x0B sumWord) (read s (sysargOf (i .geometry)) u ++ ms) (withTransfer (withTransfer (withTransfer κ))) e
       → (next : (b′ : Target) → core b′ ≡ core b → (n′ : ℕ) (e′ : Env) → Stood f y (suc n′) ms κ e′ → Reaches f (summed s u y n′ k (b .memory) b′ e′))
       → Reaches f (sync y n 0 0 0 k b (idleAt x) e)
   unfolding noticeRead
@@ -110,7 +110,7 @@ module _ {i : Image} (f : Frame i) (fx : Facts (i .geometry)) (v : Valid i) wher
 
   -- step 4
   first-leg : (y : Entry) → Leg f y (privileged (i .geometry) 4 Keep) (Blank f) (Wrote f 0)
-  unfolding privileged read pay judge
+  unfolding privileged read withMoves judge
   first-leg y = record {
     along = λ n x k later κ e b p st next.
         sum-reaches 4 Keep (p .opened) (f .safeOpen _ (p .level)) (split (call (i .geometry) 4 0x0B sumWord) (read 4 (sysargOf (i .geometry)) Keep) later κ st) λ b′ same n′ e′ st′.
@@ -131,16 +131,16 @@ module _ {i : Image} (f : Frame i) (fx : Facts (i .geometry)) (v : Valid i) wher
   after8 = read 8 (levelAt (i .geometry)) StoredLevel ++ privileged (i .geometry) 9 LastSum
 
   abbrev after7 : List Move
-  after7 = pieces (verifyMacro i) 0 (macrosOf (i .geometry)) ++ after8
+  after7 = inTurn (verifyMacro i) 0 (macrosOf (i .geometry)) ++ after8
 
   abbrev after6 : List Move
-  after6 = pieces (lockMacro i) 0 (macrosOf (i .geometry)) ++ after7
+  after6 = inTurn (lockMacro i) 0 (macrosOf (i .geometry)) ++ after7
 
   abbrev after5 : List Move
   after5 = verifyFlash i ++ after6
 
   abbrev after4 : List Move
-  after4 = pieces (programRow i) 0 (rowsOf (i .geometry)) ++ after5
+  after4 = inTurn (programRow i) 0 (rowsOf (i .geometry)) ++ after5
 
   -- the locks are still to come
   unlocked : {k : ℕ} {c : Core} → Wrote f (rowsOf (i .geometry)) k c → Locked f 0 k c
@@ -156,15 +156,15 @@ module _ {i : Image} (f : Frame i) (fx : Facts (i .geometry)) (v : Valid i) wher
   -- step 9
   last-reaches : {y : Entry} {n x k : ℕ} {e : Env} {b : Target} → RightIds i (f .silicon) → Locked f (macrosOf (i .geometry)) k (core b)
       → Stands f y n (privileged (i .geometry) 9 LastSum) [] nothing e → Reaches f (sync y n 0 0 0 k b (idleAt x) e)
-  unfolding privileged read pay judge nothing
+  unfolding privileged read withMoves judge nothing
   last-reaches {k = k} {b = b} right p st =
       sum-reaches 9 LastSum {κ = nothing} (p .opened) (level-safe f (macrosOf (i .geometry)) (b .memory) (p .level))
       (split (call (i .geometry) 9 0x0B sumWord) (read 9 (sysargOf (i .geometry)) LastSum) [] nothing st) λ b′ same n′ e′ st′.
       rw (sums-fit i (f .silicon) (b .memory) k (p .kept) (p .flash) (v .sum)) (
-      here (f .finished b′ (e′ .lists) (idleAt (sysargOf (i .geometry))) (e′ .delays) (e′ .traffic) right (bears b′ same) (omega (arith, st′ .spent)) (λ still. (st′ .calm still) .none)))
+      here (f .finished b′ (e′ .lists) (idleAt (sysargOf (i .geometry))) (e′ .delays) (e′ .traffic) right (holds-image b′ same) (omega (arith, st′ .accounted)) (λ still. (st′ .calm still) .none)))
     where
-      bears : (b′ : Target) → core b′ ≡ core b → Bears i (b′ .memory)
-      bears b′ same =
+      holds-image : (b′ : Target) → core b′ ≡ core b → HoldsImage i (b′ .memory)
+      holds-image b′ same =
           let m : b′ .memory ≡ b .memory = ap (λ (c : Core). c .memory) same in
           rw m (record { flash = p .flash; locks = locked-all v fx p; level = last-level fx p })
 
@@ -173,9 +173,9 @@ module _ {i : Image} (f : Frame i) (fx : Facts (i .geometry)) (v : Valid i) wher
   unfolding program
   program-reaches {y} right blank st =
       (first-leg y) .along _ _ _ _ _ _ _ blank (split (privileged (i .geometry) 4 Keep) after4 [] nothing st) λ k₁ b₁ w₁ n₁ x₁ e₁ st₁.
-      (rows-leg f fx v y) .along _ _ _ _ _ _ _ w₁ (split (pieces (programRow i) 0 (rowsOf (i .geometry))) after5 [] nothing st₁) λ k₂ b₂ w₂ n₂ x₂ e₂ st₂.
+      (rows-leg f fx v y) .along _ _ _ _ _ _ _ w₁ (split (inTurn (programRow i) 0 (rowsOf (i .geometry))) after5 [] nothing st₁) λ k₂ b₂ w₂ n₂ x₂ e₂ st₂.
       (flash-leg f y fx v) .along _ _ _ _ _ _ _ w₂ (split (verifyFlash i) after6 [] nothing st₂) λ k₃ b₃ w₃ n₃ x₃ e₃ st₃.
-      (macros-leg f fx v y) .along _ _ _ _ _ _ _ (unlocked w₃) (split (pieces (lockMacro i) 0 (macrosOf (i .geometry))) after7 [] nothing st₃) λ k₄ b₄ w₄ n₄ x₄ e₄ st₄.
-      (locks-leg f y fx v) .along _ _ _ _ _ _ _ w₄ (split (pieces (verifyMacro i) 0 (macrosOf (i .geometry))) after8 [] nothing st₄) λ k₅ b₅ w₅ n₅ x₅ e₅ st₅.
+      (macros-leg f fx v y) .along _ _ _ _ _ _ _ (unlocked w₃) (split (inTurn (lockMacro i) 0 (macrosOf (i .geometry))) after7 [] nothing st₃) λ k₄ b₄ w₄ n₄ x₄ e₄ st₄.
+      (locks-leg f y fx v) .along _ _ _ _ _ _ _ w₄ (split (inTurn (verifyMacro i) 0 (macrosOf (i .geometry))) after8 [] nothing st₄) λ k₅ b₅ w₅ n₅ x₅ e₅ st₅.
       (level-leg f y fx v) .along _ _ _ _ _ _ _ w₅ (split (read 8 (levelAt (i .geometry)) StoredLevel) (privileged (i .geometry) 9 LastSum) [] nothing st₅) λ k₆ b₆ w₆ n₆ x₆ e₆ st₆.
       last-reaches right w₆ st₆

@@ -21,19 +21,19 @@ use Rattle.flow.specs.declared.Request.the-variants.{Xres, LineReset, Re
 use Rattle.flow.proofs.Counting.{sequence-totals}
 use Rattle.flow.proofs.Finishing.{nothing}
 use Rattle.flow.proofs.Phases.{Level, isOpen, isProtected, isKill}
-use Rattle.flow.proofs.Reaches.{Purse, payRead, payFor, pay, pay-append, Env, rightSilicon, RightIds, Bears, Frame, Stands, clear}
+use Rattle.flow.proofs.Reaches.{Allowance, withRead, withRequest, withMoves, with-moves-append, Env, rightSilicon, RightIds, HoldsImage, Frame, Stands, clear}
 use Rattle.flow.proofs.Table.{Facts}
 use Rattle.image.specs.Image.{Image}
 
 -- ---- what a list of moves may cost
 
-record Costs (ms : List Move) (κ κ′ : Purse) : Type 0 where
+record Costs (ms : List Move) (κ κ′ : Allowance) : Type 0 where
   pub due : κ′ .due ≡ (trafficIn ms) .transfers + κ .due
   pub room : κ′ .room ≤ 17 * (trafficIn ms) .transfers + 509949 * pollsIn ms + 13 * (trafficIn ms) .lineResets + κ .room
   pub xres : κ′ .xres ≡ (trafficIn ms) .xresets + κ .xres
   pub lines : κ′ .lines ≡ 30 * (trafficIn ms) .lineResets + κ .lines
 
-read-room : (u : Purpose) (κ : Purse) → record { room : (payRead u κ) .room ≤ 17 + 509949 * isPoll u + κ .room; due : (payRead u κ) .due ≡ suc (κ .due); xres : (payRead u κ) .xres ≡ κ .xres; lines : (payRead u κ) .lines ≡ κ .lines }
+read-room : (u : Purpose) (κ : Allowance) → record { room : (withRead u κ) .room ≤ 17 + 509949 * isPoll u + κ .room; due : (withRead u κ) .due ≡ suc (κ .due); xres : (withRead u κ) .xres ≡ κ .xres; lines : (withRead u κ) .lines ≡ κ .lines }
 read-room Sent κ = record { room = omega arith; due = refl; xres = refl; lines = refl }
 read-room Idcode κ = record { room = omega arith; due = refl; xres = refl; lines = refl }
 read-room TestBit κ = record { room = omega arith; due = refl; xres = refl; lines = refl }
@@ -46,11 +46,11 @@ read-room (Same w n) κ = record { room = omega arith; due = refl; xres = refl; 
 read-room StoredLevel κ = record { room = omega arith; due = refl; xres = refl; lines = refl }
 read-room LastSum κ = record { room = omega arith; due = refl; xres = refl; lines = refl }
 
-one-cost : (m : Move) (ms : List Move) (κ κ′ : Purse) → Costs ms κ κ′ → Costs (m ∷ ms) κ (payFor (m .request) (m .purpose) κ′)
+one-cost : (m : Move) (ms : List Move) (κ κ′ : Allowance) → Costs ms κ κ′ → Costs (m ∷ ms) κ (withRequest (m .request) (m .purpose) κ′)
 unfolding trafficIn pollsIn
 one-cost m ms κ κ′ c = by (m .request)
   where
-    by : (q : Request) → Costs (record { step = m .step; request = q; purpose = m .purpose } ∷ ms) κ (payFor q (m .purpose) κ′)
+    by : (q : Request) → Costs (record { step = m .step; request = q; purpose = m .purpose } ∷ ms) κ (withRequest q (m .purpose) κ′)
     by Xres = record { due = omega (arith, c .due); room = omega (arith, c .room); xres = omega (arith, c .xres); lines = omega (arith, c .lines) }
     by LineReset = record { due = omega (arith, c .due); room = omega (arith, c .room); xres = omega (arith, c .xres); lines = omega (arith, c .lines) }
     by ReadIdcode = record { due = omega (arith, c .due); room = omega (arith, c .room); xres = omega (arith, c .xres); lines = omega (arith, c .lines) }
@@ -61,10 +61,10 @@ one-cost m ms κ κ′ c = by (m .request)
     by (WriteDrw w) = record { due = omega (arith, c .due); room = omega (arith, c .room); xres = omega (arith, c .xres); lines = omega (arith, c .lines) }
     by (WriteSetup r w) = record { due = omega (arith, c .due); room = omega (arith, c .room); xres = omega (arith, c .xres); lines = omega (arith, c .lines) }
 
-costs : (ms : List Move) (κ : Purse) → Costs ms κ (pay ms κ)
-unfolding pay trafficIn pollsIn
+costs : (ms : List Move) (κ : Allowance) → Costs ms κ (withMoves ms κ)
+unfolding withMoves trafficIn pollsIn
 costs [] κ = record { due = omega arith; room = omega arith; xres = omega arith; lines = omega arith }
-costs (m ∷ ms) κ = one-cost m ms κ (pay ms κ) (costs ms κ)
+costs (m ∷ ms) κ = one-cost m ms κ (withMoves ms κ) (costs ms κ)
 
 -- ---- the frame
 
@@ -94,7 +94,7 @@ pub record Finished (i : Image) (b : Target) (l : Lists) (r : Run) : Type 0 wher
   pub is : r .session ≡ reported 0 9 (r .traffic .transfers)
   pub right : RightIds i (b .silicon)
   pub clean : NoError (r .monitor)
-  pub bears : Bears i (r .target .memory)
+  pub holds-image : HoldsImage i (r .target .memory)
   pub count : r .traffic .transfers ≡ plan (i .geometry) (entryOf b) + delaysIn (r .monitor)
   pub calm : Calm l → delaysIn (r .monitor) ≡ 0
   pub sound : Sound (r .target .memory)
@@ -112,7 +112,7 @@ frame i lv b l = record {
   safeOpen = λ m e h. omega arith;
   safeImage = λ m e h. level-sound lv (sym e ∙ h);
   caught = λ n s b l t some bad safe. record { number = n; step = s; is = refl; why = mishap n some bad; sound = safe };
-  finished = λ b l w d t right bears count calm. record { is = refl; right = right; clean = clear 0 0 0 w d; bears = bears; count = count; calm = calm; sound = λ h. level-sound lv (sym (bears .level) ∙ h) };
+  finished = λ b l w d t right holds-image count calm. record { is = refl; right = right; clean = clear 0 0 0 w d; holds-image = holds-image; count = count; calm = calm; sound = λ h. level-sound lv (sym (holds-image .level) ∙ h) };
   wrongId = λ s w p a b l x d t safe h. record { number = 16; step = s; is = refl; why = otherId (clear w p a x d) h; sound = safe };
   wrongPart = λ s w p a b l x d t safe h. record { number = 20; step = s; is = refl; why = otherPart (clear w p a x d) h; sound = safe };
 }
@@ -123,15 +123,15 @@ abbrev pub firstEnv : Lists → Env
 firstEnv l = record { lists = l; delays = noDelays; traffic = noTraffic }
 
 pub start-stands : (i : Image) (fx : Facts (i .geometry)) (lv : Level (i .header .level)) (b : Target) (l : Lists)
-    → Stands (frame i lv b l) FromOpen 0 (opening i) (afterwards i FromOpen) (pay (afterwards i (entryOf b)) nothing) (firstEnv l)
+    → Stands (frame i lv b l) FromOpen 0 (opening i) (afterwards i FromOpen) (withMoves (afterwards i (entryOf b)) nothing) (firstEnv l)
 unfolding frame sequence mostTraffic nothing
 start-stands i fx lv b l =
-    let e : pay (sequence i (entryOf b)) nothing ≡ pay (opening i) (pay (afterwards i (entryOf b)) nothing) = pay-append (opening i) (afterwards i (entryOf b)) nothing in
+    let e : withMoves (sequence i (entryOf b)) nothing ≡ withMoves (opening i) (withMoves (afterwards i (entryOf b)) nothing) = with-moves-append (opening i) (afterwards i (entryOf b)) nothing in
     let c = costs (sequence i (entryOf b)) nothing in
     let t = sequence-totals i fx (entryOf b) in
     rw (← e) (record {
       at = refl;
-      spent = omega (arith, c .due, t .transfers);
+      accounted = omega (arith, c .due, t .transfers);
       room = omega (arith, c .room, t .transfers, t .polls, t .lineResets);
       xres = omega (arith, c .xres, t .xresets);
       lines = omega (arith, c .lines, t .lineResets);

@@ -6,9 +6,9 @@ use native.Mathlib.Omega.{arith}
 use lib.Count.{ones, onesIn}
 use lib.Dec.{eqb, lit≤}
 use borrow.Author.Tests.{eq-eqb, ne-eqb}
-use Rattle.flow.specs.Exchange.{known, decode, carry, gives, barred, dead, callsOn, saying, silence, okayReply, garbledReply, replyTo, carriedOut, Met, met, transferred, meet}
+use Rattle.flow.specs.Exchange.{known, decode, carry, gives, barred, killed, callsOn, replyWith, silentReply, okayReply, wrongParityReply, replyTo, carriedOut, Met, met, transferred, meet}
 use Rattle.flow.specs.Packets.{packetOf, isRead, okay, again, broken, heard, verdict}
-use Rattle.flow.specs.Target.{Target, Lists, LineEvent, Fate, clean, waits, faults, garbles, silent, eventOf, outcomeOf, rest}
+use Rattle.flow.specs.Target.{Target, Lists, LineEvent, TransferOutcome, clean, waits, faults, wrongParity, silent, nextEvent, nextOutcome, rest}
 use Rattle.flow.specs.declared.Answer.the-variants.{Transferred}
 use Rattle.flow.specs.declared.Reply.{Reply}
 use Rattle.flow.specs.declared.Request.{Request}
@@ -42,7 +42,7 @@ decodes (plain (aCtrl {w = w})) = rw (eq-eqb (parity w) (parity w) refl)
 decodes (plain (aSelect {w = w})) = rw (eq-eqb (parity w) (parity w) refl)
 decodes (plain (aCsw {w = w})) = rw (eq-eqb (parity w) (parity w) refl)
 
-pub meets : (g : Geometry) {q : Request} → Wired q → (l : Lists) (b : Target) → meet g (packetOf q) l b ≡ transferred g q (eventOf (l .line)) l b
+pub meets : (g : Geometry) {q : Request} → Wired q → (l : Lists) (b : Target) → meet g (packetOf q) l b ≡ transferred g q (nextEvent (l .line)) l b
 unfolding meet
 meets g attempt l b = rw (decodes attempt)
 meets g (plain (aTar {a = w})) l b = rw (decodes (plain (aTar {a = w})))
@@ -58,20 +58,20 @@ listsAfter g q b l = record { line = rest (l .line); calls = cond (callsOn g q b
 
 -- carried out, and said so; WAIT; or a mishap, carried out or not
 pub data Heard (g : Geometry) (q : Request) (ev : LineEvent) (l : Lists) (b : Target) : Met → Type 0 where
-  well : {m : Met} → m .target ≡ carry g q (ev .other) (outcomeOf (l .calls)) b → verdict q (m .answer) ≡ okay (gives q b) → m .lists ≡ listsAfter g q b l
+  heardOkay : {m : Met} → m .target ≡ carry g q (ev .other) (nextOutcome (l .calls)) b → verdict q (m .answer) ≡ okay (gives q b) → m .lists ≡ listsAfter g q b l
       → Heard g q ev l b m
-  held : {m : Met} → (ev .fate ≡ clean → ⊥) → m .target ≡ b → verdict q (m .answer) ≡ again
+  heardWait : {m : Met} → (ev .outcome ≡ clean → ⊥) → m .target ≡ b → verdict q (m .answer) ≡ again
       → m .lists ≡ record { line = rest (l .line); calls = l .calls } → Heard g q ev l b m
-  ill : {m : Met} (n : ℕ) → 1 ≤ n → (ev .fate ≡ clean → ⊥) → m .target ≡ b → verdict q (m .answer) ≡ broken n → Heard g q ev l b m
-  illDone : {m : Met} (n : ℕ) → 1 ≤ n → (ev .fate ≡ clean → ⊥) → m .target ≡ carry g q (ev .other) (outcomeOf (l .calls)) b
+  heardError : {m : Met} (n : ℕ) → 1 ≤ n → (ev .outcome ≡ clean → ⊥) → m .target ≡ b → verdict q (m .answer) ≡ broken n → Heard g q ev l b m
+  heardErrorDone : {m : Met} (n : ℕ) → 1 ≤ n → (ev .outcome ≡ clean → ⊥) → m .target ≡ carry g q (ev .other) (nextOutcome (l .calls)) b
       → verdict q (m .answer) ≡ broken n → Heard g q ev l b m
 
--- the other fates are not clean
-abbrev isClean : Fate → Bool
+-- the other outcomes are not clean
+abbrev isClean : TransferOutcome → Bool
 isClean clean = true
 isClean waits = false
 isClean faults = false
-isClean garbles = false
+isClean wrongParity = false
 isClean (silent c) = false
 
 silent-ack : (n : ℕ) → ackOf (cond (eqb n 1) 0 (cond (eqb n 2) 0 (cond (eqb n 4) 0 n))) ≡ Silence
@@ -83,15 +83,15 @@ silent-ack n = by (eqb n 1) (eqb n 2) (eqb n 4) refl refl refl
     by false false true p q r = refl
     by false false false p q r = simp (p, q, r)
 
-silence-heard : (q : Request) (j : Reply) → verdict q (Transferred (silence j)) ≡ broken 29
+silence-heard : (q : Request) (j : Reply) → verdict q (Transferred (silentReply j)) ≡ broken 29
 unfolding verdict heard
 silence-heard q j = rw (silent-ack (j .ack))
 
-waits-heard : (q : Request) (j : Reply) → verdict q (Transferred (saying 2 j)) ≡ again
+waits-heard : (q : Request) (j : Reply) → verdict q (Transferred (replyWith 2 j)) ≡ again
 unfolding verdict heard
 waits-heard q j = refl
 
-faults-heard : (q : Request) (j : Reply) → verdict q (Transferred (saying 4 j)) ≡ broken 28
+faults-heard : (q : Request) (j : Reply) → verdict q (Transferred (replyWith 4 j)) ≡ broken 28
 unfolding verdict heard
 faults-heard q j = refl
 
@@ -108,33 +108,33 @@ okay-heard (plain aCsw) b j = refl
 wrong : (w : ℕ) → eqb (1 - parity w) (parity w) ≡ false
 wrong w = ne-eqb (1 - parity w) (parity w) (omega arith)
 
-garbled-read : (q : Request) → isRead q ≡ true → (j : Reply) → verdict q (Transferred (garbledReply true j)) ≡ broken 30
+wrong-parity-read : (q : Request) → isRead q ≡ true → (j : Reply) → verdict q (Transferred (wrongParityReply true j)) ≡ broken 30
 unfolding verdict heard
-garbled-read q h j = rw (h, wrong (j .word))
+wrong-parity-read q h j = rw (h, wrong (j .word))
 
-fate-not : {x : Fate} → isClean x ≡ false → x ≡ clean → ⊥
-fate-not {x} h e = let no : false ≡ true = sym h ∙ ap isClean e in let z : _≡_ {A = ℕ} 0 1 = cc in omega arith
+not-clean : {x : TransferOutcome} → isClean x ≡ false → x ≡ clean → ⊥
+not-clean {x} h e = let no : false ≡ true = sym h ∙ ap isClean e in let z : _≡_ {A = ℕ} 0 1 = cc in omega arith
 
 module _ (g : Geometry) (l : Lists) (b : Target) where
-  garbles-heard : {q : Request} → Wired q → (ev : LineEvent) → ev .fate ≡ garbles → Heard g q ev l b (met true g q ev l (garbledReply (isRead q) (ev .junk)) b)
+  wrong-parity-heard : {q : Request} → Wired q → (ev : LineEvent) → ev .outcome ≡ wrongParity → Heard g q ev l b (met true g q ev l (wrongParityReply (isRead q) (ev .filler)) b)
   unfolding verdict heard
-  garbles-heard attempt ev e = illDone 30 (lit≤ tt) (fate-not (ap isClean e)) refl (garbled-read ReadIdcode refl (ev .junk))
-  garbles-heard (plain aTar) ev e = well refl refl refl
-  garbles-heard (plain aDrw) ev e = well refl refl refl
-  garbles-heard (plain aRead) ev e = illDone 30 (lit≤ tt) (fate-not (ap isClean e)) refl (garbled-read ReadDrw refl (ev .junk))
-  garbles-heard (plain aCtrl) ev e = well refl refl refl
-  garbles-heard (plain aSelect) ev e = well refl refl refl
-  garbles-heard (plain aCsw) ev e = well refl refl refl
+  wrong-parity-heard attempt ev e = heardErrorDone 30 (lit≤ tt) (not-clean (ap isClean e)) refl (wrong-parity-read ReadIdcode refl (ev .filler))
+  wrong-parity-heard (plain aTar) ev e = heardOkay refl refl refl
+  wrong-parity-heard (plain aDrw) ev e = heardOkay refl refl refl
+  wrong-parity-heard (plain aRead) ev e = heardErrorDone 30 (lit≤ tt) (not-clean (ap isClean e)) refl (wrong-parity-read ReadDrw refl (ev .filler))
+  wrong-parity-heard (plain aCtrl) ev e = heardOkay refl refl refl
+  wrong-parity-heard (plain aSelect) ev e = heardOkay refl refl refl
+  wrong-parity-heard (plain aCsw) ev e = heardOkay refl refl refl
 
   -- the target would carry the transfer out
-  pub hears : {q : Request} → Wired q → (ev : LineEvent) → dead b ≡ false → barred g q b ≡ false → Heard g q ev l b (transferred g q ev l b)
+  pub hears : {q : Request} → Wired q → (ev : LineEvent) → killed b ≡ false → barred g q b ≡ false → Heard g q ev l b (transferred g q ev l b)
   unfolding transferred
-  hears {q} h ev alive free = rw (alive, free) (by (ev .fate) refl)
+  hears {q} h ev not-killed free = rw (not-killed, free) (by (ev .outcome) refl)
     where
-      by : (x : Fate) → ev .fate ≡ x → Heard g q ev l b (met (carriedOut x) g q ev l (replyTo x false (isRead q) (gives q b) (ev .junk)) b)
-      by clean e = well refl (okay-heard h b (ev .junk)) refl
-      by waits e = held (fate-not (ap isClean e)) refl (waits-heard q (ev .junk)) refl
-      by faults e = ill 28 (lit≤ tt) (fate-not (ap isClean e)) refl (faults-heard q (ev .junk))
-      by garbles e = garbles-heard h ev e
-      by (silent true) e = illDone 29 (lit≤ tt) (fate-not (ap isClean e)) refl (silence-heard q (ev .junk))
-      by (silent false) e = ill 29 (lit≤ tt) (fate-not (ap isClean e)) refl (silence-heard q (ev .junk))
+      by : (x : TransferOutcome) → ev .outcome ≡ x → Heard g q ev l b (met (carriedOut x) g q ev l (replyTo x false (isRead q) (gives q b) (ev .filler)) b)
+      by clean e = heardOkay refl (okay-heard h b (ev .filler)) refl
+      by waits e = heardWait (not-clean (ap isClean e)) refl (waits-heard q (ev .filler)) refl
+      by faults e = heardError 28 (lit≤ tt) (not-clean (ap isClean e)) refl (faults-heard q (ev .filler))
+      by wrongParity e = wrong-parity-heard h ev e
+      by (silent true) e = heardErrorDone 29 (lit≤ tt) (not-clean (ap isClean e)) refl (silence-heard q (ev .filler))
+      by (silent false) e = heardError 29 (lit≤ tt) (not-clean (ap isClean e)) refl (silence-heard q (ev .filler))

@@ -3,12 +3,12 @@ use mathlib.Core.List.{List, _++_}
 use mathlib.Core.Path.{_≡_}
 use Prim.Native.Nat.{ℕ, zero, suc, _+_, _<_}
 use native.Mathlib.Omega.{arith}
-use Rattle.flow.specs.Sequence.{pieces}
+use Rattle.flow.specs.Sequence.{inTurn}
 use Rattle.flow.specs.Target.{Target, Silicon, Memory, Running}
 use Rattle.flow.specs.declared.Entry.{Entry}
 use Rattle.flow.specs.declared.Move.{Move}
 use Rattle.flow.proofs.Polling.{idleAt}
-use Rattle.flow.proofs.Reaches.{Purse, pay, Env, sync, Frame, Stood, Stands, split, Reaches}
+use Rattle.flow.proofs.Reaches.{Allowance, withMoves, Env, sync, Frame, Stood, Stands, split, Reaches}
 use Rattle.image.specs.Image.{Image}
 
 -- the target but for its registers
@@ -28,7 +28,7 @@ Known = ℕ → Core → Type 0
 
 -- from rest to rest over ms: P held before, Q holds after
 pub record Leg {i : Image} (f : Frame i) (y : Entry) (ms : List Move) (P Q : Known) : Type 0 where
-  pub along : (n x k : ℕ) (later : List Move) (κ : Purse) (e : Env) (b : Target) → P k (core b) → Stands f y n ms later κ e
+  pub along : (n x k : ℕ) (later : List Move) (κ : Allowance) (e : Env) (b : Target) → P k (core b) → Stands f y n ms later κ e
       → ((k′ : ℕ) (b′ : Target) → Q k′ (core b′) → (n′ x′ : ℕ) (e′ : Env) → Stood f y n′ later κ e′ → Reaches f (sync y n′ 0 0 0 k′ b′ (idleAt x′) e′))
       → Reaches f (sync y n 0 0 0 k b (idleAt x) e)
 
@@ -36,15 +36,15 @@ module _ {i : Image} (f : Frame i) (y : Entry) where
   pub leg-append : (a b : List Move) {P Q R : Known} → Leg f y a P Q → Leg f y b Q R → Leg f y (a ++ b) P R
   leg-append a c l₁ l₂ = record {
     along = λ n x k later κ e b p st next.
-        l₁ .along n x k (c ++ later) (pay c κ) e b p (split a c later κ st) λ k₁ b₁ q n₁ x₁ e₁ st₁. l₂ .along n₁ x₁ k₁ later κ e₁ b₁ q st₁ next;
+        l₁ .along n x k (c ++ later) (withMoves c κ) e b p (split a c later κ st) λ k₁ b₁ q n₁ x₁ e₁ st₁. l₂ .along n₁ x₁ k₁ later κ e₁ b₁ q st₁ next;
   }
 
   -- pieces one after another, each for its number
   pub leg-pieces : (h : ℕ → List Move) (P : ℕ → Known) (top : ℕ) → ((j : ℕ) → j < top → Leg f y (h j) (P j) (P (suc j)))
-      → (m j : ℕ) → j + m ≡ top → Leg f y (pieces h j m) (P j) (P top)
-  unfolding pieces pay
+      → (m j : ℕ) → j + m ≡ top → Leg f y (inTurn h j m) (P j) (P top)
+  unfolding inTurn withMoves
   leg-pieces h P top each zero j count = record {
     along = λ n x k later κ e b p st next. let z : j ≡ top = omega arith in next k b (rw z at p) n x e st;
   }
   leg-pieces h P top each (suc m) j count =
-      leg-append (h j) (pieces h (suc j) m) (each j (omega arith)) (leg-pieces h P top each m (suc j) (omega arith))
+      leg-append (h j) (inTurn h (suc j) m) (each j (omega arith)) (leg-pieces h P top each m (suc j) (omega arith))

@@ -24,7 +24,7 @@ pub mod Frames
 pub mod Passing
 pub mod Demand
 pub mod Witness
-pub mod Blame
+pub mod Undisturbed
 pub mod Examples
 pub mod Mishaps
 pub mod BoardExamples

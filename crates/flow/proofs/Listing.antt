@@ -18,7 +18,7 @@ use Rattle.flow.proofs.Calling.{Command, calling}
 use Rattle.flow.proofs.Lists.{lay-next, length-lay}
 use Rattle.flow.proofs.Places.{place-params}
 use Rattle.flow.proofs.Polling.{idleAt}
-use Rattle.flow.proofs.Reaches.{Purse, pay, Env, sync, Frame, Stood, Stands, split, Reaches}
+use Rattle.flow.proofs.Reaches.{Allowance, withMoves, Env, sync, Frame, Stood, Stands, split, Reaches}
 use Rattle.flow.proofs.Table.{Facts}
 use Rattle.image.specs.Image.{Image}
 use Rattle.parts.specs.Sizes.{rowBytes, sysargOf, PARAMS}
@@ -44,12 +44,12 @@ record Filled (ws : List ℕ) (b b′ : Target) : Type 0 where
 
 module _ {i : Image} (f : Frame i) (fx : Facts (i .geometry)) where
   -- the first word goes behind those of `pre`
-  writes-from : (ws pre tl : List ℕ) (s a j : ℕ) {y : Entry} {n : ℕ} {ms : List Move} {κ : Purse} {e : Env} {k : ℕ} (b : Target) {x : ℕ}
+  writes-from : (ws pre tl : List ℕ) (s a j : ℕ) {y : Entry} {n : ℕ} {ms : List Move} {κ : Allowance} {e : Env} {k : ℕ} (b : Target) {x : ℕ}
       → b .params ≡ pre ++ tl → length pre ≡ j → a ≡ PARAMS + 4 * j → j + length ws ≤ 2 + rowBytes (i .geometry) / 4 → j + length ws ≤ length (b .params)
       → Stands f y n (writes s a ws) ms κ e → b .effect ≡ 1 → f .Safe (b .memory)
       → (next : (b′ : Target) → Filled (pre ++ ws) b b′ → (n′ x′ : ℕ) (e′ : Env) → Stood f y n′ ms κ e′ → Reaches f (sync y n′ 0 0 0 k b′ (idleAt x′) e′))
       → Reaches f (sync y n 0 0 0 k b (idleAt x) e)
-  unfolding writes write pay
+  unfolding writes write withMoves
   writes-from [] pre tl s a j {n = n} {e = e} b {x} hp hl ha fits room st he safe next =
       next b (record { behind = tl; silicon = refl; effect = refl; memory = refl; params = rw (append-nil pre) hp; room = refl }) n x e st
   writes-from (w ∷ ws) pre tl s a j b hp hl ha fits room st he safe next =
@@ -69,7 +69,7 @@ module _ {i : Image} (f : Frame i) (fx : Facts (i .geometry)) where
       some : 1 ≤ length tl
       some = omega (arith, ap length hp, length-append pre tl)
 
-  pub listing : (s c : ℕ) (ws : List ℕ) {y : Entry} {n : ℕ} {ms : List Move} {κ : Purse} {e : Env} {k : ℕ} {b : Target} {x : ℕ}
+  pub listing : (s c : ℕ) (ws : List ℕ) {y : Entry} {n : ℕ} {ms : List Move} {κ : Allowance} {e : Env} {k : ℕ} {b : Target} {x : ℕ}
       → Command c → Stands f y n (listed (i .geometry) s c ws) ms κ e
       → length ws ≤ 2 + rowBytes (i .geometry) / 4 → 2 + rowBytes (i .geometry) / 4 ≤ length (b .params) → b .effect ≡ 1 → f .Safe (b .memory)
       → ((y : Bool) (r : Residue) (b′ : Target) → b′ .effect ≡ b .effect → b′ .memory ≡ b .memory → b′ .sysarg ≡ PARAMS → f .Safe ((finish (i .geometry) y r c b′) .memory))

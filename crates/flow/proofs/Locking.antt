@@ -9,8 +9,8 @@ use native.Mathlib.Omega.{arith}
 use lib.Dec.{eqb, eqb·suc-zero}
 use lib.ListN.{length, take, drop}
 use lib.Seq.{take-add}
-use Rattle.flow.specs.Calls.{finish, effectOf, leftBy, protect, levelSent, macroSent, listAt}
-use Rattle.flow.specs.Sequence.{key, call, listed, latchList, lockStart, lockMacro, pieces}
+use Rattle.flow.specs.Calls.{finish, effectOf, afterFailure, protect, levelSent, macroSent, listAt}
+use Rattle.flow.specs.Sequence.{key, call, listed, latchList, lockStart, lockMacro, inTurn}
 use Rattle.flow.specs.Target.{Target, Memory, Residue, lay}
 use Rattle.flow.specs.declared.Entry.{Entry}
 use Rattle.flow.proofs.Calling.{Returned, calling}
@@ -52,7 +52,7 @@ next-level i (suc m) old h = rw (eqb·suc-zero m) h
 -- whatever call 0x0D comes to, the level stored is the old one or the one sent
 safe-D : {i : Image} (f : Frame i) (y : Bool) (r : Residue) (l m : ℕ) (b : Target) → l < 16 → b .effect ≡ 1 → b .sysarg ≡ lockWord l m
     → ((x : Memory) → x .stored ≡ l → f .Safe x) → ((x : Memory) → x .stored ≡ b .memory .stored → f .Safe x) → f .Safe ((finish (i .geometry) y r 0x0D b) .memory)
-unfolding finish leftBy
+unfolding finish afterFailure
 safe-D {i} f true r l m b h he ha new old = rw (ha, effect-D (i .geometry) (b .effect) l m (listAt (lockWord l m) (b .params)) (b .memory) h he) (by (eqb m 0) refl)
   where
     by : (y : Bool) → eqb m 0 ≡ y → f .Safe (protect (i .geometry) l m (b .memory))
@@ -60,7 +60,7 @@ safe-D {i} f true r l m b h he ha new old = rw (ha, effect-D (i .geometry) (b .e
     by false e = old _ (rw e)
 safe-D {i} f false r l m b h he ha new old = by (r .newLevel && true && eqb (macroSent (b .sysarg)) 0) refl
   where
-    by : (y : Bool) → r .newLevel && true && eqb (macroSent (b .sysarg)) 0 ≡ y → f .Safe (leftBy 0x0D (b .sysarg) r (b .memory))
+    by : (y : Bool) → r .newLevel && true && eqb (macroSent (b .sysarg)) 0 ≡ y → f .Safe (afterFailure 0x0D (b .sysarg) r (b .memory))
     by true e = new _ (rw e (rw ha (sent-level l m h)))
     by false e = old _ (rw e)
 
@@ -154,5 +154,5 @@ module _ {i : Image} (f : Frame i) (fx : Facts (i .geometry)) (v : Valid i) (m :
         next k b₂ (locked k b b₁ b₂ w r₁ r₂) n₂ _ e₂ st₂;
   }
 
-pub macros-leg : {i : Image} (f : Frame i) → Facts (i .geometry) → Valid i → (y : Entry) → Leg f y (pieces (lockMacro i) 0 (macrosOf (i .geometry))) (Locked f 0) (Locked f (macrosOf (i .geometry)))
+pub macros-leg : {i : Image} (f : Frame i) → Facts (i .geometry) → Valid i → (y : Entry) → Leg f y (inTurn (lockMacro i) 0 (macrosOf (i .geometry))) (Locked f 0) (Locked f (macrosOf (i .geometry)))
 macros-leg {i} f fx v y = leg-pieces f y (lockMacro i) (Locked f) (macrosOf (i .geometry)) (λ m h. macro-leg f fx v m h y) (macrosOf (i .geometry)) 0 (omega arith)

@@ -8,12 +8,12 @@ use borrow.Author.Tests.{ltb-true, ltb-false}
 use lib.Dec.{eqb, ltb}
 use lib.ListN.{length, getD, length-reverse, List·getD-append}
 use lib.Seq.{getD-append-add}
-use Rattle.flow.specs.Judge.{Judged, go, pollAgain, enter, report, judge, goIf, polled, entryBy, free, testBitSet, succeeded, idsFit, levelIn, storedIn, sumsFit}
+use Rattle.flow.specs.Judge.{Judged, go, pollAgain, enter, report, judge, goIf, polled, entryBy, free, testBitSet, succeeded, idsFit, levelIn, levelShown, sumsFit}
 use Rattle.flow.specs.Machine.{Cursor, standingMove, onward, back, entering, Machine, underWay, ended, judgedOn, heardOn, answerOn, machineStep, Placed, StandsFor, placed, finished, sessionMove, machineMove, Agrees}
 use Rattle.flow.specs.Monitor.{isAttempt, isReset}
 use Rattle.flow.specs.Packets.{Verdict, okay, again, broken, verdict}
 use Rattle.flow.specs.Sequence.{sequence, opening, afterwards, endMove}
-use Rattle.flow.specs.Session.{Session, running, moveAt, settled, tryAgain, waitAgain, heardBy, act, stepOf}
+use Rattle.flow.specs.Session.{Session, running, moveAt, judgedTo, tryAgain, waitAgain, heardBy, act, stepOf}
 use Rattle.flow.specs.declared.Answer.{Answer}
 use Rattle.flow.specs.declared.Entry.{Entry}
 use Rattle.flow.specs.declared.Entry.the-variants.{FromOpen, FromProtected}
@@ -146,11 +146,11 @@ module _ (E : Type 0) where
   judged i Reopened s p k w r =
       either (idsFit i k w) (goIf (eqb (levelIn w) 1) 21 p k) (report 20) (go-if (eqb (levelIn w) 1) 21 p k) tt
   judged i (Same v n) s p k w r = go-if (eqb w v) n p k
-  judged i StoredLevel s p k w r = go-if (eqb (storedIn w) (i .header .level)) 24 p k
+  judged i StoredLevel s p k w r = go-if (eqb (levelShown w) (i .header .level)) 24 p k
   judged i LastSum s p k w r = either (sumsFit i w k) (report 0) (report 25) tt tt
 
 module _ (i : Image) (y : Entry) (n : ℕ) (t : Cursor) (at : Placed i t y n) where
-  settles : (j : Judged) (s a h : ℕ) → Enters (suc n ≡ length (opening i)) j → StandsFor i (settled j y n s a h) (judgedOn i j t s a h)
+  settles : (j : Judged) (s a h : ℕ) → Enters (suc n ≡ length (opening i)) j → StandsFor i (judgedTo j y n s a h) (judgedOn i j t s a h)
   settles (go p k) s a h last = placed (onward-placed i y t n at)
   settles (pollAgain p k) s a h last = placed (again-placed i y t n at)
   settles (enter e p k) s a h last = placed (entering-placed i y e t n last at)

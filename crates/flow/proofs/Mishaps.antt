@@ -3,7 +3,7 @@ use mathlib.Core.Bool.{true, false}
 use mathlib.Core.Path.{_≡_, refl}
 use Prim.Native.Nat.{ℕ}
 use borrow.Author.Tests.{eq-eqb}
-use Rattle.flow.specs.Examples.{onePart}
+use Rattle.flow.specs.Examples.{partOne}
 use Rattle.flow.specs.Map.{search, regions, lockRegions}
 use Rattle.flow.specs.Mishaps.{okayWith, WordMishaps, LineMishaps}
 use Rattle.flow.specs.Monitor.{Monitor, watching, linkError, noticeRead, noticed, watch}
@@ -41,12 +41,12 @@ word-mishaps = record {
 }
 
 -- a reset changes nothing, whatever has been seen
-same : (m : Monitor) → watch onePart Xres ResetDone m ≡ m
+same : (m : Monitor) → watch partOne Xres ResetDone m ≡ m
 unfolding watch
 same (watching w p a t d) = refl
 same (linkError n) = refl
 
-still : (m : Monitor) → watch onePart LineReset ResetDone m ≡ m
+still : (m : Monitor) → watch partOne LineReset ResetDone m ≡ m
 unfolding watch
 still (watching w p a t d) = refl
 still (linkError n) = refl

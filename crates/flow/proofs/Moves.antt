@@ -8,7 +8,7 @@ use lib.ListN.{length, getD, length-append}
 use Rattle.flow.proofs.Hearing.{aTar, aDrw, aRead, aCtrl, aSelect, aCsw, attempt, plain, decodes}
 use Rattle.flow.specs.Exchange.{known, decode}
 use Rattle.flow.specs.Packets.{packetOf}
-use Rattle.flow.specs.Sequence.{move, write, read, call, writes, listed, pieces, imoCall, acquire, silicon, privileged, programRow, lockMacro, verifyMacro, program, opening, afterwards, sequence, endMove, key}
+use Rattle.flow.specs.Sequence.{move, write, read, call, writes, listed, inTurn, imoCall, acquire, silicon, privileged, programRow, lockMacro, verifyMacro, program, opening, afterwards, sequence, endMove, key}
 use Rattle.flow.specs.Session.{moveAt}
 use Rattle.flow.specs.declared.Entry.{Entry}
 use Rattle.flow.specs.declared.Entry.the-variants.{FromOpen, FromProtected}
@@ -30,8 +30,8 @@ module _ {P : Move → Type 0} where
   joined none q = q
   joined (more h p) q = more h (joined p q)
 
-  all-pieces : (f : ℕ → List Move) → ((k : ℕ) → All P (f k)) → (k n : ℕ) → All P (pieces f k n)
-  unfolding pieces
+  all-pieces : (f : ℕ → List Move) → ((k : ℕ) → All P (f k)) → (k n : ℕ) → All P (inTurn f k n)
+  unfolding inTurn
   all-pieces f each k zero = none
   all-pieces f each k (suc n) = joined (each k) (all-pieces f each (suc k) n)
 

@@ -6,7 +6,7 @@ use Prim.Native.Nat.{ℕ, zero, suc, _+_, _*_, _/_, _%_, _≤_}
 use native.Mathlib.Omega.{arith}
 use lib.ListN.{length, take}
 use lib.Seq.{take-all}
-use Rattle.flow.specs.Calls.{finish, effectOf, sysargAfter, sysreqAfter, leftBy}
+use Rattle.flow.specs.Calls.{finish, effectOf, sysargAfter, sysreqAfter, afterFailure}
 use Rattle.flow.specs.Judge.{free, succeeded}
 use Rattle.flow.specs.Sequence.{lockStart}
 use Rattle.flow.specs.Target.{Target, Silicon, Memory, Residue, idle}
@@ -132,17 +132,17 @@ no-level true l m z = refl
 no-level false l m z = refl
 
 pub steady-4 : (g : Geometry) (y : Bool) (r : Residue) (b : Target) → (finish g y r 4 b) .memory .stored ≡ b .memory .stored
-unfolding finish effectOf leftBy
+unfolding finish effectOf afterFailure
 steady-4 g true r b = refl
 steady-4 g false r b = no-level (r .newLevel) _ _ _
 
 pub steady-6 : (g : Geometry) (y : Bool) (r : Residue) (b : Target) → (finish g y r 6 b) .memory .stored ≡ b .memory .stored
-unfolding finish effectOf leftBy
+unfolding finish effectOf afterFailure
 steady-6 g true r b = refl
 steady-6 g false r b = no-level (r .newLevel) _ _ _
 
 pub steady-A : (g : Geometry) (y : Bool) (r : Residue) (b : Target) → (finish g y r 0x0A b) .memory .stored ≡ b .memory .stored
-unfolding finish effectOf leftBy
+unfolding finish effectOf afterFailure
 steady-A g true r b = refl
 steady-A g false r b = no-level (r .newLevel) _ _ _
 

@@ -17,7 +17,7 @@ use Rattle.flow.specs.declared.Entry.{Entry}
 use Rattle.flow.specs.declared.Move.{Move}
 use Rattle.flow.specs.declared.Purpose.the-variants.{Poll}
 use Rattle.flow.proofs.Access.{aim, Admits, read-any, read-still}
-use Rattle.flow.proofs.Reaches.{Purse, spend, Env, sync, Frame, Stood, poorer, Reaches, stop}
+use Rattle.flow.proofs.Reaches.{Allowance, withTransfer, Env, sync, Frame, Stood, less-room, Reaches, stop}
 use Rattle.image.specs.Image.{Image}
 use Rattle.parts.specs.Sizes.{sysreqOf}
 use Rattle.parts.specs.declared.Geometry.{Geometry}
@@ -30,22 +30,22 @@ idleAt a = record { tar = a; counts = false; polling = false; due = false }
 abbrev pub during : Running → Target → Target
 during r b = setSysreq (b .sysreq) r b
 
--- the purse of a loop that may still poll m times more
-abbrev pub looping : (m : ℕ) → Purse → Purse
+-- the allowance of a loop that may still poll m times more
+abbrev pub looping : (m : ℕ) → Allowance → Allowance
 looping m κ = record { due = suc (suc (suc (κ .due))); room = 51 * suc m + κ .room; xres = κ .xres; lines = κ .lines }
 
 -- what a loop of m more polls leaves after this one
-abbrev left : (m : ℕ) → Purse → Purse
+abbrev left : (m : ℕ) → Allowance → Allowance
 left m κ = record { due = κ .due; room = 51 * m + κ .room; xres = κ .xres; lines = κ .lines }
 
 -- one poll of it
-this-poll : {i : Image} {f : Frame i} {y : Entry} {n : ℕ} {ms : List Move} (κ : Purse) {e : Env} (m : ℕ) → Stood f y n ms (looping m κ) e
-    → Stood f y n ms (spend (spend (spend (left m κ)))) e
-this-poll κ m st = poorer (17 + (17 + (17 + (51 * m + κ .room)))) (omega arith) st
+this-poll : {i : Image} {f : Frame i} {y : Entry} {n : ℕ} {ms : List Move} (κ : Allowance) {e : Env} (m : ℕ) → Stood f y n ms (looping m κ) e
+    → Stood f y n ms (withTransfer (withTransfer (withTransfer (left m κ)))) e
+this-poll κ m st = less-room (17 + (17 + (17 + (51 * m + κ .room)))) (omega arith) st
 
 -- and the last of it
-last-poll : {i : Image} {f : Frame i} {y : Entry} {n : ℕ} {ms : List Move} (κ : Purse) {e : Env} (m : ℕ) → Stood f y n ms (left m κ) e → Stood f y n ms κ e
-last-poll κ m st = poorer (κ .room) (omega arith) st
+last-poll : {i : Image} {f : Frame i} {y : Entry} {n : ℕ} {ms : List Move} (κ : Allowance) {e : Env} (m : ℕ) → Stood f y n ms (left m κ) e → Stood f y n ms κ e
+last-poll κ m st = less-room (κ .room) (omega arith) st
 
 -- ---- words
 
@@ -112,8 +112,8 @@ busied e = record { lists = e .lists; delays = oneBusy (e .delays); traffic = e 
 
 module _ {i : Image} (f : Frame i) (hp : place (i .geometry) (sysreqOf (i .geometry)) ≡ atSysreq) where
   -- a poll that finds nothing under way
-  pub poll-idle : (s : ℕ) {y : Entry} {n : ℕ} {ms : List Move} {κ : Purse} {e : Env} {p a k : ℕ} (b : Target) {x : ℕ} {c d : Bool}
-      → Stood f y n (poll (i .geometry) s ++ ms) (spend (spend (spend κ))) e → Admits (b .effect) atSysreq → f .Safe (b .memory) → b .running ≡ idle → free (b .sysreq) ≡ true
+  pub poll-idle : (s : ℕ) {y : Entry} {n : ℕ} {ms : List Move} {κ : Allowance} {e : Env} {p a k : ℕ} (b : Target) {x : ℕ} {c d : Bool}
+      → Stood f y n (poll (i .geometry) s ++ ms) (withTransfer (withTransfer (withTransfer κ))) e → Admits (b .effect) atSysreq → f .Safe (b .memory) → b .running ≡ idle → free (b .sysreq) ≡ true
       → (next : (e′ : Env) → e′ .lists .calls ≡ e .lists .calls → Stood f y (suc (suc (suc n))) ms κ e′
       → Reaches f (sync y (suc (suc (suc n))) 0 0 a k (aim (sysreqOf (i .geometry)) (b .sysreq) b) (record { tar = sysreqOf (i .geometry); counts = false; polling = false; due = d }) e′))
       → Reaches f (sync y n 0 p a k b (loopAt x c d) e)
@@ -128,11 +128,11 @@ module _ {i : Image} (f : Frame i) (hp : place (i .geometry) (sysreqOf (i .geome
     over = finish (i .geometry) s₀ r₀ c₀ b
 
     -- back to the first transfer of the Read
-    back : {y : Entry} {n n′ : ℕ} {ms later : List Move} (κ : Purse) {κ₀ : Purse} {e e′ : Env} (m : ℕ) → Stood f y n ms κ₀ e → Stood f y n′ later (left (suc m) κ) e′ → (f .Still → ⊥)
+    back : {y : Entry} {n n′ : ℕ} {ms later : List Move} (κ : Allowance) {κ₀ : Allowance} {e e′ : Env} (m : ℕ) → Stood f y n ms κ₀ e → Stood f y n′ later (left (suc m) κ) e′ → (f .Still → ⊥)
         → Stood f y n ms (looping m κ) (busied e′)
     back κ m st st′ bad = record {
       at = st .at;
-      spent = omega (arith, st′ .spent);
+      accounted = omega (arith, st′ .accounted);
       room = omega (arith, st′ .room);
       xres = st′ .xres;
       lines = st′ .lines;
@@ -140,7 +140,7 @@ module _ {i : Image} (f : Frame i) (hp : place (i .geometry) (sysreqOf (i .geome
     }
 
     -- q busy reads are left; after this poll m more are allowed
-    pub poll-busy : (q m s : ℕ) {y : Entry} {n : ℕ} {ms : List Move} {κ : Purse} {e : Env} {a k : ℕ} (p x z : ℕ) {c d : Bool}
+    pub poll-busy : (q m s : ℕ) {y : Entry} {n : ℕ} {ms : List Move} {κ : Allowance} {e : Env} {a k : ℕ} (p x z : ℕ) {c d : Bool}
         → p + suc m ≡ 10000 → Stood f y n (poll (i .geometry) s ++ ms) (looping m κ) e → (f .Still → q ≡ 0)
         → (next : (e′ : Env) → e′ .lists .calls ≡ e .lists .calls → Stood f y (suc (suc (suc n))) ms κ e′
         → Reaches f (sync y (suc (suc (suc n))) 0 0 a k (aim (sysreqOf (i .geometry)) (over .sysreq) over) (record { tar = sysreqOf (i .geometry); counts = false; polling = false; due = d }) e′))

@@ -7,7 +7,7 @@ use native.Mathlib.Omega.{arith}
 use lib.ListN.{length, take, drop}
 use lib.Seq.{take-add}
 use Rattle.flow.specs.Calls.{effectOf}
-use Rattle.flow.specs.Sequence.{key, listed, latchList, programRow, pieces}
+use Rattle.flow.specs.Sequence.{key, listed, latchList, programRow, inTurn}
 use Rattle.flow.specs.Target.{Target, Memory, lay}
 use Rattle.flow.specs.declared.Entry.{Entry}
 use Rattle.flow.proofs.Counting.{length-words}
@@ -111,5 +111,5 @@ module _ {i : Image} (f : Frame i) (fx : Facts (i .geometry)) (v : Valid i) (r :
         next k b₂ (wrote k b b₁ b₂ w r₁ r₂) n₂ _ e₂ st₂;
   }
 
-pub rows-leg : {i : Image} (f : Frame i) → Facts (i .geometry) → Valid i → (y : Entry) → Leg f y (pieces (programRow i) 0 (rowsOf (i .geometry))) (Wrote f 0) (Wrote f (rowsOf (i .geometry)))
+pub rows-leg : {i : Image} (f : Frame i) → Facts (i .geometry) → Valid i → (y : Entry) → Leg f y (inTurn (programRow i) 0 (rowsOf (i .geometry))) (Wrote f 0) (Wrote f (rowsOf (i .geometry)))
 rows-leg {i} f fx v y = leg-pieces f y (programRow i) (Wrote f) (rowsOf (i .geometry)) (λ r h. row-leg f fx v r h y) (rowsOf (i .geometry)) 0 (omega arith)

@@ -27,48 +27,48 @@ use Rattle.parts.specs.Parts.{lowFits}
 -- ---- what is still due and allowed
 
 -- moves of the plan still due; transfers, XRES and line resets still allowed
-pub record Purse : Type 0 where
+pub record Allowance : Type 0 where
   pub due : ℕ
   pub room : ℕ
   pub xres : ℕ
   pub lines : ℕ
 
 -- each transfer may be handed out 17 times
-abbrev pub spend : Purse → Purse
-spend κ = record { due = suc (κ .due); room = 17 + κ .room; xres = κ .xres; lines = κ .lines }
+abbrev pub withTransfer : Allowance → Allowance
+withTransfer κ = record { due = suc (κ .due); room = 17 + κ .room; xres = κ .xres; lines = κ .lines }
 
 -- a poll 9,999 times three transfers more
-abbrev pub payRead : Purpose → Purse → Purse
-payRead Sent κ = spend κ
-payRead Idcode κ = spend κ
-payRead TestBit κ = spend κ
-payRead Poll κ = record { due = suc (κ .due); room = 17 + (509949 + κ .room); xres = κ .xres; lines = κ .lines }
-payRead Status κ = spend κ
-payRead Keep κ = spend κ
-payRead EntryLevel κ = spend κ
-payRead Reopened κ = spend κ
-payRead (Same w n) κ = spend κ
-payRead StoredLevel κ = spend κ
-payRead LastSum κ = spend κ
+abbrev pub withRead : Purpose → Allowance → Allowance
+withRead Sent κ = withTransfer κ
+withRead Idcode κ = withTransfer κ
+withRead TestBit κ = withTransfer κ
+withRead Poll κ = record { due = suc (κ .due); room = 17 + (509949 + κ .room); xres = κ .xres; lines = κ .lines }
+withRead Status κ = withTransfer κ
+withRead Keep κ = withTransfer κ
+withRead EntryLevel κ = withTransfer κ
+withRead Reopened κ = withTransfer κ
+withRead (Same w n) κ = withTransfer κ
+withRead StoredLevel κ = withTransfer κ
+withRead LastSum κ = withTransfer κ
 
 -- an attempt 29 times more
-abbrev pub payFor : Request → Purpose → Purse → Purse
-payFor Xres u κ = record { due = κ .due; room = κ .room; xres = suc (κ .xres); lines = κ .lines }
-payFor LineReset u κ = record { due = κ .due; room = 13 + κ .room; xres = κ .xres; lines = 30 + κ .lines }
-payFor ReadIdcode u κ = spend κ
-payFor ReadDrw u κ = payRead u κ
-payFor (WriteTar w) u κ = spend κ
-payFor (WriteDrw w) u κ = spend κ
-payFor (WriteSetup r w) u κ = spend κ
+abbrev pub withRequest : Request → Purpose → Allowance → Allowance
+withRequest Xres u κ = record { due = κ .due; room = κ .room; xres = suc (κ .xres); lines = κ .lines }
+withRequest LineReset u κ = record { due = κ .due; room = 13 + κ .room; xres = κ .xres; lines = 30 + κ .lines }
+withRequest ReadIdcode u κ = withTransfer κ
+withRequest ReadDrw u κ = withRead u κ
+withRequest (WriteTar w) u κ = withTransfer κ
+withRequest (WriteDrw w) u κ = withTransfer κ
+withRequest (WriteSetup r w) u κ = withTransfer κ
 
-unfoldable pub pay : List Move → Purse → Purse
-pay [] κ = κ
-pay (m ∷ ms) κ = payFor (m .request) (m .purpose) (pay ms κ)
+unfoldable pub withMoves : List Move → Allowance → Allowance
+withMoves [] κ = κ
+withMoves (m ∷ ms) κ = withRequest (m .request) (m .purpose) (withMoves ms κ)
 
-pub pay-append : (a b : List Move) (κ : Purse) → pay (a ++ b) κ ≡ pay a (pay b κ)
-unfolding pay
-pay-append [] b κ = refl
-pay-append (m ∷ a) b κ = ap (payFor (m .request) (m .purpose)) (pay-append a b κ)
+pub with-moves-append : (a b : List Move) (κ : Allowance) → withMoves (a ++ b) κ ≡ withMoves a (withMoves b κ)
+unfolding withMoves
+with-moves-append [] b κ = refl
+with-moves-append (m ∷ a) b κ = ap (withRequest (m .request) (m .purpose)) (with-moves-append a b κ)
 
 -- ---- where a run stands
 
@@ -101,7 +101,7 @@ pub record RightIds (i : Image) (x : Silicon) : Type 0 where
   pub silicon : rightSilicon i x ≡ true
 
 -- the memory bears the image
-pub record Bears (i : Image) (m : Memory) : Type 0 where
+pub record HoldsImage (i : Image) (m : Memory) : Type 0 where
   pub flash : m .flash ≡ i .flash
   pub locks : m .locks ≡ i .protection
   pub level : m .stored ≡ i .header .level
@@ -122,7 +122,7 @@ pub record Frame (i : Image) : Type 1 where
   -- a mishap is a reason to stop, with its number, if the lists were not calm
   pub caught : (n s : ℕ) (b : Target) (l : Lists) (t : Traffic) → 1 ≤ n → (Still → ⊥) → Safe (b .memory) → Stop (ended n s b l (linkError n) t)
   -- done
-  pub finished : (b : Target) (l : Lists) (w : Watch) (d : Delays) (t : Traffic) → RightIds i silicon → Bears i (b .memory)
+  pub finished : (b : Target) (l : Lists) (w : Watch) (d : Delays) (t : Traffic) → RightIds i silicon → HoldsImage i (b .memory)
       → t .transfers ≡ planned + delayed d → (Still → delayed d ≡ 0) → Goal (ended 0 9 b l (watching 0 0 0 w d) t)
   -- another part
   pub wrongId : (s w p a : ℕ) (b : Target) (l : Lists) (x : Watch) (d : Delays) (t : Traffic) → Safe (b .memory)
@@ -136,30 +136,30 @@ pub record StillCalm (e : Env) : Type 0 where
   pub calls : CalmCalls (e .lists .calls)
   pub none : delayed (e .delays) ≡ 0
 
-pub record Stood {i : Image} (f : Frame i) (y : Entry) (n : ℕ) (ms : List Move) (κ : Purse) (e : Env) : Type 0 where
+pub record Stood {i : Image} (f : Frame i) (y : Entry) (n : ℕ) (ms : List Move) (κ : Allowance) (e : Env) : Type 0 where
   pub at : drop n (sequence i y) ≡ ms
   -- transfers + what is due ≡ plan + delays
-  pub spent : e .traffic .transfers + κ .due ≡ f .planned + delayed (e .delays)
+  pub accounted : e .traffic .transfers + κ .due ≡ f .planned + delayed (e .delays)
   pub room : e .traffic .transfers + κ .room ≤ f .most .transfers
   pub xres : e .traffic .xresets + κ .xres ≤ f .most .xresets
   pub lines : e .traffic .lineResets + κ .lines ≤ f .most .lineResets
   pub calm : f .Still → StillCalm e
 
 -- less may be left
-pub poorer : {i : Image} {f : Frame i} {y : Entry} {n : ℕ} {ms : List Move} {κ : Purse} {e : Env} (r : ℕ) → r ≤ κ .room → Stood f y n ms κ e
+pub less-room : {i : Image} {f : Frame i} {y : Entry} {n : ℕ} {ms : List Move} {κ : Allowance} {e : Env} (r : ℕ) → r ≤ κ .room → Stood f y n ms κ e
     → Stood f y n ms (record { due = κ .due; room = r; xres = κ .xres; lines = κ .lines }) e
-poorer r h st = record { at = st .at; spent = st .spent; room = omega (arith, st .room); xres = st .xres; lines = st .lines; calm = st .calm }
+less-room r h st = record { at = st .at; accounted = st .accounted; room = omega (arith, st .room); xres = st .xres; lines = st .lines; calm = st .calm }
 
 -- the moves of ms, then the rest, and what they may cost
-abbrev pub Stands : {i : Image} → Frame i → Entry → ℕ → List Move → List Move → Purse → Env → Type 0
-Stands f y n ms later κ e = Stood f y n (ms ++ later) (pay ms κ) e
+abbrev pub Stands : {i : Image} → Frame i → Entry → ℕ → List Move → List Move → Allowance → Env → Type 0
+Stands f y n ms later κ e = Stood f y n (ms ++ later) (withMoves ms κ) e
 
 -- the first of two lists of moves
-pub split : {i : Image} {f : Frame i} {y : Entry} {n : ℕ} (a b : List Move) (ms : List Move) (κ : Purse) {e : Env}
-    → Stands f y n (a ++ b) ms κ e → Stands f y n a (b ++ ms) (pay b κ) e
-split a b ms κ st = rw (append-assoc a b ms, pay-append a b κ) at st
+pub split : {i : Image} {f : Frame i} {y : Entry} {n : ℕ} (a b : List Move) (ms : List Move) (κ : Allowance) {e : Env}
+    → Stands f y n (a ++ b) ms κ e → Stands f y n a (b ++ ms) (withMoves b κ) e
+split a b ms κ st = rw (append-assoc a b ms, with-moves-append a b κ) at st
 
-module _ {i : Image} {f : Frame i} {y : Entry} {n : ℕ} {m : Move} {ms : List Move} {κ : Purse} {e : Env} where
+module _ {i : Image} {f : Frame i} {y : Entry} {n : ℕ} {m : Move} {ms : List Move} {κ : Allowance} {e : Env} where
   -- the standing move
   pub at-move : Stood f y n (m ∷ ms) κ e → moveAt i y n ≡ m
   at-move s =

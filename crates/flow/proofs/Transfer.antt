@@ -7,21 +7,21 @@ use native.Mathlib.Omega.{arith}
 use lib.Dec.{lit≤}
 use borrow.Author.Tests.{lt-ltb, le-ltb}
 use Rattle.flow.specs.Claim.{CalmLine, calmEnd, calmEvent, CalmCalls, callsEnd, calmCall}
-use Rattle.flow.specs.Exchange.{carry, gives, barred, dead, callsOn, Met, transferred}
+use Rattle.flow.specs.Exchange.{carry, gives, barred, killed, callsOn, Met, transferred}
 use Rattle.flow.specs.Judge.{judge}
 use Rattle.flow.specs.Monitor.{Watch, oneWait, watchBy, noticed, watch}
 use Rattle.flow.specs.Packets.{Verdict, again, verdict}
 use Rattle.flow.specs.Plan.{Traffic, counting}
 use Rattle.flow.specs.Run.{Run, advance, handedOut}
 use Rattle.flow.specs.Sequence.{move}
-use Rattle.flow.specs.Session.{settled, heardBy, stepOf}
-use Rattle.flow.specs.Target.{Target, Lists, LineEvent, CallOutcome, clean, eventOf, outcomeOf, rest}
+use Rattle.flow.specs.Session.{judgedTo, heardBy, stepOf}
+use Rattle.flow.specs.Target.{Target, Lists, LineEvent, CallOutcome, clean, nextEvent, nextOutcome, rest}
 use Rattle.flow.specs.declared.Entry.{Entry}
 use Rattle.flow.specs.declared.Move.{Move}
 use Rattle.flow.specs.declared.Purpose.{Purpose}
 use Rattle.flow.specs.declared.Request.{Request}
-use Rattle.flow.proofs.Hearing.{Plain, aTar, aDrw, aRead, aCtrl, aSelect, aCsw, plain, meets, listsAfter, Heard, well, held, ill, illDone, hears}
-use Rattle.flow.proofs.Reaches.{Purse, spend, Env, sync, Frame, Stood, at-move, at-next, Bounded, Reaches, stop, steps, clear}
+use Rattle.flow.proofs.Hearing.{Plain, aTar, aDrw, aRead, aCtrl, aSelect, aCsw, plain, meets, listsAfter, Heard, heardOkay, heardWait, heardError, heardErrorDone, hears}
+use Rattle.flow.proofs.Reaches.{Allowance, withTransfer, Env, sync, Frame, Stood, at-move, at-next, Bounded, Reaches, stop, steps, clear}
 use Rattle.image.specs.Image.{Image}
 
 -- one transfer more
@@ -31,11 +31,11 @@ more t = record { transfers = suc (t .transfers); xresets = t .xresets; lineRese
 abbrev pub passed : Lists → Env → Env
 passed l e = record { lists = l; delays = e .delays; traffic = more (e .traffic) }
 
--- the purse of a transfer that may still be repeated v times
-abbrev waiting : ℕ → Purse → Purse
+-- the allowance of a transfer that may still be repeated v times
+abbrev waiting : ℕ → Allowance → Allowance
 waiting v κ = record { due = suc (κ .due); room = suc v + κ .room; xres = κ .xres; lines = κ .lines }
 
-pub calm-event : {l : List LineEvent} → CalmLine l → (eventOf l) .fate ≡ clean
+pub calm-event : {l : List LineEvent} → CalmLine l → (nextEvent l) .outcome ≡ clean
 calm-event calmEnd = refl
 calm-event (calmEvent h c) = h
 
@@ -73,7 +73,7 @@ module _ {i : Image} (f : Frame i) where
   -- the run after an OK with the word x
   abbrev pub okayed : (s : ℕ) → Request → Purpose → Entry → (n p a k x : ℕ) → Target → Watch → Env → Run
   okayed s q u y n p a k x b t e = record {
-    session = settled (judge i u p k x) y n s a (e .traffic .transfers);
+    session = judgedTo (judge i u p k x) y n s a (e .traffic .transfers);
     target = b;
     lists = e .lists;
     monitor = noticed (i .geometry) q x p a t (e .delays);
@@ -81,9 +81,9 @@ module _ {i : Image} (f : Frame i) where
   }
 
   abbrev metBy : Request → Target → Env → Met
-  metBy q b e = transferred (i .geometry) q (eventOf (e .lists .line)) (e .lists) b
+  metBy q b e = transferred (i .geometry) q (nextEvent (e .lists .line)) (e .lists) b
 
-  arrives : {q : Request} → Plain q → {s : ℕ} {u : Purpose} {y : Entry} {n : ℕ} {ms : List Move} {κ : Purse} {e : Env} (w p a k : ℕ) (b : Target) (t : Watch)
+  arrives : {q : Request} → Plain q → {s : ℕ} {u : Purpose} {y : Entry} {n : ℕ} {ms : List Move} {κ : Allowance} {e : Env} (w p a k : ℕ) (b : Target) (t : Watch)
       → Stood f y n (move s q u ∷ ms) κ e
       → advance i (sync y n w p a k b t e) ≡ onward s q u y n w p a k ((metBy q b e) .target) t ((metBy q b e) .lists) (verdict q ((metBy q b e) .answer)) e
   unfolding advance stepOf watch
@@ -94,25 +94,25 @@ module _ {i : Image} (f : Frame i) where
   arrives (aSelect {w = v}) {e = e} w p a k b t st = rw (at-move st, meets (i .geometry) (plain (aSelect {w = v})) (e .lists) b)
   arrives (aCsw {w = v}) {e = e} w p a k b t st = rw (at-move st, meets (i .geometry) (plain (aCsw {w = v})) (e .lists) b)
 
-  bounded : {q : Request} → Plain q → {s : ℕ} {u : Purpose} {y : Entry} {n : ℕ} {ms : List Move} (v : ℕ) (κ : Purse) {e : Env} (w p a k : ℕ) (b : Target) (t : Watch)
+  bounded : {q : Request} → Plain q → {s : ℕ} {u : Purpose} {y : Entry} {n : ℕ} {ms : List Move} (v : ℕ) (κ : Allowance) {e : Env} (w p a k : ℕ) (b : Target) (t : Watch)
       → Stood f y n (move s q u ∷ ms) (waiting v κ) e → Bounded f (handedOut i (sync y n w p a k b t e))
   bounded h v κ {e} w p a k b t st =
       rw (at-move st, counts h (e .traffic)) (record { transfers = omega (arith, st .room); xresets = omega (arith, st .xres); lineResets = omega (arith, st .lines) })
 
   -- one exchange: `onWait` is where a WAIT leads to
-  once : {q : Request} → Plain q → {s : ℕ} {u : Purpose} {y : Entry} {n : ℕ} {ms : List Move} (v : ℕ) {κ : Purse} {e : Env} (w p a k : ℕ) (b : Target) (t : Watch)
-      → Stood f y n (move s q u ∷ ms) (waiting v κ) e → dead b ≡ false → barred (i .geometry) q b ≡ false
-      → f .Safe (b .memory) → ((o : ℕ) → f .Safe ((carry (i .geometry) q o (outcomeOf (e .lists .calls)) b) .memory))
+  once : {q : Request} → Plain q → {s : ℕ} {u : Purpose} {y : Entry} {n : ℕ} {ms : List Move} (v : ℕ) {κ : Allowance} {e : Env} (w p a k : ℕ) (b : Target) (t : Watch)
+      → Stood f y n (move s q u ∷ ms) (waiting v κ) e → killed b ≡ false → barred (i .geometry) q b ≡ false
+      → f .Safe (b .memory) → ((o : ℕ) → f .Safe ((carry (i .geometry) q o (nextOutcome (e .lists .calls)) b) .memory))
       → (onWait : (f .Still → ⊥) → Reaches f (onward s q u y n w p a k b t (record { line = rest (e .lists .line); calls = e .lists .calls }) again e))
       → (next : (o : ℕ) → Stood f y (suc n) ms κ (passed (listsAfter (i .geometry) q b (e .lists)) e)
-      → Reaches f (okayed s q u y n p a k (gives q b) (carry (i .geometry) q o (outcomeOf (e .lists .calls)) b) t (passed (listsAfter (i .geometry) q b (e .lists)) e)))
+      → Reaches f (okayed s q u y n p a k (gives q b) (carry (i .geometry) q o (nextOutcome (e .lists .calls)) b) t (passed (listsAfter (i .geometry) q b (e .lists)) e)))
       → Reaches f (sync y n w p a k b t e)
-  once {q} h {s} {u} {y} {n} {ms} v {κ} {e} w p a k b t st alive free safe safe′ onWait next =
+  once {q} h {s} {u} {y} {n} {ms} v {κ} {e} w p a k b t st not-killed free safe safe′ onWait next =
       steps f (sync y n w p a k b t e) met refl safe (bounded h v κ w p a k b t st) (clear w p a t (e .delays)) (arrives h w p a k b t st)
-      (by (hears (i .geometry) (e .lists) b (plain h) (eventOf (e .lists .line)) alive free))
+      (by (hears (i .geometry) (e .lists) b (plain h) (nextEvent (e .lists .line)) not-killed free))
     where
-      blame : ((eventOf (e .lists .line)) .fate ≡ clean → ⊥) → f .Still → ⊥
-      blame bad still = bad (calm-event ((st .calm still) .line))
+      not-calm : ((nextEvent (e .lists .line)) .outcome ≡ clean → ⊥) → f .Still → ⊥
+      not-calm bad still = bad (calm-event ((st .calm still) .line))
 
       met : Run
       met = onward s q u y n w p a k ((metBy q b e) .target) t ((metBy q b e) .lists) (verdict q ((metBy q b e) .answer)) e
@@ -120,7 +120,7 @@ module _ {i : Image} (f : Frame i) where
       stood : Stood f y (suc n) ms κ (passed (listsAfter (i .geometry) q b (e .lists)) e)
       stood = record {
         at = at-next st;
-        spent = omega (arith, st .spent);
+        accounted = omega (arith, st .accounted);
         room = omega (arith, st .room);
         xres = st .xres;
         lines = st .lines;
@@ -129,38 +129,38 @@ module _ {i : Image} (f : Frame i) where
             record { line = calm-rest (c .line); calls = calm-cond (callsOn (i .geometry) q b) (c .calls); none = c .none };
       }
 
-      by : Heard (i .geometry) q (eventOf (e .lists .line)) (e .lists) b (metBy q b e) → Reaches f met
-      by (well hb hv hl) = rw (hb, hv, hl) (next ((eventOf (e .lists .line)) .other) stood)
-      by (held bad hb hv hl) = rw (hb, hv, hl) (onWait (blame bad))
-      by (ill c hn bad hb hv) = rw (hb, hv) (stop (f .caught c s b _ (more (e .traffic)) hn (blame bad) safe))
-      by (illDone c hn bad hb hv) = rw (hb, hv) (stop (f .caught c s _ _ (more (e .traffic)) hn (blame bad) (safe′ ((eventOf (e .lists .line)) .other))))
+      by : Heard (i .geometry) q (nextEvent (e .lists .line)) (e .lists) b (metBy q b e) → Reaches f met
+      by (heardOkay hb hv hl) = rw (hb, hv, hl) (next ((nextEvent (e .lists .line)) .other) stood)
+      by (heardWait bad hb hv hl) = rw (hb, hv, hl) (onWait (not-calm bad))
+      by (heardError c hn bad hb hv) = rw (hb, hv) (stop (f .caught c s b _ (more (e .traffic)) hn (not-calm bad) safe))
+      by (heardErrorDone c hn bad hb hv) = rw (hb, hv) (stop (f .caught c s _ _ (more (e .traffic)) hn (not-calm bad) (safe′ ((nextEvent (e .lists .line)) .other))))
 
   -- v more repeats are allowed
-  transfer-from : (v : ℕ) {q : Request} → Plain q → {s : ℕ} {u : Purpose} {y : Entry} {n : ℕ} {ms : List Move} {κ : Purse} (e : Env) (w p a k : ℕ) (b : Target) (t : Watch)
+  transfer-from : (v : ℕ) {q : Request} → Plain q → {s : ℕ} {u : Purpose} {y : Entry} {n : ℕ} {ms : List Move} {κ : Allowance} (e : Env) (w p a k : ℕ) (b : Target) (t : Watch)
       → w + v ≡ 16
-      → Stood f y n (move s q u ∷ ms) (waiting v κ) e → dead b ≡ false → barred (i .geometry) q b ≡ false
-      → f .Safe (b .memory) → ((o : ℕ) → f .Safe ((carry (i .geometry) q o (outcomeOf (e .lists .calls)) b) .memory))
+      → Stood f y n (move s q u ∷ ms) (waiting v κ) e → killed b ≡ false → barred (i .geometry) q b ≡ false
+      → f .Safe (b .memory) → ((o : ℕ) → f .Safe ((carry (i .geometry) q o (nextOutcome (e .lists .calls)) b) .memory))
       → (next : (o : ℕ) (e′ : Env) → e′ .lists .calls ≡ cond (callsOn (i .geometry) q b) (rest (e .lists .calls)) (e .lists .calls) → Stood f y (suc n) ms κ e′
-      → Reaches f (okayed s q u y n p a k (gives q b) (carry (i .geometry) q o (outcomeOf (e .lists .calls)) b) t e′))
+      → Reaches f (okayed s q u y n p a k (gives q b) (carry (i .geometry) q o (nextOutcome (e .lists .calls)) b) t e′))
       → Reaches f (sync y n w p a k b t e)
-  transfer-from zero h {s = s} e w p a k b t count st alive free safe safe′ next =
-      once h 0 w p a k b t st alive free safe safe′
+  transfer-from zero h {s = s} e w p a k b t count st not-killed free safe safe′ next =
+      once h 0 w p a k b t st not-killed free safe safe′
       (λ bad. rw (le-ltb w 16 (omega arith)) (stop (f .caught 27 s b _ (more (e .traffic)) (lit≤ tt) bad safe)))
       (λ o st′. next o _ refl st′)
-  transfer-from (suc v) h {κ = κ} e w p a k b t count st alive free safe safe′ next =
-      once h (suc v) w p a k b t st alive free safe safe′
+  transfer-from (suc v) h {κ = κ} e w p a k b t count st not-killed free safe safe′ next =
+      once h (suc v) w p a k b t st not-killed free safe safe′
       (λ bad. rw (lt-ltb w 16 (omega arith))
       (transfer-from v h (record { lists = record { line = rest (e .lists .line); calls = e .lists .calls }; delays = oneWait (e .delays); traffic = more (e .traffic) })
       (suc w) p a k b t (omega arith)
-      (record { at = st .at; spent = omega (arith, st .spent); room = omega (arith, st .room); xres = st .xres; lines = st .lines; calm = λ still. absurd (bad still) })
-      alive free safe safe′ next))
+      (record { at = st .at; accounted = omega (arith, st .accounted); room = omega (arith, st .room); xres = st .xres; lines = st .lines; calm = λ still. absurd (bad still) })
+      not-killed free safe safe′ next))
       (λ o st′. next o _ refl st′)
 
   -- any transfer outside the attempts
-  pub transfer : {q : Request} → Plain q → {s : ℕ} {u : Purpose} {y : Entry} {n : ℕ} {ms : List Move} {κ : Purse} {e : Env} {p a k : ℕ} {b : Target} {t : Watch}
-      → Stood f y n (move s q u ∷ ms) (spend κ) e → dead b ≡ false → barred (i .geometry) q b ≡ false
-      → f .Safe (b .memory) → ((o : ℕ) → f .Safe ((carry (i .geometry) q o (outcomeOf (e .lists .calls)) b) .memory))
+  pub transfer : {q : Request} → Plain q → {s : ℕ} {u : Purpose} {y : Entry} {n : ℕ} {ms : List Move} {κ : Allowance} {e : Env} {p a k : ℕ} {b : Target} {t : Watch}
+      → Stood f y n (move s q u ∷ ms) (withTransfer κ) e → killed b ≡ false → barred (i .geometry) q b ≡ false
+      → f .Safe (b .memory) → ((o : ℕ) → f .Safe ((carry (i .geometry) q o (nextOutcome (e .lists .calls)) b) .memory))
       → (next : (o : ℕ) (e′ : Env) → e′ .lists .calls ≡ cond (callsOn (i .geometry) q b) (rest (e .lists .calls)) (e .lists .calls) → Stood f y (suc n) ms κ e′
-      → Reaches f (okayed s q u y n p a k (gives q b) (carry (i .geometry) q o (outcomeOf (e .lists .calls)) b) t e′))
+      → Reaches f (okayed s q u y n p a k (gives q b) (carry (i .geometry) q o (nextOutcome (e .lists .calls)) b) t e′))
       → Reaches f (sync y n 0 p a k b t e)
-  transfer h {e = e} st alive free safe safe′ next = transfer-from 16 h e 0 _ _ _ _ _ refl st alive free safe safe′ next
+  transfer h {e = e} st not-killed free safe safe′ next = transfer-from 16 h e 0 _ _ _ _ _ refl st not-killed free safe safe′ next

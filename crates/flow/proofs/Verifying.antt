@@ -8,10 +8,10 @@ use native.Mathlib.Omega.{arith}
 use lib.Dec.{eqb}
 use borrow.Author.Tests.{eq-eqb}
 use Rattle.flow.specs.Exchange.{levelWord}
-use Rattle.flow.specs.Judge.{judge, storedIn}
+use Rattle.flow.specs.Judge.{judge, levelShown}
 use Rattle.flow.specs.Map.{inFlash, inLocks, atLevel, place}
 use Rattle.flow.specs.Monitor.{noticeRead}
-use Rattle.flow.specs.Sequence.{read, pieces, compareWord, verifyFlash, lockStart, verifyMacro}
+use Rattle.flow.specs.Sequence.{read, inTurn, compareWord, verifyFlash, lockStart, verifyMacro}
 use Rattle.flow.specs.Target.{Target}
 use Rattle.flow.specs.declared.Entry.{Entry}
 use Rattle.flow.specs.declared.Move.{Move}
@@ -21,7 +21,7 @@ use Rattle.flow.proofs.Legs.{Core, core, Known, Leg, leg-pieces}
 use Rattle.flow.proofs.Phases.{Level, isOpen, isProtected, isKill, Valid, Wrote, Locked, level-safe, wrote-all, locked-all, last-level}
 use Rattle.flow.proofs.Places.{place-flash, place-locks, place-level}
 use Rattle.flow.proofs.Polling.{idleAt}
-use Rattle.flow.proofs.Reaches.{Purse, pay, Env, sync, Frame, Stood, Stands, Reaches}
+use Rattle.flow.proofs.Reaches.{Allowance, withMoves, Env, sync, Frame, Stood, Stands, Reaches}
 use Rattle.flow.proofs.Table.{Facts}
 use Rattle.image.specs.Image.{Image}
 use Rattle.image.specs.Words.{wordAt}
@@ -33,18 +33,18 @@ pub data Holds (g : Geometry) (c : Core) (a w : ℕ) : Type 0 where
   flashHolds : (o : ℕ) → place g a ≡ inFlash o → wordAt (c .memory .flash) o ≡ w → Holds g c a w
   locksHold : (o : ℕ) → place g a ≡ inLocks o → wordAt (c .memory .locks) o ≡ w → Holds g c a w
 
-level-read : {l : ℕ} → Level l → (o : ℕ) → eqb (storedIn (levelWord l o)) l ≡ true
-unfolding storedIn
+level-read : {l : ℕ} → Level l → (o : ℕ) → eqb (levelShown (levelWord l o)) l ≡ true
+unfolding levelShown
 level-read isOpen o = let e : (o / 268435456 * 268435456 + 0 * 16777216 + o % 16777216) / 16777216 % 16 ≡ 0 = omega arith in rw e
 level-read isProtected o = let e : (o / 268435456 * 268435456 + 2 * 16777216 + o % 16777216) / 16777216 % 16 ≡ 2 = omega arith in rw e
 level-read isKill o = let e : (o / 268435456 * 268435456 + 4 * 16777216 + o % 16777216) / 16777216 % 16 ≡ 4 = omega arith in rw e
 
 module _ {i : Image} (f : Frame i) (y : Entry) where
-  word-reaches : (s z a w : ℕ) {n x k : ℕ} {later : List Move} {κ : Purse} {e : Env} {b : Target} → Holds (i .geometry) (core b) a w → b .effect ≡ 1 → f .Safe (b .memory)
+  word-reaches : (s z a w : ℕ) {n x k : ℕ} {later : List Move} {κ : Allowance} {e : Env} {b : Target} → Holds (i .geometry) (core b) a w → b .effect ≡ 1 → f .Safe (b .memory)
       → Stands f y n (read s a (Same w z)) later κ e
       → (next : (n′ : ℕ) (e′ : Env) → Stood f y n′ later κ e′ → Reaches f (sync y n′ 0 0 0 k (aim a w b) (idleAt a) e′))
       → Reaches f (sync y n 0 0 0 k b (idleAt x) e)
-  unfolding judge noticeRead pay read
+  unfolding judge noticeRead withMoves read
   word-reaches s z a w {b = b} (flashHolds o hp hw) he safe st next =
       read-still f s a (Same w z) st (inFlash o) hp (admits-open (b .effect) (inFlash o) he) safe (λ _. w) (λ _ _. rw hw) λ _ _ e′ h st′.
       rw (eq-eqb w w refl) (next _ e′ st′)
@@ -88,11 +88,11 @@ module _ {i : Image} (f : Frame i) (y : Entry) where
             (λ k c p. locksHold (lockStart (i .geometry) m + 4 * j) (place-locks (i .geometry) fx _ m (4 * j) refl hm (omega (arith, fx .lockQuads m))) (rw (locked-all v fx p)))
             (λ k c p. p .opened .effect) (λ k c p. level-safe f (macrosOf (i .geometry)) (c .memory) (p .level))
 
-    pub locks-leg : Leg f y (pieces (verifyMacro i) 0 (macrosOf (i .geometry))) (Locked f (macrosOf (i .geometry))) (Locked f (macrosOf (i .geometry)))
+    pub locks-leg : Leg f y (inTurn (verifyMacro i) 0 (macrosOf (i .geometry))) (Locked f (macrosOf (i .geometry))) (Locked f (macrosOf (i .geometry)))
     locks-leg = leg-pieces f y (verifyMacro i) (λ m. Locked f (macrosOf (i .geometry))) _ macro-leg (macrosOf (i .geometry)) 0 (omega arith)
 
     pub level-leg : Leg f y (read 8 (levelAt (i .geometry)) StoredLevel) (Locked f (macrosOf (i .geometry))) (Locked f (macrosOf (i .geometry)))
-    unfolding judge noticeRead pay read
+    unfolding judge noticeRead withMoves read
     level-leg = record {
       along = λ n x k later κ e b p st next.
           read-still f 8 (levelAt (i .geometry)) StoredLevel st atLevel (place-level (i .geometry) fx) (admits-open (b .effect) atLevel (p .opened .effect))

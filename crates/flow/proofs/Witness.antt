@@ -12,10 +12,10 @@ use lib.Seq.{getD-take, getD-drop}
 use borrow.Author.Tests.{eq-eqb, ltb-true, ltb-false}
 use Rattle.flow.specs.Claim.{Passes, Startable, RightPart, calmEnd, callsEnd, entryOf, Achieved}
 use Rattle.flow.specs.Plan.{mostTraffic}
-use Rattle.flow.specs.Run.{after, started}
+use Rattle.flow.specs.Run.{runAfter, started}
 use Rattle.flow.specs.Session.{reported}
 use Rattle.flow.specs.Target.{Target, idle}
-use Rattle.flow.proofs.Demand.{demand3-holds}
+use Rattle.flow.proofs.Demand.{run-demand3-holds}
 use Rattle.image.specs.Checks.{imageIdFits, rowWords, cancels, someCancels, faultIn}
 use Rattle.image.specs.Image.{imageOf, flashIn}
 use Rattle.image.specs.Refusals.{firstRefusal}
@@ -149,10 +149,10 @@ module _ (g : Geometry) (s : Listed g) (level : ℕ) (lv : (level ≡ 1) ⊎ (le
       let i = imageOf g (headerFor g) erased in
       let most = mostTraffic g (entryOf target) in
       let n = most .transfers + most .xresets + most .lineResets in
-      let d = demand3-holds g (headerFor g) erased passes target startable (record { line = []; calls = [] }) n in
+      let d = run-demand3-holds g (headerFor g) erased passes target startable (record { line = []; calls = [] }) n in
       let r = d .comes (le-refl n) in
       let c = d .calm (record { line = calmEnd; calls = callsEnd }) right (r .number) (r .step) (r .sent) (r .is) in
-      let zero-is : (after i n (started target (record { line = []; calls = [] }))) .session ≡ reported 0 (r .step) (r .sent) = r .is ∙ rw (c .0) in
+      let zero-is : (runAfter i n (started target (record { line = []; calls = [] }))) .session ≡ reported 0 (r .step) (r .sent) = r .is ∙ rw (c .0) in
       let nine : r .step ≡ 9 = (d .done (r .step) (r .sent) zero-is) .atEnd in
       record {
         header = headerFor g;

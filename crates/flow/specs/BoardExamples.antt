@@ -4,11 +4,11 @@ use mathlib.Core.List.{List, [], _∷_}
 use mathlib.Core.Path.{_≡_}
 use Prim.Native.Nat.{ℕ, _+_, _-_, _*_}
 use Rattle.flow.specs.Calls.{finish}
-use Rattle.flow.specs.Examples.{onePart}
+use Rattle.flow.specs.Examples.{partOne}
 use Rattle.flow.specs.Exchange.{Met, meet, decode, known, unknown}
 use Rattle.flow.specs.Mishaps.{answer, okayWith, SYSREQ, SYSARG}
 use Rattle.flow.specs.Packets.{packetOf}
-use Rattle.flow.specs.Target.{Memory, Residue, CallOutcome, Running, idle, busy, Target, Fate, clean, waits, faults, garbles, silent, LineEvent, Lists}
+use Rattle.flow.specs.Target.{Memory, Residue, CallOutcome, Running, idle, busy, Target, TransferOutcome, clean, waits, faults, wrongParity, silent, LineEvent, Lists}
 use Rattle.flow.specs.declared.Answer.{Answer}
 use Rattle.flow.specs.declared.Answer.the-variants.{ResetDone}
 use Rattle.flow.specs.declared.Packet.the-variants as Packets
@@ -53,8 +53,8 @@ abbrev pub none : Lists
 none = record { line = []; calls = [] }
 
 -- one event, with a word, a parity bit and an acknowledgement where these are free, and a word for elsewhere
-abbrev pub onLine : Fate → Lists
-onLine f = record { line = record { fate = f; junk = record { ack = 7; word = 0; parity = 1 }; other = 0xFEDCBA98 } ∷ []; calls = [] }
+abbrev pub onLine : TransferOutcome → Lists
+onLine f = record { line = record { outcome = f; filler = record { ack = 7; word = 0; parity = 1 }; other = 0xFEDCBA98 } ∷ []; calls = [] }
 
 -- what a failed call leaves: these bytes, this SYSARG, and the level sent or not
 abbrev pub residue : (sysarg : ℕ) → (newLevel : Bool) → Residue
@@ -71,15 +71,15 @@ abbrev pub becomes : Target → Answer → Met
 becomes b r = record { target = b; answer = r; lists = none }
 
 abbrev pub after : Request → Lists → Target → Met
-after q l b = meet onePart (packetOf q) l b
+after q l b = meet partOne (packetOf q) l b
 
 -- 'A DRW read gives the posted word, then posts the word at TAR', and what an event makes of a transfer
 pub record TransferExamples : Type 0 where
   pub idcode : after ReadIdcode none (board 1 0 7) ≡ becomes (board 1 0 7) (okayWith 0x0BB11477)
   -- 'flash, locks, the stored level as step 8 reads it, registers, PARAMS, elsewhere any word'
   pub flash : after ReadDrw none (board 1 0 7) ≡ becomes (board 1 0 0x04030201) (okayWith 7)
-  pub locks : after ReadDrw none (board 1 (locksAt onePart 0) 7) ≡ becomes (board 1 (locksAt onePart 0) 0x08070605) (okayWith 7)
-  pub level : after ReadDrw (onLine clean) (board 1 (levelAt onePart) 7) ≡ becomes (board 1 (levelAt onePart) 0xF0DCBA98) (okayWith 7)
+  pub locks : after ReadDrw none (board 1 (locksAt partOne 0) 7) ≡ becomes (board 1 (locksAt partOne 0) 0x08070605) (okayWith 7)
+  pub level : after ReadDrw (onLine clean) (board 1 (levelAt partOne) 7) ≡ becomes (board 1 (levelAt partOne) 0xF0DCBA98) (okayWith 7)
   pub sysarg : after ReadDrw none (board 1 SYSARG 7) ≡ becomes (board 1 SYSARG 0x51) (okayWith 7)
   pub sysreq : after ReadDrw none (board 1 SYSREQ 7) ≡ becomes (board 1 SYSREQ 0x52) (okayWith 7)
   pub testMode : after ReadDrw none (board 1 TEST-MODE 7) ≡ becomes (board 1 TEST-MODE 0x80000000) (okayWith 7)
@@ -90,21 +90,21 @@ pub record TransferExamples : Type 0 where
   pub storesParams : after (WriteDrw 5) none (board 1 (PARAMS + 8) 7)
       ≡ becomes (withParams 1 (PARAMS + 8) 7 (0x61 ∷ 0x62 ∷ 5 ∷ [])) (answer 1 0 0)
   pub storesFlash : after (WriteDrw 5) (onLine clean) (board 1 0 7) ≡ becomes (board 1 0 7) (answer 1 0 1)
-  pub storesLocks : after (WriteDrw 5) none (board 1 (locksAt onePart 0) 7) ≡ becomes (board 1 (locksAt onePart 0) 7) (answer 1 0 0)
-  pub storesLevel : after (WriteDrw 5) none (board 1 (levelAt onePart) 7) ≡ becomes (board 1 (levelAt onePart) 7) (answer 1 0 0)
+  pub storesLocks : after (WriteDrw 5) none (board 1 (locksAt partOne 0) 7) ≡ becomes (board 1 (locksAt partOne 0) 7) (answer 1 0 0)
+  pub storesLevel : after (WriteDrw 5) none (board 1 (levelAt partOne) 7) ≡ becomes (board 1 (levelAt partOne) 7) (answer 1 0 0)
   -- 'OK; WAIT or FAULT, not carried out; silence, carried out or not; wrong parity on a read, carried out'
   pub waited : after ReadDrw (onLine waits) (board 1 0 7) ≡ becomes (board 1 0 7) (answer 2 0 1)
   pub faulted : after ReadDrw (onLine faults) (board 1 0 7) ≡ becomes (board 1 0 7) (answer 4 0 1)
   pub silentDone : after ReadDrw (onLine (silent true)) (board 1 0 7) ≡ becomes (board 1 0 0x04030201) (answer 7 0 1)
   pub silentNot : after ReadDrw (onLine (silent false)) (board 1 0 7) ≡ becomes (board 1 0 7) (answer 7 0 1)
-  pub garbled : after ReadDrw (onLine garbles) (board 1 0 7) ≡ becomes (board 1 0 0x04030201) (answer 1 0 (1 - parity 0))
-  pub garbledWrite : after (WriteTar 4) (onLine garbles) (board 1 0 7) ≡ becomes (board 1 4 7) (answer 1 0 1)
+  pub garbled : after ReadDrw (onLine wrongParity) (board 1 0 7) ≡ becomes (board 1 0 0x04030201) (answer 1 0 (1 - parity 0))
+  pub garbledWrite : after (WriteTar 4) (onLine wrongParity) (board 1 0 7) ≡ becomes (board 1 4 7) (answer 1 0 1)
   -- 'PROTECTED in effect answers FAULT for flash and PARAMS; KILL is silent.'
   pub protectedFlash : after ReadDrw (onLine clean) (board 2 0 7) ≡ becomes (board 2 0 7) (answer 4 0 1)
   pub protectedParams : after (WriteDrw 5) (onLine clean) (board 2 PARAMS 7) ≡ becomes (board 2 PARAMS 7) (answer 4 0 1)
   pub protectedSilent : after ReadDrw (onLine (silent true)) (board 2 0 7) ≡ becomes (board 2 0 7) (answer 7 0 1)
-  pub protectedGarbled : after ReadDrw (onLine garbles) (board 2 0 7) ≡ becomes (board 2 0 7) (answer 4 0 1)
-  pub protectedLocks : after ReadDrw none (board 2 (locksAt onePart 0) 7) ≡ becomes (board 2 (locksAt onePart 0) 0x08070605) (okayWith 7)
+  pub protectedGarbled : after ReadDrw (onLine wrongParity) (board 2 0 7) ≡ becomes (board 2 0 7) (answer 4 0 1)
+  pub protectedLocks : after ReadDrw none (board 2 (locksAt partOne 0) 7) ≡ becomes (board 2 (locksAt partOne 0) 0x08070605) (okayWith 7)
   pub protectedTar : after (WriteTar 0) none (board 2 4 7) ≡ becomes (board 2 0 7) (answer 1 0 0)
   pub killed : after (WriteTar 4) (onLine clean) (board 4 0 7) ≡ becomes (board 4 0 7) (answer 7 0 1)
   pub killedIdcode : after ReadIdcode none (board 4 0 7) ≡ becomes (board 4 0 7) (answer 0 0 0)
@@ -122,7 +122,7 @@ pub record PacketExamples : Type 0 where
   pub notRead : decode (Packets.Read 0x8B) ≡ unknown
   -- a write whose parity bit is not its word's
   pub wordParity : decode (Packets.Write 0x8B 3 1) ≡ unknown
-  pub met : meet onePart (Packets.Write 0x8B 3 1) (onLine clean) (board 1 0 7) ≡ becomes (board 1 0 7) (answer 7 0 1)
+  pub met : meet partOne (Packets.Write 0x8B 3 1) (onLine clean) (board 1 0 7) ≡ becomes (board 1 0 7) (answer 7 0 1)
 
 -- 'XRES puts the stored level in effect, clears SYSREQ and drops a running call as failed.'
 pub record ResetExamples : Type 0 where
@@ -139,10 +139,10 @@ pub record ResetExamples : Type 0 where
 
 -- call c on a board with this level in effect, this word in SYSARG and these words from PARAMS on
 abbrev pub succeeding : (c effect sysarg : ℕ) → List ℕ → Target
-succeeding c e a ps = finish onePart true (residue 0 false) c (boardWith (small 2) e SYSREQ 7 a (0x80000000 + c) ps (busy 0 true (residue 0 false) c))
+succeeding c e a ps = finish partOne true (residue 0 false) c (boardWith (small 2) e SYSREQ 7 a (0x80000000 + c) ps (busy 0 true (residue 0 false) c))
 
 abbrev pub failing : (c sysarg : ℕ) → Residue → Target
-failing c a r = finish onePart false r c (boardWith (small 1) 1 SYSREQ 7 a (0x80000000 + c) [] (busy 0 false r c))
+failing c a r = finish partOne false r c (boardWith (small 1) 1 SYSREQ 7 a (0x80000000 + c) [] (busy 0 false r c))
 
 -- a call from its write of SYSREQ to what it leaves; the keys of the words are not looked at
 pub record CallExamples : Type 0 where

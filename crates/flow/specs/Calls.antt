@@ -85,8 +85,8 @@ abbrev pub failedArg : ℕ → ℕ
 failedArg w = cond (eqb (w / 268435456 % 16) 0xA) 0 w
 
 -- 'and, unless it is 0, 0x0B or 0x15, any flash, locks and latch; a failed 0x0D on macro 0 stores the old level or the one sent'
-unfoldable pub leftBy : (c arg : ℕ) → Residue → Memory → Memory
-leftBy c arg r m =
+unfoldable pub afterFailure : (c arg : ℕ) → Residue → Memory → Memory
+afterFailure c arg r m =
     cond (eqb c 0 || eqb c 0x0B || eqb c 0x15) m
     (record {
       flash = sized (m .flash) (r .flash);
@@ -107,7 +107,7 @@ finish g true r c b =
     (sysargAfter c (b .silicon) (b .memory))
     (sysreqAfter c (b .silicon) (b .effect))
     b
-finish g false r c b = setEnded (leftBy c (b .sysarg) r (b .memory)) (failedArg (r .sysarg)) 0 b
+finish g false r c b = setEnded (afterFailure c (b .sysarg) r (b .memory)) (failedArg (r .sysarg)) 0 b
 
 -- 'XRES puts the stored level in effect, clears SYSREQ and drops a running call as failed.'
 abbrev pub dropped : Geometry → Running → Target → Target

@@ -7,7 +7,7 @@ use Prim.Native.Nat.{ℕ, _+_, _/_, _≤_, _<_}
 use lib.Dec.{eqb}
 use lib.ListN.{length, getD}
 use Rattle.flow.specs.Plan.{plan, mostTraffic}
-use Rattle.flow.specs.Run.{Run, after, started, handedOut}
+use Rattle.flow.specs.Run.{Run, runAfter, started, handedOut}
 use Rattle.flow.specs.Session.{running, reported}
 use Rattle.flow.specs.Target.{Target, Silicon, idle, clean, LineEvent, CallOutcome, Lists}
 use Rattle.flow.specs.Monitor.{Monitor, watching, linkError, delayed}
@@ -54,7 +54,7 @@ NoError m = (number : ℕ) → ¬ (m ≡ linkError number)
 -- free lists without mishap and without delay
 pub data CalmLine : List LineEvent → Type 0 where
   calmEnd : CalmLine []
-  calmEvent : {e : LineEvent} {es : List LineEvent} → e .fate ≡ clean → CalmLine es → CalmLine (e ∷ es)
+  calmEvent : {e : LineEvent} {es : List LineEvent} → e .outcome ≡ clean → CalmLine es → CalmLine (e ∷ es)
 
 pub data CalmCalls : List CallOutcome → Type 0 where
   callsEnd : CalmCalls []
@@ -73,7 +73,7 @@ delaysIn (watching w p a t d) = delayed d
 delaysIn (linkError n) = 0
 
 -- the image i, the target b and the lists l at the start; the run r after n steps
-pub record Demand3 (i : Image) (b : Target) (l : Lists) (n : ℕ) (r : Run) : Type 0 where
+pub record RunDemand3 (i : Image) (b : Target) (l : Lists) (n : ℕ) (r : Run) : Type 0 where
   -- 'it isn't in VIRGIN after any such list'
   pub neverVirgin : ¬ (r .target .memory .stored ≡ 0)
   -- 'no list of demand 3 hands out more than the count', the standing request included
@@ -105,10 +105,10 @@ pub record Demand3 (i : Image) (b : Target) (l : Lists) (n : ℕ) (r : Run) : Ty
       → (number ≡ 0) × (sent ≡ plan (i .geometry) (entryOf b))
 
 -- for every image that passes, every target that may start, all that is free in both lists, and every number of steps
-abbrev pub Demand3Holds : Type 0
-Demand3Holds =
+abbrev pub RunDemand3Holds : Type 0
+RunDemand3Holds =
     (g : Geometry) (h : Header) (bytes : List ℕ) → Passes g h bytes → (b : Target) → Startable g b → (l : Lists) (n : ℕ)
-    → Demand3 (imageOf g h bytes) b l n (after (imageOf g h bytes) n (started b l))
+    → RunDemand3 (imageOf g h bytes) b l n (runAfter (imageOf g h bytes) n (started b l))
 
 -- the entries that were used: what the lists have lost
 pub record Used (l left : Lists) : Type 0 where
@@ -117,17 +117,17 @@ pub record Used (l left : Lists) : Type 0 where
   pub lineIs : l .line ≡ line ++ left .line
   pub callsIs : l .calls ≡ calls ++ left .calls
 
--- a mishap, or another report than done on the right part, has an entry to blame that was used and was not OK
-pub record Blameless (i : Image) (b : Target) (r : Run) : Type 0 where
+-- where the entries that were used are calm: no mishap, and the right part is done with exactly the plan
+pub record Undisturbed (i : Image) (b : Target) (r : Run) : Type 0 where
   pub clean : NoError (r .monitor)
   pub done : RightPart i (b .silicon) → (number step sent : ℕ) → r .session ≡ reported number step sent
       → (number ≡ 0) × (sent ≡ plan (i .geometry) (entryOf b))
 
-abbrev pub BlameHolds : Type 0
-BlameHolds =
+abbrev pub UndisturbedHolds : Type 0
+UndisturbedHolds =
     (g : Geometry) (h : Header) (bytes : List ℕ) → Passes g h bytes → (b : Target) → Startable g b → (l : Lists) (n : ℕ)
-    → (u : Used l ((after (imageOf g h bytes) n (started b l)) .lists)) → Calm (record { line = u .line; calls = u .calls })
-    → Blameless (imageOf g h bytes) b (after (imageOf g h bytes) n (started b l))
+    → (u : Used l ((runAfter (imageOf g h bytes) n (started b l)) .lists)) → Calm (record { line = u .line; calls = u .calls })
+    → Undisturbed (imageOf g h bytes) b (runAfter (imageOf g h bytes) n (started b l))
 
 -- the hypotheses can be met, and done be reached: an image of the geometry, a right target with this level, lists that are empty
 pub record Achieved (g : Geometry) (level : ℕ) : Type 0 where
@@ -139,4 +139,4 @@ pub record Achieved (g : Geometry) (level : ℕ) : Type 0 where
   pub stored : target .memory .stored ≡ level
   pub right : RightPart (imageOf g header bytes) (target .silicon)
   pub steps : ℕ
-  pub done : (after (imageOf g header bytes) steps (started target (record { line = []; calls = [] }))) .session ≡ reported 0 9 (plan g (entryOf target))
+  pub done : (runAfter (imageOf g header bytes) steps (started target (record { line = []; calls = [] }))) .session ≡ reported 0 9 (plan g (entryOf target))

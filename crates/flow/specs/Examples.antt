@@ -12,8 +12,8 @@ use Rattle.parts.specs.Parts.{part1, part3}
 use Rattle.parts.specs.declared.Geometry.{Geometry}
 use Rattle.wire.specs.Examples.{Example, _gives_}
 
-abbrev pub onePart : Geometry
-onePart = record { part = part1; macros = 1 }
+abbrev pub partOne : Geometry
+partOne = record { part = part1; macros = 1 }
 
 abbrev pub twoMacros : Geometry
 twoMacros = record { part = part3; macros = 2 }
@@ -37,7 +37,7 @@ wordAtMove ms n = wordOf ((getD ms n endMove) .request)
 
 -- 'P5 sum word 0x8000DEB6.': the DRW write of step 4's call
 abbrev pub p5 : Example
-p5 = wordAtMove (privileged onePart 4 Keep) 1 gives 0x8000DEB6
+p5 = wordAtMove (privileged partOne 4 Keep) 1 gives 0x8000DEB6
 
 -- 'P6 program row 0x0123: 0x0123D9B6.': the DRW write of call 6's list, after the 78 transfers of call 4
 abbrev pub p6 : Example

@@ -7,7 +7,7 @@ use lib.ListN.{getD}
 use Rattle.flow.specs.Calls.{finish, reset}
 use Rattle.flow.specs.Map.{Place, inFlash, inLocks, inParams, atLevel, atSysreq, atSysarg, atTestMode, elsewhere, place}
 use Rattle.flow.specs.Packets.{isRead}
-use Rattle.flow.specs.Target.{Target, CallOutcome, Running, idle, busy, Fate, clean, waits, faults, garbles, silent, LineEvent, Lists, eventOf, outcomeOf, rest, lay, setTar, setPosted, setParams, setSysarg, setTestMode, setSysreq}
+use Rattle.flow.specs.Target.{Target, CallOutcome, Running, idle, busy, TransferOutcome, clean, waits, faults, wrongParity, silent, LineEvent, Lists, nextEvent, nextOutcome, rest, lay, setTar, setPosted, setParams, setSysarg, setTestMode, setSysreq}
 use Rattle.flow.specs.declared.Answer.{Answer}
 use Rattle.flow.specs.declared.Answer.the-variants.{ResetDone, Transferred}
 use Rattle.flow.specs.declared.Packet as Packets
@@ -134,8 +134,8 @@ unfoldable pub barred : Geometry → Request → Target → Bool
 barred g q b = eqb (b .effect) 2 && overDrw q && guarded (place g (b .tar))
 
 -- 'KILL is silent.'
-abbrev pub dead : Target → Bool
-dead b = eqb (b .effect) 4
+abbrev pub killed : Target → Bool
+killed b = eqb (b .effect) 4
 
 -- a call takes its entry when the write of SYSREQ with bit 31 is carried out
 abbrev pub isSysreq : Place → Bool
@@ -159,36 +159,36 @@ callsOn g (WriteSetup r w) b = false
 
 -- ---- answers
 
-abbrev pub saying : (ack : ℕ) → Reply → Reply
-saying n j = record { ack = n; word = j .word; parity = j .parity }
+abbrev pub replyWith : (ack : ℕ) → Reply → Reply
+replyWith n j = record { ack = n; word = j .word; parity = j .parity }
 
 -- the acknowledgement of a silence: any number but 1, 2 and 4
-abbrev pub silence : Reply → Reply
-silence j = saying (cond (eqb (j .ack) 1) 0 (cond (eqb (j .ack) 2) 0 (cond (eqb (j .ack) 4) 0 (j .ack)))) j
+abbrev pub silentReply : Reply → Reply
+silentReply j = replyWith (cond (eqb (j .ack) 1) 0 (cond (eqb (j .ack) 2) 0 (cond (eqb (j .ack) 4) 0 (j .ack)))) j
 
 -- OK: a read's word with its parity; on a write, word and parity are free
 abbrev pub okayReply : (reads : Bool) → (word : ℕ) → Reply → Reply
 okayReply true w j = record { ack = 1; word = w; parity = parity w }
-okayReply false w j = saying 1 j
+okayReply false w j = replyWith 1 j
 
 -- wrong parity: on a read any word with the other parity bit; on a write it is an OK
-abbrev pub garbledReply : (reads : Bool) → Reply → Reply
-garbledReply true j = record { ack = 1; word = j .word; parity = 1 - parity (j .word) }
-garbledReply false j = saying 1 j
+abbrev pub wrongParityReply : (reads : Bool) → Reply → Reply
+wrongParityReply true j = record { ack = 1; word = j .word; parity = 1 - parity (j .word) }
+wrongParityReply false j = replyWith 1 j
 
 -- the answer to a transfer that is not silenced by KILL
-abbrev pub replyTo : Fate → (bars : Bool) → (reads : Bool) → (word : ℕ) → Reply → Reply
-replyTo clean bars r w j = cond bars (saying 4 j) (okayReply r w j)
-replyTo waits bars r w j = saying 2 j
-replyTo faults bars r w j = saying 4 j
-replyTo garbles bars r w j = cond bars (saying 4 j) (garbledReply r j)
-replyTo (silent c) bars r w j = silence j
+abbrev pub replyTo : TransferOutcome → (bars : Bool) → (reads : Bool) → (word : ℕ) → Reply → Reply
+replyTo clean bars r w j = cond bars (replyWith 4 j) (okayReply r w j)
+replyTo waits bars r w j = replyWith 2 j
+replyTo faults bars r w j = replyWith 4 j
+replyTo wrongParity bars r w j = cond bars (replyWith 4 j) (wrongParityReply r j)
+replyTo (silent c) bars r w j = silentReply j
 
-abbrev pub carriedOut : Fate → Bool
+abbrev pub carriedOut : TransferOutcome → Bool
 carriedOut clean = true
 carriedOut waits = false
 carriedOut faults = false
-carriedOut garbles = true
+carriedOut wrongParity = true
 carriedOut (silent c) = c
 
 -- the target after a packet, its answer, and what is left of the lists
@@ -200,7 +200,7 @@ pub record Met : Type 0 where
 abbrev pub met : Bool → Geometry → Request → LineEvent → Lists → Reply → Target → Met
 met false g q e l a b = record { target = b; answer = Transferred a; lists = record { line = rest (l .line); calls = l .calls } }
 met true g q e l a b = record {
-  target = carry g q (e .other) (outcomeOf (l .calls)) b;
+  target = carry g q (e .other) (nextOutcome (l .calls)) b;
   answer = Transferred a;
   lists = record { line = rest (l .line); calls = cond (callsOn g q b) (rest (l .calls)) (l .calls) };
 }
@@ -208,21 +208,21 @@ met true g q e l a b = record {
 unfoldable pub transferred : Geometry → Request → LineEvent → Lists → Target → Met
 transferred g q e l b =
     met
-    (not (dead b) && not (barred g q b) && carriedOut (e .fate))
+    (not (killed b) && not (barred g q b) && carriedOut (e .outcome))
     g q e l
-    (cond (dead b) (silence (e .junk)) (replyTo (e .fate) (barred g q b) (isRead q) (gives q b) (e .junk)))
+    (cond (killed b) (silentReply (e .filler)) (replyTo (e .outcome) (barred g q b) (isRead q) (gives q b) (e .filler)))
     b
 
 abbrev pub meetOn : Geometry → Decoded → Lists → Target → Met
 meetOn g (known Xres) l b = record { target = reset g b; answer = ResetDone; lists = l }
 meetOn g (known LineReset) l b = record { target = b; answer = ResetDone; lists = l }
-meetOn g (known ReadIdcode) l b = transferred g ReadIdcode (eventOf (l .line)) l b
-meetOn g (known ReadDrw) l b = transferred g ReadDrw (eventOf (l .line)) l b
-meetOn g (known (WriteTar a)) l b = transferred g (WriteTar a) (eventOf (l .line)) l b
-meetOn g (known (WriteDrw w)) l b = transferred g (WriteDrw w) (eventOf (l .line)) l b
-meetOn g (known (WriteSetup r w)) l b = transferred g (WriteSetup r w) (eventOf (l .line)) l b
+meetOn g (known ReadIdcode) l b = transferred g ReadIdcode (nextEvent (l .line)) l b
+meetOn g (known ReadDrw) l b = transferred g ReadDrw (nextEvent (l .line)) l b
+meetOn g (known (WriteTar a)) l b = transferred g (WriteTar a) (nextEvent (l .line)) l b
+meetOn g (known (WriteDrw w)) l b = transferred g (WriteDrw w) (nextEvent (l .line)) l b
+meetOn g (known (WriteSetup r w)) l b = transferred g (WriteSetup r w) (nextEvent (l .line)) l b
 meetOn g unknown l b =
-    record { target = b; answer = Transferred (silence ((eventOf (l .line)) .junk)); lists = record { line = rest (l .line); calls = l .calls } }
+    record { target = b; answer = Transferred (silentReply ((nextEvent (l .line)) .filler)); lists = record { line = rest (l .line); calls = l .calls } }
 
 -- 'The board meets every request once, in order, and nothing else.'
 unfoldable pub meet : Geometry → Packet → Lists → Target → Met

@@ -53,8 +53,8 @@ abbrev pub entryBy : (level polls kept : ℕ) → Judged
 entryBy l p k = cond (eqb l 1) (enter FromOpen p k) (cond (eqb l 2) (enter FromProtected p k) (report 21))
 
 -- 'top byte of the word .., its low four bits, with 0 and 1 exchanged'
-unfoldable pub storedIn : ℕ → ℕ
-storedIn w = cond (eqb (w / 16777216 % 16) 0) 1 (cond (eqb (w / 16777216 % 16) 1) 0 (w / 16777216 % 16))
+unfoldable pub levelShown : ℕ → ℕ
+levelShown w = cond (eqb (w / 16777216 % 16) 0) 1 (cond (eqb (w / 16777216 % 16) 1) 0 (w / 16777216 % 16))
 
 -- '(this sum - that sum) mod 65536 equals the image's sum'; 'low 28 bits are the privileged sum'
 unfoldable pub sumsFit : Image → (this that : ℕ) → Bool
@@ -71,5 +71,5 @@ judge i Keep p k w = go p w
 judge i EntryLevel p k w = cond (idsFit i k w) (entryBy (levelIn w) p k) (report 20)
 judge i Reopened p k w = cond (idsFit i k w) (goIf (eqb (levelIn w) 1) 21 p k) (report 20)
 judge i (Same v n) p k w = goIf (eqb w v) n p k
-judge i StoredLevel p k w = goIf (eqb (storedIn w) (i .header .level)) 24 p k
+judge i StoredLevel p k w = goIf (eqb (levelShown w) (i .header .level)) 24 p k
 judge i LastSum p k w = cond (sumsFit i w k) (report 0) (report 25)

@@ -2,7 +2,7 @@
 use mathlib.Core.Bool.{Bool, true, false}
 use mathlib.Core.Path.{_≡_}
 use Prim.Native.Nat.{ℕ}
-use Rattle.flow.specs.Examples.{onePart}
+use Rattle.flow.specs.Examples.{partOne}
 use Rattle.flow.specs.Monitor.{Delays, noDelays, Watch, Monitor, watching, linkError, watch}
 use Rattle.flow.specs.declared.Answer.{Answer}
 use Rattle.flow.specs.declared.Answer.the-variants.{ResetDone, Transferred}
@@ -46,16 +46,16 @@ missedOne w p a t = watching w p a t (record { waits = 0; busyPolls = 0; missed 
 
 -- a DRW read, and an attempt's read of IDCODE
 abbrev pub afterRead : Answer → Monitor → Monitor
-afterRead r m = watch onePart ReadDrw r m
+afterRead r m = watch partOne ReadDrw r m
 
 abbrev pub afterAttempt : Answer → Monitor → Monitor
-afterAttempt r m = watch onePart ReadIdcode r m
+afterAttempt r m = watch partOne ReadIdcode r m
 
 abbrev pub SYSREQ : ℕ
-SYSREQ = sysreqOf onePart
+SYSREQ = sysreqOf partOne
 
 abbrev pub SYSARG : ℕ
-SYSARG = sysargOf onePart
+SYSARG = sysargOf partOne
 
 -- 17 to 19: what the words say
 pub record WordMishaps : Type 0 where
@@ -78,9 +78,9 @@ pub record WordMishaps : Type 0 where
   pub digitA : afterRead (okayWith 0xAFFFFFFF) (seen 0 0 0 (countingAt SYSARG false true)) ≡ seen 0 0 0 (readAt SYSARG false false)
   pub secondRead : afterRead (okayWith 0xB0000000) (seen 0 0 0 (countingAt SYSARG false false)) ≡ seen 0 0 0 (readAt SYSARG false false)
   -- a call is a write of SYSREQ with bit 31; neither another word there nor that word elsewhere
-  pub call : watch onePart (WriteDrw 0x80000004) (answer 1 0 0) (seen 0 3 0 (readAt SYSREQ false false)) ≡ seen 0 0 0 (readAt SYSREQ true true)
-  pub noCall : watch onePart (WriteDrw 0x7FFFFFFF) (answer 1 0 0) (seen 0 3 0 (readAt SYSREQ false false)) ≡ seen 0 3 0 (readAt SYSREQ false false)
-  pub listWord : watch onePart (WriteDrw 0x80000004) (answer 1 0 0) (seen 0 3 0 (readAt PARAMS false false)) ≡ seen 0 3 0 (readAt PARAMS false false)
+  pub call : watch partOne (WriteDrw 0x80000004) (answer 1 0 0) (seen 0 3 0 (readAt SYSREQ false false)) ≡ seen 0 0 0 (readAt SYSREQ true true)
+  pub noCall : watch partOne (WriteDrw 0x7FFFFFFF) (answer 1 0 0) (seen 0 3 0 (readAt SYSREQ false false)) ≡ seen 0 3 0 (readAt SYSREQ false false)
+  pub listWord : watch partOne (WriteDrw 0x80000004) (answer 1 0 0) (seen 0 3 0 (readAt PARAMS false false)) ≡ seen 0 3 0 (readAt PARAMS false false)
 
 -- 26 to 30: what the line does
 pub record LineMishaps : Type 0 where
@@ -98,8 +98,8 @@ pub record LineMishaps : Type 0 where
   pub silence : afterRead (answer 0 0 0) (seen 0 0 0 (readAt 0 false false)) ≡ linkError 29
   pub noise : afterRead (answer 3 0 0) (seen 0 0 0 (readAt 0 false false)) ≡ linkError 29
   pub wrongParity : afterRead (answer 1 0 1) (seen 0 0 0 (readAt 0 false false)) ≡ linkError 30
-  pub writtenParity : watch onePart (WriteDrw 0) (answer 1 0 1) (seen 0 0 0 (readAt 0 false false)) ≡ seen 0 0 0 (readAt 0 false false)
+  pub writtenParity : watch partOne (WriteDrw 0) (answer 1 0 1) (seen 0 0 0 (readAt 0 false false)) ≡ seen 0 0 0 (readAt 0 false false)
   -- the first mishap stays; a reset is none
-  pub first : (q : Request) (r : Answer) (number : ℕ) → watch onePart q r (linkError number) ≡ linkError number
-  pub xres : (m : Monitor) → watch onePart Xres ResetDone m ≡ m
-  pub lineReset : (m : Monitor) → watch onePart LineReset ResetDone m ≡ m
+  pub first : (q : Request) (r : Answer) (number : ℕ) → watch partOne q r (linkError number) ≡ linkError number
+  pub xres : (m : Monitor) → watch partOne Xres ResetDone m ≡ m
+  pub lineReset : (m : Monitor) → watch partOne LineReset ResetDone m ≡ m

@@ -44,9 +44,9 @@ pub data Monitor : Type 0 where
   linkError : (number : ℕ) → Monitor
 
 -- within the limit, or a mishap
-abbrev pub within : Bool → (number : ℕ) → Monitor → Monitor
-within true n m = m
-within false n m = linkError n
+abbrev pub withinLimit : Bool → (number : ℕ) → Monitor → Monitor
+withinLimit true n m = m
+withinLimit false n m = linkError n
 
 abbrev pub stillBusy : ℕ → Bool
 stillBusy w = eqb (w / 2147483648 % 2) 1 || eqb (w / 268435456 % 2) 1
@@ -55,13 +55,13 @@ stillBusy w = eqb (w / 2147483648 % 2) 1 || eqb (w / 268435456 % 2) 1
 abbrev pub noticePoll : (polling busy : Bool) → (polls attempts : ℕ) → Watch → Delays → Monitor
 noticePoll false y p a t d = watching 0 p a t d
 noticePoll true false p a t d = watching 0 0 a (record { tar = t .tar; counts = t .counts; polling = false; due = t .due }) d
-noticePoll true true p a t d = within (ltb (suc p) 10000) 18 (watching 0 (suc p) a t (oneBusy d))
+noticePoll true true p a t d = withinLimit (ltb (suc p) 10000) 18 (watching 0 (suc p) a t (oneBusy d))
 
 -- 'a call after which the Read of SYSARG gives a top digit other than 0xA (19)': the first such Read
 abbrev pub noticeStatus : (due : Bool) → (word attempts : ℕ) → Watch → Delays → Monitor
 noticeStatus false w a t d = watching 0 0 a (record { tar = t .tar; counts = t .counts; polling = false; due = false }) d
 noticeStatus true w a t d =
-    within (eqb (w / 268435456 % 16) 0xA) 19 (watching 0 0 a (record { tar = t .tar; counts = t .counts; polling = false; due = false }) d)
+    withinLimit (eqb (w / 268435456 % 16) 0xA) 19 (watching 0 0 a (record { tar = t .tar; counts = t .counts; polling = false; due = false }) d)
 
 -- any other Read ends a poll loop: in READINGS 27 it is 'the run of SYSREQ Reads'
 abbrev pub passBy : (attempts : ℕ) → Watch → Delays → Monitor
@@ -76,7 +76,7 @@ noticeRead atLevel w p a t d = passBy a t d
 noticeRead atSysreq w p a t d = noticePoll (t .polling) (stillBusy w) p a t d
 noticeRead atSysarg w p a t d = noticeStatus (t .due) w a t d
 noticeRead atTestMode w p a t d =
-    within (eqb (w / 2147483648 % 2) 1) 17 (watching 0 0 a (record { tar = t .tar; counts = t .counts; polling = true; due = t .due }) d)
+    withinLimit (eqb (w / 2147483648 % 2) 1) 17 (watching 0 0 a (record { tar = t .tar; counts = t .counts; polling = true; due = t .due }) d)
 noticeRead elsewhere w p a t d = passBy a t d
 
 -- DRW reads come in turn: the stale word, then the one that counts
@@ -120,9 +120,9 @@ isAttempt (WriteSetup r w) = false
 -- (29), wrong parity on a read answered OK (30). Inside the IDCODE attempts only 26 counts.'
 abbrev pub watchBy : (attempt : Bool) → Geometry → Request → Verdict → (waits polls attempts : ℕ) → Watch → Delays → Monitor
 watchBy tries g q (okay x) w p a t d = noticed g q x p a t d
-watchBy true g q again w p a t d = within (ltb (suc a) 30) 26 (watching 0 p (suc a) t (oneMissed d))
-watchBy true g q (broken n) w p a t d = within (ltb (suc a) 30) 26 (watching 0 p (suc a) t (oneMissed d))
-watchBy false g q again w p a t d = within (ltb w 16) 27 (watching (suc w) p a t (oneWait d))
+watchBy true g q again w p a t d = withinLimit (ltb (suc a) 30) 26 (watching 0 p (suc a) t (oneMissed d))
+watchBy true g q (broken n) w p a t d = withinLimit (ltb (suc a) 30) 26 (watching 0 p (suc a) t (oneMissed d))
+watchBy false g q again w p a t d = withinLimit (ltb w 16) 27 (watching (suc w) p a t (oneWait d))
 watchBy false g q (broken n) w p a t d = linkError n
 
 abbrev pub isReset : Request → Bool

@@ -38,9 +38,9 @@ unfoldable pub advance : Image → Run → Run
 advance i run = advanceBy i (run .session) run
 
 -- n steps
-unfoldable pub after : Image → (steps : ℕ) → Run → Run
-after i zero run = run
-after i (suc n) run = after i n (advance i run)
+unfoldable pub runAfter : Image → (steps : ℕ) → Run → Run
+runAfter i zero run = run
+runAfter i (suc n) run = runAfter i n (advance i run)
 
 abbrev pub started : Target → Lists → Run
 started b l = record {

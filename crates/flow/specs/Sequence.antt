@@ -48,9 +48,9 @@ unfoldable pub listed : Geometry → (step c : ℕ) → List ℕ → List Move
 listed g s c ws = writes s PARAMS ws ++ call g s c PARAMS
 
 -- n pieces one after another, the first for k
-unfoldable pub pieces : (ℕ → List Move) → (k n : ℕ) → List Move
-pieces f k zero = []
-pieces f k (suc n) = f k ++ pieces f (suc k) n
+unfoldable pub inTurn : (ℕ → List Move) → (k n : ℕ) → List Move
+inTurn f k zero = []
+inTurn f k (suc n) = f k ++ inTurn f (suc k) n
 
 -- 'if IMO, call 0x15 with k'
 unfoldable pub imoCall : Geometry → (imo : ℕ) → List Move
@@ -94,7 +94,7 @@ compareWord s e a bytes o j = read s (a + 4 * j) (Same (wordAt bytes (o + 4 * j)
 
 -- '6. Read every flash word from address 0, comparing each as read.'
 abbrev pub verifyFlash : Image → List Move
-verifyFlash i = pieces (compareWord 6 22 0 (i .flash) 0) 0 (rowsOf (i .geometry) * (rowBytes (i .geometry) / 4))
+verifyFlash i = inTurn (compareWord 6 22 0 (i .flash) 0) 0 (rowsOf (i .geometry) * (rowBytes (i .geometry) / 4))
 
 -- where macro m's bytes start among the protection bytes
 abbrev pub lockStart : Geometry → (m : ℕ) → ℕ
@@ -111,17 +111,17 @@ lockMacro i m =
 unfoldable pub verifyMacro : Image → (m : ℕ) → List Move
 verifyMacro i m =
     let g = i .geometry in
-    pieces (compareWord 8 23 (locksAt g m) (i .protection) (lockStart g m)) 0 (locksIn g m / 4)
+    inTurn (compareWord 8 23 (locksAt g m) (i .protection) (lockStart g m)) 0 (locksIn g m / 4)
 
 -- steps 4 to 9; '9. As 4; (this sum - that sum) mod 65536 equals the image's sum.'
 unfoldable pub program : Image → List Move
 program i =
     let g = i .geometry in
     privileged g 4 Keep
-    ++ (pieces (programRow i) 0 (rowsOf g)
+    ++ (inTurn (programRow i) 0 (rowsOf g)
     ++ (verifyFlash i
-    ++ (pieces (lockMacro i) 0 (macrosOf g)
-    ++ (pieces (verifyMacro i) 0 (macrosOf g)
+    ++ (inTurn (lockMacro i) 0 (macrosOf g)
+    ++ (inTurn (verifyMacro i) 0 (macrosOf g)
     ++ (read 8 (levelAt g) StoredLevel
     ++ privileged g 9 LastSum)))))
 

@@ -23,11 +23,11 @@ abbrev pub moveAt : Image → Entry → (at : ℕ) → Move
 moveAt i y n = getD (sequence i y) n endMove
 
 -- a busy poll goes back to its Read's first transfer
-abbrev pub settled : Judged → Entry → (at step attempts transfers : ℕ) → Session
-settled (go p k) y n s a h = running y (suc n) 0 p a k h
-settled (pollAgain p k) y n s a h = running y (n - 2) 0 p a k h
-settled (enter e p k) y n s a h = running e (suc n) 0 p a k h
-settled (report x) y n s a h = reported x s h
+abbrev pub judgedTo : Judged → Entry → (at step attempts transfers : ℕ) → Session
+judgedTo (go p k) y n s a h = running y (suc n) 0 p a k h
+judgedTo (pollAgain p k) y n s a h = running y (n - 2) 0 p a k h
+judgedTo (enter e p k) y n s a h = running e (suc n) 0 p a k h
+judgedTo (report x) y n s a h = reported x s h
 
 -- 'up to 30 attempts of line reset and read IDCODE'; 'any mishap ends the attempt only'
 abbrev pub tryAgain : (within : Bool) → Entry → (at step polls attempts kept transfers : ℕ) → Session
@@ -41,8 +41,8 @@ waitAgain false y n s w p a k h = reported 27 s h
 
 -- 'Attempts in step 1 aren't repeated for WAIT'
 abbrev pub heardBy : (attempt : Bool) → Image → Move → Verdict → Entry → (at waits polls attempts kept transfers : ℕ) → Session
-heardBy true i m (okay x) y n w p a k h = settled (judge i (m .purpose) p k x) y n (m .step) 0 h
-heardBy false i m (okay x) y n w p a k h = settled (judge i (m .purpose) p k x) y n (m .step) a h
+heardBy true i m (okay x) y n w p a k h = judgedTo (judge i (m .purpose) p k x) y n (m .step) 0 h
+heardBy false i m (okay x) y n w p a k h = judgedTo (judge i (m .purpose) p k x) y n (m .step) a h
 heardBy true i m again y n w p a k h = tryAgain (ltb (suc a) 30) y n (m .step) p a k h
 heardBy true i m (broken x) y n w p a k h = tryAgain (ltb (suc a) 30) y n (m .step) p a k h
 heardBy false i m again y n w p a k h = waitAgain (ltb w 16) y n (m .step) w p a k h

@@ -6,7 +6,7 @@ use mathlib.Core.Path.{_≡_}
 use Prim.Native.Nat.{ℕ, _+_, _/_, _≤_, _<_}
 use lib.ListN.{length, getD}
 use Rattle.flow.specs.Claim.{Passes, Startable, Calm}
-use Rattle.flow.specs.Examples.{onePart, twoMacros}
+use Rattle.flow.specs.Examples.{partOne, twoMacros}
 use Rattle.flow.specs.Plan.{mostTraffic}
 use Rattle.flow.specs.Target.{Target, Silicon, Memory, Residue, idle, clean}
 use Rattle.flow.specs.declared.Entry.the-variants.{FromOpen, FromProtected}
@@ -55,15 +55,15 @@ pub record FreeStarts : Type 0 where
       → ((j : ℕ) → getD bytes j 0 < 256)
       → Passes g h bytes
   -- 'nothing waits or is busy': whatever is free in the entries
-  pub calm : (junk : Reply) (other : ℕ) (residue : Residue)
+  pub calm : (filler : Reply) (other : ℕ) (residue : Residue)
       → Calm (record {
-        line = record { fate = clean; junk = junk; other = other } ∷ [];
+        line = record { outcome = clean; filler = filler; other = other } ∷ [];
         calls = record { busyReads = 0; succeeds = true; residue = residue } ∷ [];
       })
 
 -- '17 × (plan + 29997 × loops + 29 × A) transfers, A XRES and 30 × A line resets', worked out; the last is the largest
 pub record MostExamples : Type 0 where
-  pub part1 : mostTraffic onePart FromOpen ≡ record { transfers = 265637716; xresets = 1; lineResets = 30 }
-  pub part1Protected : mostTraffic onePart FromProtected ≡ record { transfers = 267168668; xresets = 2; lineResets = 60 }
+  pub part1 : mostTraffic partOne FromOpen ≡ record { transfers = 265637716; xresets = 1; lineResets = 30 }
+  pub part1Protected : mostTraffic partOne FromProtected ≡ record { transfers = 267168668; xresets = 2; lineResets = 60 }
   pub part3 : mostTraffic twoMacros FromOpen ≡ record { transfers = 1052208183; xresets = 1; lineResets = 30 }
   pub part3Protected : mostTraffic twoMacros FromProtected ≡ record { transfers = 1053229016; xresets = 2; lineResets = 60 }

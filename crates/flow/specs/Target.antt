@@ -53,14 +53,14 @@ pub record Target : Type 0 where
   pub running : Running
 
 -- 'Per transfer: OK; WAIT or FAULT, not carried out; silence, carried out or not; wrong parity on a read, carried out.'
-pub data Fate : Type 0 where
-  clean waits faults garbles : Fate
-  silent : (carriedOut : Bool) → Fate
+pub data TransferOutcome : Type 0 where
+  clean waits faults wrongParity : TransferOutcome
+  silent : (carriedOut : Bool) → TransferOutcome
 
--- a transfer's fate, with what is free in its answer, and the word that is elsewhere
+-- a transfer's outcome, with what is free in its answer, and the word that is elsewhere
 pub record LineEvent : Type 0 where
-  pub fate : Fate
-  pub junk : Reply
+  pub outcome : TransferOutcome
+  pub filler : Reply
   pub other : ℕ
 
 -- 'Two free lists drive it; past a list's end it is OK, and success without busy reads.'
@@ -68,14 +68,14 @@ pub record Lists : Type 0 where
   pub line : List LineEvent
   pub calls : List CallOutcome
 
-abbrev pub eventOf : List LineEvent → LineEvent
-eventOf [] = record { fate = clean; junk = record { ack = 0; word = 0; parity = 0 }; other = 0 }
-eventOf (e ∷ es) = e
+abbrev pub nextEvent : List LineEvent → LineEvent
+nextEvent [] = record { outcome = clean; filler = record { ack = 0; word = 0; parity = 0 }; other = 0 }
+nextEvent (e ∷ es) = e
 
-abbrev pub outcomeOf : List CallOutcome → CallOutcome
-outcomeOf [] =
+abbrev pub nextOutcome : List CallOutcome → CallOutcome
+nextOutcome [] =
     record { busyReads = 0; succeeds = true; residue = record { flash = []; locks = []; latch = []; sysarg = 0; newLevel = false } }
-outcomeOf (o ∷ os) = o
+nextOutcome (o ∷ os) = o
 
 abbrev pub rest : {A : Type 0} → List A → List A
 rest [] = []

@@ -7,51 +7,51 @@ use lib.Dec.{eqb, leb}
 use lib.ListN.{length}
 use Rattle.hex.specs.Claims.{Takes, ReadingClaims}
 use Rattle.hex.specs.Records.{lineRecord}
-use Rattle.hex.specs.Texts.{upperAfter, eventOf, events, outcomeOf}
+use Rattle.hex.specs.Texts.{upperAfter, eventOf, events, contentOf}
 use Rattle.hex.proofs.Taken.{taken-from, one-image}
 use Rattle.image.specs.Checks.{imageFault}
 use Rattle.image.specs.declared.Header.{Header}
 use Rattle.image.specs.declared.Section.{Section}
 use Rattle.text.specs.Lines.{Line, Ended, Open, linesOf}
-use Rattle.text.specs.Placing.{Event, Bad, Other, Data, End, Refusal, Stream, after, advance, place}
+use Rattle.text.specs.Placing.{Event, Bad, Other, Data, End, Refusal, Stream, prepend, dueAfter, placing}
 use Rattle.text.proofs.Lines.{AllEnded, lines-append, some-line}
-use Rattle.text.proofs.Placing.{place-length, place-followed, after-stream, no-outcome}
+use Rattle.text.proofs.Placing.{placing-length, placing-followed, prepend-stream, no-content}
 
 sound : (part macros : ℕ) (text : List ℕ) (room : ℕ) (h : Header) (bytes : List ℕ) → Takes part macros text room h bytes → imageFault h bytes ≡ 0
 sound part macros text room h bytes t = (taken-from part macros text room h bytes t) .none
 
 -- the lines of a text that is taken all have their ends
-ended : (ls : List Line) (u : ℕ) (ds : List Section) (g : List ℕ) → place ds (events u ls) ≡ Stream g → AllEnded ls
-unfolding events place eventOf lineRecord
+ended : (ls : List Line) (u : ℕ) (ds : List Section) (g : List ℕ) → placing ds (events u ls) ≡ Stream g → AllEnded ls
+unfolding events placing eventOf lineRecord
 ended [] u ds g e = tt
 ended (Open l ∷ ls) u ds g e = open-bad e
   where
-    open-bad : place ds (events u (Open l ∷ ls)) ≡ Stream g → ⊥
-    open-bad e = no-outcome 1 g e
+    open-bad : placing ds (events u (Open l ∷ ls)) ≡ Stream g → ⊥
+    open-bad e = no-content 1 g e
 ended (Ended l ∷ ls) u ds g e =
     go (eventOf u (lineRecord (Ended l))) ds e (λ d r q. ended ls (upperAfter u (lineRecord (Ended l))) d r q)
   where
-    go : (x : Event) (d : List Section) → place d (x ∷ events (upperAfter u (lineRecord (Ended l))) ls) ≡ Stream g
-        → ((d′ : List Section) (r : List ℕ) → place d′ (events (upperAfter u (lineRecord (Ended l))) ls) ≡ Stream r → AllEnded ls)
+    go : (x : Event) (d : List Section) → placing d (x ∷ events (upperAfter u (lineRecord (Ended l))) ls) ≡ Stream g
+        → ((d′ : List Section) (r : List ℕ) → placing d′ (events (upperAfter u (lineRecord (Ended l))) ls) ≡ Stream r → AllEnded ls)
         → AllEnded ls
-    go (Bad n) d q ih = no-outcome n g q
+    go (Bad n) d q ih = no-content n g q
     go Other d q ih = ih d g q
-    go (Data a bs) [] q ih = no-outcome 4 g q
+    go (Data a bs) [] q ih = no-content 4 g q
     go (Data a bs) (s ∷ d) q ih = by (eqb a (s .address) && leb (length bs) (s .size)) q
       where
         by : (b : Bool)
-            → cond b (after bs (place (advance (length bs) s d) (events (upperAfter u (lineRecord (Ended l))) ls))) (Refusal 4) ≡ Stream g
+            → cond b (prepend bs (placing (dueAfter (length bs) s d) (events (upperAfter u (lineRecord (Ended l))) ls))) (Refusal 4) ≡ Stream g
             → AllEnded ls
         by true q =
-            let r = after-stream bs g (place (advance (length bs) s d) (events (upperAfter u (lineRecord (Ended l))) ls)) q in
-            ih (advance (length bs) s d) (r .0) (r .1)
-        by false q = no-outcome 4 g q
-    go End (s ∷ d) q ih = no-outcome 5 g q
+            let r = prepend-stream bs g (placing (dueAfter (length bs) s d) (events (upperAfter u (lineRecord (Ended l))) ls)) q in
+            ih (dueAfter (length bs) s d) (r .0) (r .1)
+        by false q = no-content 4 g q
+    go End (s ∷ d) q ih = no-content 5 g q
     go End [] q ih = last ls q
       where
-        last : (ms : List Line) → place [] (End ∷ events (upperAfter u (lineRecord (Ended l))) ms) ≡ Stream g → AllEnded ms
+        last : (ms : List Line) → placing [] (End ∷ events (upperAfter u (lineRecord (Ended l))) ms) ≡ Stream g → AllEnded ms
         last [] q = tt
-        last (m ∷ ms) q = no-outcome 5 g q
+        last (m ∷ ms) q = no-content 5 g q
 
 events-append : (ls ms : List Line) (u : ℕ) → (v : ℕ) × (events u (ls ++ ms) ≡ events u ls ++ events v ms)
 unfolding events
@@ -60,21 +60,21 @@ events-append (l ∷ ls) ms u =
     let r = events-append ls ms (upperAfter u (lineRecord l)) in
     (r .0, ap (λ (es : List Event). eventOf u (lineRecord l) ∷ es) (r .1))
 
-followed : (text : List ℕ) (due : List Section) (stream : List ℕ) (c : ℕ) (more : List ℕ) → outcomeOf text due ≡ Stream stream
-    → outcomeOf (text ++ (c ∷ more)) due ≡ Refusal 5
+followed : (text : List ℕ) (due : List Section) (stream : List ℕ) (c : ℕ) (more : List ℕ) → contentOf text due ≡ Stream stream
+    → contentOf (text ++ (c ∷ more)) due ≡ Refusal 5
 unfolding events
 followed text due stream c more e =
     let a = lines-append text (c ∷ more) (ended (linesOf text) 0 due stream e) in
     let f = some-line c more in
     let r = events-append (linesOf text) (f .0 ∷ f .1) 0 in
-    ap (λ (ls : List Line). place due (events 0 ls)) (a ∙ ap (λ (ls : List Line). linesOf text ++ ls) (f .2))
-    ∙ ap (place due) (r .1)
-    ∙ place-followed (events 0 (linesOf text)) due stream (eventOf (r .0) (lineRecord (f .0))) (events (upperAfter (r .0) (lineRecord (f .0))) (f .1)) e
+    ap (λ (ls : List Line). placing due (events 0 ls)) (a ∙ ap (λ (ls : List Line). linesOf text ++ ls) (f .2))
+    ∙ ap (placing due) (r .1)
+    ∙ placing-followed (events 0 (linesOf text)) due stream (eventOf (r .0) (lineRecord (f .0))) (events (upperAfter (r .0) (lineRecord (f .0))) (f .1)) e
 
 pub reading-claims : ReadingClaims
 reading-claims = record {
   one-image = one-image;
   sound = sound;
-  each-once = λ text due stream e. place-length (events 0 (linesOf text)) due stream e;
+  each-once = λ text due stream e. placing-length (events 0 (linesOf text)) due stream e;
   followed = followed;
 }

@@ -14,8 +14,8 @@ use Rattle.hex.specs.Steps.{LineAt, LineTo, Spelled}
 use Rattle.image.specs.Words.{total}
 use Rattle.text.specs.Digits.{Spelt, Unreadable, Spells, spelt}
 use Rattle.text.specs.Lines.{Line, Ended, Open, linesOf, withoutCR}
-use Rattle.text.specs.Spelling.{front, pairsAt, hasPairs, runOf, rowAfter, lineEnd}
-use Rattle.text.specs.declared.Run.{Run}
+use Rattle.text.specs.Spelling.{front, pairsAt, hasPairs, pairRunOf, rowAfter, lineEnd}
+use Rattle.text.specs.declared.PairRun.{PairRun}
 use Rattle.text.proofs.Ends.{has-room}
 use Rattle.text.proofs.Lines.{begins, some-line, bare, spelt-length, spelt-front, lines-cut, digits-no-lf, no-lf-append, digits-bare, cr-bare, AllPairs, run-all}
 use Rattle.text.proofs.Positions.{head-at, tail-at, drop-more, drop-at, lf-at, cr-at, ended, first-same, first-one, row-front, row-first, Good, good-run}
@@ -99,21 +99,21 @@ module _ (s : List ℕ) (at n : ℕ) (p : Passes s at n) (row : List ℕ) (wide 
   one : (front (pairsAt s (at + 1) 1) ≡ n ∷ []) × (n ≤ 255)
   one = first-one s (at + 1) (n + 5) (omega arith) (p .within) n (p .bs) (p .spells)
 
-  count-good : runOf s (at + 1) 1 (length row) .good ≡ true
+  count-good : pairRunOf s (at + 1) 1 (length row) .good ≡ true
   count-good =
       let h = has-room row s (at + 1) 1 (omega arith) (omega arith) (omega (arith, p .within)) in
-      ap (λ (r : Run). r .good) (h .0) ∙ ap (λ (l : List ℕ). eqb (length l) 1) (one .0)
+      ap (λ (r : PairRun). r .good) (h .0) ∙ ap (λ (l : List ℕ). eqb (length l) 1) (one .0)
 
   count-is : getD (rowAfter row s (at + 1) 1) 0 0 ≡ n
   count-is =
       let h = has-room row s (at + 1) 1 (omega arith) (omega arith) (omega (arith, p .within)) in
       ap (λ (l : List ℕ). getD l 0 0) (h .1 ∙ ap (sets row 0) (one .0)) ∙ row-first row (n ∷ []) (omega arith) (omega arith)
 
-  run-good : (row′ : List ℕ) → length row′ ≡ 260 → runOf s (at + 1) (n + 5) (length row′) .good ≡ true
+  run-good : (row′ : List ℕ) → length row′ ≡ 260 → pairRunOf s (at + 1) (n + 5) (length row′) .good ≡ true
   run-good row′ w =
       let o = one .1 in
       let h = has-room row′ s (at + 1) (n + 5) (omega arith) (omega arith) (p .within) in
-      ap (λ (r : Run). r .good) (h .0)
+      ap (λ (r : PairRun). r .good) (h .0)
       ∙ ap (λ (l : List ℕ). eqb (length l) (n + 5)) (p .spells)
       ∙ eq-eqb (suc (length (p .bs))) (n + 5) (omega (arith, p .size))
 
@@ -130,7 +130,7 @@ module _ (s : List ℕ) (at : ℕ) (here : at < length s) (row : List ℕ) (wide
   pub bad-colon : (getD s at 0 ≡ 58 → ⊥) → LineAt s at (BadRecord 1)
   bad-colon h = no-line s at (λ n p. h (p .colon)) here
 
-  pub bad-count : runOf s (at + 1) 1 (length row) .good ≡ false → LineAt s at (BadRecord 1)
+  pub bad-count : pairRunOf s (at + 1) 1 (length row) .good ≡ false → LineAt s at (BadRecord 1)
   bad-count h = no-line s at (λ n p. false≢true (sym h ∙ count-good s at n p row wide)) here
 
   module _ (row′ : List ℕ) (e : row′ ≡ rowAfter row s (at + 1) 1) where
@@ -140,10 +140,10 @@ module _ (s : List ℕ) (at : ℕ) (here : at < length s) (row : List ℕ) (wide
     same : (n : ℕ) → Passes s at n → getD row′ 0 0 ≡ n
     same n p = ap (λ (l : List ℕ). getD l 0 0) e ∙ count-is s at n p row wide
 
-    pub bad-run : runOf s (at + 1) (getD row′ 0 0 + 5) (length row′) .good ≡ false → LineAt s at (BadRecord 1)
+    pub bad-run : pairRunOf s (at + 1) (getD row′ 0 0 + 5) (length row′) .good ≡ false → LineAt s at (BadRecord 1)
     bad-run h =
         no-line s at
-        (λ n p. false≢true (sym h ∙ ap (λ (x : ℕ). runOf s (at + 1) (x + 5) (length row′) .good) (same n p) ∙ run-good s at n p row wide row′ kept))
+        (λ n p. false≢true (sym h ∙ ap (λ (x : ℕ). pairRunOf s (at + 1) (x + 5) (length row′) .good) (same n p) ∙ run-good s at n p row wide row′ kept))
         here
 
     pub bad-end : lineEnd s (at + 11 + 2 * getD row′ 0 0) ≡ 0 → LineAt s at (BadRecord 1)
@@ -200,7 +200,7 @@ end-inside s e w h some =
 -- the rows that the two runs leave: first the count, then the whole line
 module _ (s : List ℕ) (at n : ℕ) (row row′ row″ : List ℕ) (wide : length row ≡ 260)
     (e : row′ ≡ rowAfter row s (at + 1) 1) (q : n ≡ getD row′ 0 0) (f : row″ ≡ rowAfter row′ s (at + 1) (n + 5))
-    (g : runOf s (at + 1) 1 (length row) .good ≡ true) (h : runOf s (at + 1) (n + 5) (length row′) .good ≡ true) where
+    (g : pairRunOf s (at + 1) 1 (length row) .good ≡ true) (h : pairRunOf s (at + 1) (n + 5) (length row′) .good ≡ true) where
   a : Good s (at + 1) 1 (length row)
   a = good-run s (at + 1) 1 (length row) g
 
@@ -210,7 +210,7 @@ module _ (s : List ℕ) (at n : ℕ) (row row′ row″ : List ℕ) (wide : leng
   bytes : List ℕ
   bytes = front (pairsAt s (at + 1) (n + 5))
 
-  spelled : (runOf s (at + 1) (n + 5) (length row′) ≡ ran s (at + 1) (n + 5)) × (row″ ≡ sets row′ 0 bytes)
+  spelled : (pairRunOf s (at + 1) (n + 5) (length row′) ≡ ran s (at + 1) (n + 5)) × (row″ ≡ sets row′ 0 bytes)
   unfolding bytes
   spelled = let r = has-room row′ s (at + 1) (n + 5) (b .few) (b .roomy) (b .within) in (r .0, f ∙ r .1)
 
@@ -227,7 +227,7 @@ module _ (s : List ℕ) (at n : ℕ) (row row′ row″ : List ℕ) (wide : leng
       ∙ ap (λ (x : ℕ). take x (sets row′ 0 bytes)) (sym (b .all))
       ∙ row-front row′ bytes (omega (arith, b .all, b .roomy))
 
-  pub framed : (sum w : ℕ) → getD s at 0 ≡ 58 → sum ≡ runOf s (at + 1) (n + 5) (length row′) .sum → w ≡ lineEnd s (at + 11 + 2 * n) → (w ≡ 0 → ⊥)
+  pub framed : (sum w : ℕ) → getD s at 0 ≡ 58 → sum ≡ pairRunOf s (at + 1) (n + 5) (length row′) .sum → w ≡ lineEnd s (at + 11 + 2 * n) → (w ≡ 0 → ⊥)
       → LineTo s at (at + 11 + 2 * n + w) (recordOf (take (n + 5) row″)) × Spelled row″ n sum
   unfolding bytes
   framed sum w colon i j some =
@@ -244,6 +244,6 @@ module _ (s : List ℕ) (at n : ℕ) (row row′ row″ : List ℕ) (wide : leng
               ∙ first-same s (at + 1) (n + 5) (omega arith) (b .within)
               ∙ sym first-count
               ∙ sym q;
-          sums = ap total taken-bytes ∙ sym (i ∙ ap (λ (r : Run). r .sum) (spelled .0));
+          sums = ap total taken-bytes ∙ sym (i ∙ ap (λ (r : PairRun). r .sum) (spelled .0));
         },
       )

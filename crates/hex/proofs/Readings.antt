@@ -10,24 +10,24 @@ use lib.Dec.{eqb}
 use lib.ListN.{length, take, drop}
 use lib.Seq.{drop-length, length-take-le}
 use Rattle.hex.specs.Steps.{Filled, ScannedAs}
-use Rattle.hex.specs.Texts.{events, outcomeOf, hexReading}
+use Rattle.hex.specs.Texts.{events, contentOf, hexReading}
 use Rattle.hex.specs.declared.Scanned.{Scanned}
 use Rattle.hex.specs.declared.Scanned.the-variants.{Bad, Whole}
 use Rattle.image.specs.Checks.{imageFault}
 use Rattle.image.specs.Image.{noHeader}
 use Rattle.image.specs.Sections.{sectionsOf, headerOf}
 use Rattle.image.specs.declared.Header.{Header}
-use Rattle.image.specs.declared.Home.the-variants.{InImage, InHeader}
+use Rattle.image.specs.declared.Location.the-variants.{InImage, InHeader}
 use Rattle.parts.specs.Parts.{lookupOf}
 use Rattle.parts.specs.Sizes.{imageSize}
 use Rattle.parts.specs.declared.Geometry.{Geometry}
 use Rattle.parts.specs.declared.Lookup.the-variants.{Found, Refused}
 use Rattle.text.specs.Lines.{linesOf}
-use Rattle.text.specs.Placing.{Outcome, Refusal, Stream, gathered}
+use Rattle.text.specs.Placing.{Content, Refusal, Stream, gathered}
 use Rattle.text.specs.Reading.{Reading, Untouched, Cleared, Taken, checked, judged, answerOf, bufferAfter}
 use Rattle.text.specs.Storing.{cleared, settled}
 use Rattle.text.specs.declared.ReadAnswer.{ReadAnswer}
-use Rattle.text.proofs.Placing.{place-length, laid-image, laid-header, image-length}
+use Rattle.text.proofs.Placing.{placing-length, laid-image, laid-header, image-length}
 
 -- a reading that writes just `size` bytes
 abbrev pub Writes : (size : ℕ) → Reading → Type 0
@@ -63,19 +63,19 @@ module _ (g : Geometry) (part macros : ℕ) (text : List ℕ) where
       go false = refl
 
   -- what the records come to writes the image's bytes, all of them
-  pub judged-writes : Writes (imageSize g) (judged g part macros (outcomeOf text (sectionsOf g)))
-  judged-writes = go (outcomeOf text (sectionsOf g)) refl
+  pub judged-writes : Writes (imageSize g) (judged g part macros (contentOf text (sectionsOf g)))
+  judged-writes = go (contentOf text (sectionsOf g)) refl
     where
-      go : (o : Outcome) → outcomeOf text (sectionsOf g) ≡ o → Writes (imageSize g) (judged g part macros o)
+      go : (o : Content) → contentOf text (sectionsOf g) ≡ o → Writes (imageSize g) (judged g part macros o)
       go (Refusal n) e = refl
       go (Stream s) e =
           checked-writes (headerOf part macros (gathered InHeader (sectionsOf g) s)) (gathered InImage (sectionsOf g) s)
-          (image-length g s (place-length (events 0 (linesOf text)) (sectionsOf g) s e))
+          (image-length g s (placing-length (events 0 (linesOf text)) (sectionsOf g) s e))
 
   module _ (image₀ : List ℕ) (size : length image₀ ≡ imageSize g) where
     abbrev Answers : ReadAnswer → List ℕ → Type 0
     Answers r image =
-        (r ≡ answerOf (judged g part macros (outcomeOf text (sectionsOf g)))) × (image ≡ bufferAfter (judged g part macros (outcomeOf text (sectionsOf g))) image₀)
+        (r ≡ answerOf (judged g part macros (contentOf text (sectionsOf g)))) × (image ≡ bufferAfter (judged g part macros (contentOf text (sectionsOf g))) image₀)
 
     pub refused : (n : ℕ) (header₀ image₁ header₁ image : List ℕ) (r : ReadAnswer) (x : Scanned) → ScannedAs text g image₀ header₀ x image₁ header₁ → x ≡ Bad n
         → length image₁ ≡ length image₀
@@ -84,7 +84,7 @@ module _ (g : Geometry) (part macros : ℕ) (text : List ℕ) where
         → Answers r image
     unfolding cleared
     refused n header₀ image₁ header₁ image r x s ex k er ei =
-        let o : outcomeOf text (sectionsOf g) ≡ Refusal n = rw ex at s in
+        let o : contentOf text (sectionsOf g) ≡ Refusal n = rw ex at s in
         let z : length image₁ ≡ imageSize g = k ∙ size in (
           rw o er,
           rw o
@@ -104,10 +104,10 @@ module _ (g : Geometry) (part macros : ℕ) (text : List ℕ) where
         → Answers r image
     whole header₀ image₁ header₁ image r x s ex h k er ei =
         let f : Filled text g image₀ header₀ image₁ header₁ = rw ex at s in
-        let all = place-length (events 0 (linesOf text)) (sectionsOf g) (f .stream) (f .is) in
+        let all = placing-length (events 0 (linesOf text)) (sectionsOf g) (f .stream) (f .is) in
         let a : image₁ ≡ gathered InImage (sectionsOf g) (f .stream) = f .image-is ∙ laid-image g (f .stream) all image₀ size in
         let b : header₁ ≡ gathered InHeader (sectionsOf g) (f .stream) = f .header-is ∙ laid-header g (f .stream) all header₀ h in
-        let j : settled part macros header₁ image₁ ≡ judged g part macros (outcomeOf text (sectionsOf g)) =
+        let j : settled part macros header₁ image₁ ≡ judged g part macros (contentOf text (sectionsOf g)) =
         settled-is header₁ image₁ (k ∙ size)
         ∙ ap (λ (l : List ℕ). checked g (headerOf part macros l) image₁) b
         ∙ ap (λ (l : List ℕ). checked g (headerOf part macros (gathered InHeader (sectionsOf g) (f .stream))) l) a
@@ -115,7 +115,7 @@ module _ (g : Geometry) (part macros : ℕ) (text : List ℕ) where
           er ∙ ap answerOf j,
           ei
               ∙ ap (λ (x : Reading). bufferAfter x image₁) j
-              ∙ same-buffer (imageSize g) (judged g part macros (outcomeOf text (sectionsOf g))) image₁ image₀ judged-writes (k ∙ size) size,
+              ∙ same-buffer (imageSize g) (judged g part macros (contentOf text (sectionsOf g))) image₁ image₀ judged-writes (k ∙ size) size,
         )
 
 -- the whole call, by its look-up
@@ -131,13 +131,13 @@ module _ (part macros : ℕ) (text buffer : List ℕ) where
     no-room r h er = let l = lt-leb (imageSize g) (length buffer) h in (rw (e, l) er, rw (e, l))
 
     pub in-room : (r : ReadAnswer) (image : List ℕ) (size : ℕ) → size ≡ imageSize g → size ≤ length buffer
-        → r ≡ answerOf (judged g part macros (outcomeOf text (sectionsOf g)))
-        → image ≡ bufferAfter (judged g part macros (outcomeOf text (sectionsOf g))) (take size buffer)
+        → r ≡ answerOf (judged g part macros (contentOf text (sectionsOf g)))
+        → image ≡ bufferAfter (judged g part macros (contentOf text (sectionsOf g))) (take size buffer)
         → Gives r (image ++ drop size buffer)
     in-room r image size z h er ei =
         let l = le-leb (imageSize g) (length buffer) (omega arith) in
-        let w : Writes size (judged g part macros (outcomeOf text (sectionsOf g))) = rw z (judged-writes g part macros text) in (
+        let w : Writes size (judged g part macros (contentOf text (sectionsOf g))) = rw z (judged-writes g part macros text) in (
           rw (e, l) er,
           rw (e, l)
-              (ap (λ (x : List ℕ). x ++ drop size buffer) ei ∙ front-buffer size (judged g part macros (outcomeOf text (sectionsOf g))) buffer w h),
+              (ap (λ (x : List ℕ). x ++ drop size buffer) ei ∙ front-buffer size (judged g part macros (contentOf text (sectionsOf g))) buffer w h),
         )

@@ -8,21 +8,21 @@ use borrow.Author.Tests.{eqb-false, eq-eqb, ne-eqb}
 use lib.Dec.{eqb, lit≤, lit<}
 use lib.ListN.{length, getD, drop}
 use lib.Seq.{sets, length-sets}
-use Rattle.hex.specs.Steps.{outcomeAt, dues, TurnAt, Sized, advancedOf, ScannedAs}
-use Rattle.hex.specs.Texts.{outcomeOf}
+use Rattle.hex.specs.Steps.{contentAt, dues, TurnAt, TableSizes, advancedOf, ScannedAs}
+use Rattle.hex.specs.Texts.{contentOf}
 use Rattle.hex.specs.declared.Due.{Due}
 use Rattle.hex.specs.declared.Scanned.the-variants.{Bad, Whole}
 use Rattle.hex.specs.declared.Turn.{Turn}
 use Rattle.hex.specs.declared.Turn.the-variants.{Stop, Done, Moved, Store}
 use Rattle.image.specs.Sections.{sectionsOf, noSection}
-use Rattle.image.specs.declared.Home.{Home}
-use Rattle.image.specs.declared.Home.the-variants.{InImage, InHeader}
+use Rattle.image.specs.declared.Location.{Location}
+use Rattle.image.specs.declared.Location.the-variants.{InImage, InHeader}
 use Rattle.image.specs.declared.Section.{Section}
 use Rattle.parts.specs.Sizes.{imageSize}
 use Rattle.parts.specs.declared.Geometry.{Geometry}
-use Rattle.text.specs.Placing.{Outcome, Refusal, Stream, after, advance, restOf, sameHome}
-use Rattle.text.specs.Storing.{storedIn, laid}
-use Rattle.text.proofs.Placing.{after-append, laid-advance, stored-in}
+use Rattle.text.specs.Placing.{Content, Refusal, Stream, prepend, dueAfter, restOf, sameLocation}
+use Rattle.text.specs.Storing.{filledWith, laid}
+use Rattle.text.proofs.Placing.{prepend-append, laid-due-after, filled-with}
 use Rattle.hex.proofs.Bodies.{payloadIn, payload-length}
 use Rattle.hex.proofs.Sizes.{Roomy, roomy-at, due-at, last-section}
 
@@ -51,10 +51,10 @@ dues-some s ss h = rw (ne-eqb (s .size) 0 (λ e. absurd (omega arith)))
 dues-none : (s : Section) (ss : List Section) → s .size ≡ 0 → dues s ss ≡ []
 dues-none s ss h = rw (eq-eqb (s .size) 0 h)
 
-module _ (g : Geometry) (z : Sized g) (d : Due) (count : ℕ) (some : 1 ≤ count) (le : count ≤ d .section .size) where
-  due-advance : dueList g (advancedOf g d count) ≡ advance count (d .section) (drop (d .next) (sectionsOf g))
-  unfolding advance
-  due-advance = go (eqb count (d .section .size)) refl
+module _ (g : Geometry) (z : TableSizes g) (d : Due) (count : ℕ) (some : 1 ≤ count) (le : count ≤ d .section .size) where
+  due-list-after : dueList g (advancedOf g d count) ≡ dueAfter count (d .section) (drop (d .next) (sectionsOf g))
+  unfolding dueAfter
+  due-list-after = go (eqb count (d .section .size)) refl
     where
       go : (b : Bool) → eqb count (d .section .size) ≡ b
           → dueList g (chosen b g d count)
@@ -86,7 +86,7 @@ module _ (g : Geometry) (z : Sized g) (d : Due) (count : ℕ) (some : 1 ≤ coun
       go true i = omega (arith, last-section g (d .next) i)
       go false i = h
 
--- the place of the loop: the outcome is what the rest comes to after the bytes done, and those are laid where they belong
+-- the place of the loop: the content is what the rest comes to after the bytes done, and those are laid where they belong
 pub record Here (g : Geometry) (text image₀ header₀ image header : List ℕ) (at upper : ℕ) (due : Due) : Type 0 where
   pub at-le : at ≤ length text
   pub upper-lt : upper < 65536
@@ -95,16 +95,16 @@ pub record Here (g : Geometry) (text image₀ header₀ image header : List ℕ)
   pub roomy : Roomy (imageSize g) 15 (due .section)
   pub next-le : 0 < due .section .size → due .next ≤ 5
   pub done : List ℕ
-  pub outcome : outcomeOf text (sectionsOf g) ≡ after done (outcomeAt text at upper (dueList g due))
+  pub content : contentOf text (sectionsOf g) ≡ prepend done (contentAt text at upper (dueList g due))
   pub image-laid : (r : List ℕ) → laid InImage (sectionsOf g) (done ++ r) image₀ ≡ laid InImage (dueList g due) r image
   pub header-laid : (r : List ℕ) → laid InHeader (sectionsOf g) (done ++ r) header₀ ≡ laid InHeader (dueList g due) r header
 
-after-nil : (o : Outcome) → o ≡ after [] o
-unfolding after
-after-nil (Refusal n) = refl
-after-nil (Stream bs) = refl
+prepend-nil : (o : Content) → o ≡ prepend [] o
+unfolding prepend
+prepend-nil (Refusal n) = refl
+prepend-nil (Stream bs) = refl
 
-module _ (g : Geometry) (z : Sized g) (text image₀ header₀ : List ℕ) where
+module _ (g : Geometry) (z : TableSizes g) (text image₀ header₀ : List ℕ) where
   pub here-start : (s : Section) → s ≡ getD (sectionsOf g) 0 noSection → Here g text image₀ header₀ image₀ header₀ 0 0 (record { section = s; next = 1 })
   here-start s e =
       let d : dueList g (record { section = s; next = 1 }) ≡ sectionsOf g = ap (λ (x : Section). dues x (drop 1 (sectionsOf g))) e ∙ due-at g z 0 in
@@ -116,7 +116,7 @@ module _ (g : Geometry) (z : Sized g) (text image₀ header₀ : List ℕ) where
         roomy = rw e (roomy-at g z 0);
         next-le = λ h. lit≤ tt;
         done = [];
-        outcome = after-nil (outcomeOf text (sectionsOf g)) ∙ ap (λ (ds : List Section). after [] (outcomeAt text 0 0 ds)) (sym d);
+        content = prepend-nil (contentOf text (sectionsOf g)) ∙ ap (λ (ds : List Section). prepend [] (contentAt text 0 0 ds)) (sym d);
         image-laid = λ r. ap (λ (ds : List Section). laid InImage ds r image₀) (sym d);
         header-laid = λ r. ap (λ (ds : List Section). laid InHeader ds r header₀) (sym d);
       }
@@ -124,17 +124,17 @@ module _ (g : Geometry) (z : Sized g) (text image₀ header₀ : List ℕ) where
   module _ {image header : List ℕ} {at upper : ℕ} {due : Due} (h : Here g text image₀ header₀ image header at upper due)
       (t : Turn) (row : List ℕ) (turn : TurnAt text at upper (due .section) t row) where
     pub here-stop : (n : ℕ) → t ≡ Stop n → ScannedAs text g image₀ header₀ (Bad n) image header
-    unfolding after
-    here-stop n e = let u = rw e at turn in h .outcome ∙ ap (after (h .done)) (u (drop (due .next) (sectionsOf g)))
+    unfolding prepend
+    here-stop n e = let u = rw e at turn in h .content ∙ ap (prepend (h .done)) (u (drop (due .next) (sectionsOf g)))
 
     pub here-done : t ≡ Done → ScannedAs text g image₀ header₀ Whole image header
-    unfolding after laid
+    unfolding prepend laid
     here-done e =
         let u = rw e at turn in
         let n = dues-none (due .section) (drop (due .next) (sectionsOf g)) (u .1) in
         record {
           stream = h .done ++ [];
-          is = h .outcome ∙ ap (after (h .done)) (u .0 (drop (due .next) (sectionsOf g)));
+          is = h .content ∙ ap (prepend (h .done)) (u .0 (drop (due .next) (sectionsOf g)));
           image-is = sym (h .image-laid [] ∙ ap (λ (ds : List Section). laid InImage ds [] image) n);
           header-is = sym (h .header-laid [] ∙ ap (λ (ds : List Section). laid InHeader ds [] header) n);
         }
@@ -151,7 +151,7 @@ module _ (g : Geometry) (z : Sized g) (text image₀ header₀ : List ℕ) where
             roomy = h .roomy;
             next-le = h .next-le;
             done = h .done;
-            outcome = h .outcome ∙ ap (after (h .done)) (u .0 (dueList g due));
+            content = h .content ∙ ap (prepend (h .done)) (u .0 (dueList g due));
             image-laid = h .image-laid;
             header-laid = h .header-laid;
           }
@@ -185,49 +185,49 @@ module _ (g : Geometry) (z : Sized g) (text image₀ header₀ : List ℕ) where
         put-kept true dst = length-sets dst (due .section .offset) bs
         put-kept false dst = refl
 
-        module _ (home : Home) (dst₀ dst dst′ : List ℕ) (is : dst′ ≡ storedIn home dst (due .section) row 4 count)
-            (room : sameHome home (due .section .home) ≡ true → due .section .offset + due .section .size ≤ length dst)
-            (before : (r : List ℕ) → laid home (sectionsOf g) (h .done ++ r) dst₀ ≡ laid home (dueList g due) r dst) where
-          put-is : dst′ ≡ cond (sameHome home (due .section .home)) (sets dst (due .section .offset) bs) dst
+        module _ (location : Location) (dst₀ dst dst′ : List ℕ) (is : dst′ ≡ filledWith location dst (due .section) row 4 count)
+            (room : sameLocation location (due .section .location) ≡ true → due .section .offset + due .section .size ≤ length dst)
+            (before : (r : List ℕ) → laid location (sectionsOf g) (h .done ++ r) dst₀ ≡ laid location (dueList g due) r dst) where
+          put-is : dst′ ≡ cond (sameLocation location (due .section .location)) (sets dst (due .section .offset) bs) dst
           unfolding bs
           put-is =
               let b = store-bounds in
-              is ∙ stored-in home dst (due .section) row 4 count (omega (arith, b .3)) (λ e. omega (arith, room e, b .4))
+              is ∙ filled-with location dst (due .section) row 4 count (omega (arith, b .3)) (λ e. omega (arith, room e, b .4))
 
           put-length : length dst′ ≡ length dst
-          put-length = ap length put-is ∙ put-kept (sameHome home (due .section .home)) dst
+          put-length = ap length put-is ∙ put-kept (sameLocation location (due .section .location)) dst
 
-          put-laid : (r : List ℕ) → laid home (sectionsOf g) ((h .done ++ bs) ++ r) dst₀ ≡ laid home (dueList g (advancedOf g due count)) r dst′
+          put-laid : (r : List ℕ) → laid location (sectionsOf g) ((h .done ++ bs) ++ r) dst₀ ≡ laid location (dueList g (advancedOf g due count)) r dst′
           put-laid r =
               let b = store-bounds in
-              ap (λ (l : List ℕ). laid home (sectionsOf g) l dst₀) (append-assoc (h .done) bs r)
+              ap (λ (l : List ℕ). laid location (sectionsOf g) l dst₀) (append-assoc (h .done) bs r)
               ∙ before (bs ++ r)
-              ∙ ap (λ (ds : List Section). laid home ds (bs ++ r) dst) full
-              ∙ laid-advance home (due .section) (drop (due .next) (sectionsOf g)) bs r dst (omega (arith, size, b .4))
-              ∙ ap (λ (n : ℕ). laid home (advance n (due .section) (drop (due .next) (sectionsOf g))) r (cond (sameHome home (due .section .home)) (sets dst (due .section .offset) bs) dst)) size
-              ∙ ap (λ (ds : List Section). laid home ds r (cond (sameHome home (due .section .home)) (sets dst (due .section .offset) bs) dst)) (sym (due-advance g z due count (b .2) (b .4)))
-              ∙ ap (laid home (dueList g (advancedOf g due count)) r) (sym put-is)
+              ∙ ap (λ (ds : List Section). laid location ds (bs ++ r) dst) full
+              ∙ laid-due-after location (due .section) (drop (due .next) (sectionsOf g)) bs r dst (omega (arith, size, b .4))
+              ∙ ap (λ (n : ℕ). laid location (dueAfter n (due .section) (drop (due .next) (sectionsOf g))) r (cond (sameLocation location (due .section .location)) (sets dst (due .section .offset) bs) dst)) size
+              ∙ ap (λ (ds : List Section). laid location ds r (cond (sameLocation location (due .section .location)) (sets dst (due .section .offset) bs) dst)) (sym (due-list-after g z due count (b .2) (b .4)))
+              ∙ ap (laid location (dueList g (advancedOf g due count)) r) (sym put-is)
 
-        stream : outcomeOf text (sectionsOf g) ≡ after (h .done ++ bs) (outcomeAt text next upper (dueList g (advancedOf g due count)))
+        stream : contentOf text (sectionsOf g) ≡ prepend (h .done ++ bs) (contentAt text next upper (dueList g (advancedOf g due count)))
         unfolding bs
         stream =
             let u = rw e at turn in
             let b = store-bounds in
-            h .outcome
-            ∙ ap (λ (ds : List Section). after (h .done) (outcomeAt text at upper ds)) full
-            ∙ ap (after (h .done)) (u .0 (drop (due .next) (sectionsOf g)))
-            ∙ after-append (h .done) (payloadIn row count) (outcomeAt text next upper (advance count (due .section) (drop (due .next) (sectionsOf g))))
-            ∙ ap (λ (ds : List Section). after (h .done ++ payloadIn row count) (outcomeAt text next upper ds)) (sym (due-advance g z due count (b .2) (b .4)))
+            h .content
+            ∙ ap (λ (ds : List Section). prepend (h .done) (contentAt text at upper ds)) full
+            ∙ ap (prepend (h .done)) (u .0 (drop (due .next) (sectionsOf g)))
+            ∙ prepend-append (h .done) (payloadIn row count) (contentAt text next upper (dueAfter count (due .section) (drop (due .next) (sectionsOf g))))
+            ∙ ap (λ (ds : List Section). prepend (h .done ++ payloadIn row count) (contentAt text next upper ds)) (sym (due-list-after g z due count (b .2) (b .4)))
 
-        pub here-store : (image′ header′ : List ℕ) (due′ : Due) → image′ ≡ storedIn InImage image (due .section) row 4 count
-            → header′ ≡ storedIn InHeader header (due .section) row 4 count
+        pub here-store : (image′ header′ : List ℕ) (due′ : Due) → image′ ≡ filledWith InImage image (due .section) row 4 count
+            → header′ ≡ filledWith InHeader header (due .section) row 4 count
             → due′ ≡ advancedOf g due count
             → Here g text image₀ header₀ image′ header′ next upper due′
         here-store image′ header′ due′ ei eh ed =
             let b = store-bounds in
-            let ri : sameHome InImage (due .section .home) ≡ true → due .section .offset + due .section .size ≤ length image =
+            let ri : sameLocation InImage (due .section .location) ≡ true → due .section .offset + due .section .size ≤ length image =
             λ q. omega (arith, h .roomy .in-image q, h .image-kept) in
-            let rh : sameHome InHeader (due .section .home) ≡ true → due .section .offset + due .section .size ≤ length header =
+            let rh : sameLocation InHeader (due .section .location) ≡ true → due .section .offset + due .section .size ≤ length header =
             λ q. omega (arith, h .roomy .in-header q, h .header-kept) in
             rw ed
             (record {
@@ -238,7 +238,7 @@ module _ (g : Geometry) (z : Sized g) (text image₀ header₀ : List ℕ) where
               roomy = roomy-advance g z due count (b .2) (b .4) (h .roomy);
               next-le = next-advance g z due count (b .2) (b .4) (h .next-le (omega (arith, b .2, b .4)));
               done = h .done ++ bs;
-              outcome = stream;
+              content = stream;
               image-laid = put-laid InImage image₀ image image′ ei ri (h .image-laid);
               header-laid = put-laid InHeader header₀ header header′ eh rh (h .header-laid);
             })

@@ -7,16 +7,16 @@ use native.Mathlib.Omega.{arith}
 use borrow.Author.Tests.{leb-true, ne-eqb}
 use lib.Dec.{eqb, leb}
 use lib.ListN.{getD, drop, drop-of-length-le}
-use Rattle.hex.specs.Steps.{Sized, dues}
+use Rattle.hex.specs.Steps.{TableSizes, dues}
 use Rattle.image.specs.Sections.{sectionsOf, noSection}
-use Rattle.image.specs.declared.Home.the-variants.{InImage, InHeader}
+use Rattle.image.specs.declared.Location.the-variants.{InImage, InHeader}
 use Rattle.image.specs.declared.Section.{Section}
 use Rattle.parts.specs.Parts.{part1, part2, part3, offers, lookIn, lookupOf}
 use Rattle.parts.specs.Sizes.{rowsOf, flashSize, lockTotal, imageSize}
 use Rattle.parts.specs.declared.Geometry.{Geometry}
 use Rattle.parts.specs.declared.Lookup.the-variants.{Found, Refused}
 use Rattle.parts.specs.declared.Part.{Part}
-use Rattle.text.specs.Placing.{sameHome}
+use Rattle.text.specs.Placing.{sameLocation}
 
 macros-in : (p : Part) (n m : ℕ) → offers p n m ≡ true → (1 ≤ m) × (m ≤ p .«most_macros»)
 macros-in p n m e = go (eqb (p .number) n) (leb 1 m) (leb m (p .«most_macros»)) refl refl e
@@ -27,26 +27,26 @@ macros-in p n m e = go (eqb (p .number) n) (leb 1 m) (leb m (p .«most_macros»)
     go true false c q r h = absurd (false≢true h)
     go false b c q r h = absurd (false≢true h)
 
-sized-1 : (m : ℕ) → 1 ≤ m → m ≤ 1 → Sized (record { part = part1; macros = m })
+sized-1 : (m : ℕ) → 1 ≤ m → m ≤ 1 → TableSizes (record { part = part1; macros = m })
 unfolding rowsOf flashSize lockTotal
 sized-1 m a b = record { flash-some = omega arith; flash-most = omega arith; locks-some = omega arith; locks-most = omega arith }
 
-sized-2 : (m : ℕ) → 1 ≤ m → m ≤ 1 → Sized (record { part = part2; macros = m })
+sized-2 : (m : ℕ) → 1 ≤ m → m ≤ 1 → TableSizes (record { part = part2; macros = m })
 unfolding rowsOf flashSize lockTotal
 sized-2 m a b = record { flash-some = omega arith; flash-most = omega arith; locks-some = omega arith; locks-most = omega arith }
 
-sized-3 : (m : ℕ) → 1 ≤ m → m ≤ 2 → Sized (record { part = part3; macros = m })
+sized-3 : (m : ℕ) → 1 ≤ m → m ≤ 2 → TableSizes (record { part = part3; macros = m })
 unfolding rowsOf flashSize lockTotal
 sized-3 m a b = record { flash-some = omega arith; flash-most = omega arith; locks-some = omega arith; locks-most = omega arith }
 
-pub sized : (n m : ℕ) (g : Geometry) → lookupOf n m ≡ Found g → Sized g
+pub sized : (n m : ℕ) (g : Geometry) → lookupOf n m ≡ Found g → TableSizes g
 unfolding lookIn
 sized n m g = go (offers part1 n m) (offers part2 n m) (offers part3 n m) refl refl refl
   where
     go : (a b c : Bool) → offers part1 n m ≡ a → offers part2 n m ≡ b → offers part3 n m ≡ c
         → cond a (Found (record { part = part1; macros = m }))
         (cond b (Found (record { part = part2; macros = m })) (cond c (Found (record { part = part3; macros = m })) (Refused 11))) ≡ Found g
-        → Sized g
+        → TableSizes g
     go true b c p q r e =
         let x : record { part = part1; macros = m } ≡ g = cc e in
         let i = macros-in part1 n m p in
@@ -61,14 +61,14 @@ sized n m g = go (offers part1 n m) (offers part2 n m) (offers part3 n m) refl r
         rw (← x) (sized-3 m (i .0) (i .1))
     go false false false p q r e = let t : false ≡ true = cc e in absurd (false≢true t)
 
--- a section that has room in its home, and whose addresses have 32 bits
+-- a section that has room in its location, and whose addresses have 32 bits
 pub record Roomy (image header : ℕ) (s : Section) : Type 0 where
-  pub in-image : sameHome InImage (s .home) ≡ true → s .offset + s .size ≤ image
-  pub in-header : sameHome InHeader (s .home) ≡ true → s .offset + s .size ≤ header
+  pub in-image : sameLocation InImage (s .location) ≡ true → s .offset + s .size ≤ image
+  pub in-header : sameLocation InHeader (s .location) ≡ true → s .offset + s .size ≤ header
   pub end : s .offset + s .size ≤ 131200
   pub addresses : s .address + s .size ≤ 4294967296
 
-module _ (g : Geometry) (z : Sized g) where
+module _ (g : Geometry) (z : TableSizes g) where
   pub roomy-at : (k : ℕ) → Roomy (imageSize g) 15 (getD (sectionsOf g) k noSection)
   unfolding imageSize
   roomy-at zero = record {

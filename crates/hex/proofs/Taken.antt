@@ -8,34 +8,34 @@ use borrow.Author.Tests.{eqb-true, eq-eqb}
 use lib.Dec.{eqb, leb}
 use lib.ListN.{length}
 use Rattle.hex.specs.Claims.{Takes}
-use Rattle.hex.specs.Texts.{events, outcomeOf}
+use Rattle.hex.specs.Texts.{events, contentOf}
 use Rattle.image.specs.Checks.{imageFault}
 use Rattle.image.specs.Sections.{sectionsOf, headerOf}
 use Rattle.image.specs.declared.Header.{Header}
-use Rattle.image.specs.declared.Home.the-variants.{InImage, InHeader}
+use Rattle.image.specs.declared.Location.the-variants.{InImage, InHeader}
 use Rattle.parts.proofs.Table.{everywhere, entry, both}
 use Rattle.parts.specs.Parts.{partTable, lookupOf}
 use Rattle.parts.specs.Sizes.{flashSize, lockTotal, imageSize, rowsOf}
 use Rattle.parts.specs.declared.Geometry.{Geometry}
 use Rattle.parts.specs.declared.Lookup.{Lookup}
 use Rattle.parts.specs.declared.Lookup.the-variants.{Found, Refused}
-use Rattle.text.proofs.Pieces.{place-data}
-use Rattle.text.proofs.Placing.{place-length}
+use Rattle.text.proofs.Pieces.{placing-data}
+use Rattle.text.proofs.Placing.{placing-length}
 use Rattle.text.specs.Lines.{linesOf}
-use Rattle.text.specs.Placing.{Outcome, Refusal, Stream, gathered, overall}
+use Rattle.text.specs.Placing.{Content, Refusal, Stream, gathered, overall}
 use Rattle.text.specs.Reading.{Untouched, Cleared, Taken, judged, readFor}
 
 pub record TakenFrom (part macros : ℕ) (text : List ℕ) (room : ℕ) (h : Header) (bytes : List ℕ) : Type 0 where
   pub g : Geometry
   pub found : lookupOf part macros ≡ Found g
   pub stream : List ℕ
-  pub outcome : outcomeOf text (sectionsOf g) ≡ Stream stream
+  pub content : contentOf text (sectionsOf g) ≡ Stream stream
   pub header : headerOf part macros (gathered InHeader (sectionsOf g) stream) ≡ h
   pub image : gathered InImage (sectionsOf g) stream ≡ bytes
   pub none : imageFault h bytes ≡ 0
 
 module _ (part macros : ℕ) (text : List ℕ) (room : ℕ) (h : Header) (bytes : List ℕ) where
-  from-stream : (g : Geometry) (found : lookupOf part macros ≡ Found g) (s : List ℕ) → outcomeOf text (sectionsOf g) ≡ Stream s
+  from-stream : (g : Geometry) (found : lookupOf part macros ≡ Found g) (s : List ℕ) → contentOf text (sectionsOf g) ≡ Stream s
       → judged g part macros (Stream s) ≡ Taken h bytes
       → TakenFrom part macros text room h bytes
   from-stream g found s o = go (eqb (imageFault i b) 0) refl
@@ -51,24 +51,24 @@ module _ (part macros : ℕ) (text : List ℕ) (room : ℕ) (h : Header) (bytes 
       go true q e =
           let ei : i ≡ h = cc e in
           let eb : b ≡ bytes = cc e in
-          record { g = g; found = found; stream = s; outcome = o; header = ei; image = eb; none = ap (λ (x : Header). imageFault x bytes) (sym ei) ∙ ap (imageFault i) (sym eb) ∙ eqb-true (imageFault i b) 0 q }
+          record { g = g; found = found; stream = s; content = o; header = ei; image = eb; none = ap (λ (x : Header). imageFault x bytes) (sym ei) ∙ ap (imageFault i) (sym eb) ∙ eqb-true (imageFault i b) 0 q }
       go false q e = let t : false ≡ true = cc e in absurd (false≢true t)
 
   pub taken-from : Takes part macros text room h bytes → TakenFrom part macros text room h bytes
   taken-from = look (lookupOf part macros) refl
     where
-      come : (g : Geometry) → lookupOf part macros ≡ Found g → (o : Outcome) → outcomeOf text (sectionsOf g) ≡ o → judged g part macros o ≡ Taken h bytes
+      come : (g : Geometry) → lookupOf part macros ≡ Found g → (o : Content) → contentOf text (sectionsOf g) ≡ o → judged g part macros o ≡ Taken h bytes
           → TakenFrom part macros text room h bytes
       come g q (Refusal n) d e = let t : false ≡ true = cc e in absurd (false≢true t)
       come g q (Stream s) d e = from-stream g q s d e
 
       fit : (g : Geometry) → lookupOf part macros ≡ Found g → (y : Bool)
-          → cond y (judged g part macros (outcomeOf text (sectionsOf g))) (Untouched 12) ≡ Taken h bytes
+          → cond y (judged g part macros (contentOf text (sectionsOf g))) (Untouched 12) ≡ Taken h bytes
           → TakenFrom part macros text room h bytes
-      fit g q true e = come g q (outcomeOf text (sectionsOf g)) refl e
+      fit g q true e = come g q (contentOf text (sectionsOf g)) refl e
       fit g q false e = let t : false ≡ true = cc e in absurd (false≢true t)
 
-      look : (l : Lookup) → lookupOf part macros ≡ l → readFor l part macros room (outcomeOf text) ≡ Taken h bytes → TakenFrom part macros text room h bytes
+      look : (l : Lookup) → lookupOf part macros ≡ l → readFor l part macros room (contentOf text) ≡ Taken h bytes → TakenFrom part macros text room h bytes
       look (Refused n) q e = let t : false ≡ true = cc e in absurd (false≢true t)
       look (Found g) q e = fit g q (leb (imageSize g) room) e
 
@@ -106,12 +106,12 @@ one-image part macros part′ macros′ text room room′ h h′ bytes bytes′ 
     let a = taken-from part macros text room h bytes t in
     let b = taken-from part′ macros′ text room′ h′ bytes′ t′ in
     let es = events 0 (linesOf text) in
-    let d : a .stream ≡ b .stream = place-data es (sectionsOf (a .g)) (a .stream) (a .outcome) ∙ sym (place-data es (sectionsOf (b .g)) (b .stream) (b .outcome)) in
+    let d : a .stream ≡ b .stream = placing-data es (sectionsOf (a .g)) (a .stream) (a .content) ∙ sym (placing-data es (sectionsOf (b .g)) (b .stream) (b .content)) in
     let z : imageSize (a .g) ≡ imageSize (b .g) =
     omega (
       arith,
-      place-length es (sectionsOf (a .g)) (a .stream) (a .outcome),
-      place-length es (sectionsOf (b .g)) (b .stream) (b .outcome),
+      placing-length es (sectionsOf (a .g)) (a .stream) (a .content),
+      placing-length es (sectionsOf (b .g)) (b .stream) (b .content),
       ap length d,
       sizes-sum (a .g),
       sizes-sum (b .g),

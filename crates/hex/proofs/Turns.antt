@@ -1,4 +1,4 @@
--- What the record at a position does to the outcome. Assumes nothing.
+-- What the record at a position does to the content. Assumes nothing.
 use mathlib.Core.Bool.{Bool, true, false, _&&_, cond}
 use mathlib.Core.List.{List, [], _∷_}
 use mathlib.Core.Path.{_≡_, refl, ap, _∙_}
@@ -9,14 +9,14 @@ use lib.Dec.{eqb, leb}
 use lib.ListN.{length, getD, drop, drop-of-length-le}
 use lib.Seq.{drop-cons}
 use Rattle.hex.specs.Records.{Record, BadRecord, DataRecord, ExtendedAddress, EndRecord}
-use Rattle.hex.specs.Steps.{LineAt, LineTo, FoundAt, outcomeAt, dues, dataTurn, endTurn, TurnAt}
+use Rattle.hex.specs.Steps.{LineAt, LineTo, FoundAt, contentAt, dues, dataTurn, endTurn, TurnAt}
 use Rattle.hex.specs.Texts.{upperAfter, eventOf, events}
 use Rattle.hex.specs.declared.Found.{Found}
 use Rattle.hex.specs.declared.Found.the-variants.{Refused, Payload, Extended, Ended}
 use Rattle.hex.specs.declared.Turn.the-variants.{Stop, Done, Moved, Store}
 use Rattle.image.specs.declared.Section.{Section}
 use Rattle.text.specs.Lines.{Line, linesOf}
-use Rattle.text.specs.Placing.{Event, Data, Refusal, Stream, place}
+use Rattle.text.specs.Placing.{Event, Data, Refusal, Stream, placing}
 use Rattle.text.proofs.Lines.{some-line}
 use Rattle.hex.proofs.Bodies.{payloadIn, payload-length}
 
@@ -32,25 +32,25 @@ no-lines : (s : List ℕ) (at : ℕ) → length s ≤ at → linesOf (drop at s)
 unfolding linesOf
 no-lines s at h = ap linesOf (drop-of-length-le s {i = at} h)
 
-pub at-end : (s : List ℕ) (at u : ℕ) (ds : List Section) → length s ≤ at → outcomeAt s at u ds ≡ Refusal 5
-unfolding events place
+pub at-end : (s : List ℕ) (at u : ℕ) (ds : List Section) → length s ≤ at → contentAt s at u ds ≡ Refusal 5
+unfolding events placing
 at-end s at u ds h = rw (no-lines s at h)
 
 -- a record that is refused
-pub stopped : (s : List ℕ) (at u n : ℕ) (ds : List Section) → LineAt s at (BadRecord n) → outcomeAt s at u ds ≡ Refusal n
-unfolding events eventOf place
+pub stopped : (s : List ℕ) (at u n : ℕ) (ds : List Section) → LineAt s at (BadRecord n) → contentAt s at u ds ≡ Refusal n
+unfolding events eventOf placing
 stopped s at u n ds l = rw (l .is) (rw (l .says))
 
 -- a record, and the lines after it
 onward : (s : List ℕ) (at next u : ℕ) (r : Record) (ds : List Section) → LineTo s at next r
-    → outcomeAt s at u ds ≡ place ds (eventOf u r ∷ events (upperAfter u r) (linesOf (drop next s)))
+    → contentAt s at u ds ≡ placing ds (eventOf u r ∷ events (upperAfter u r) (linesOf (drop next s)))
 unfolding events
 onward s at next u r ds l =
-    ap (λ (ls : List Line). place ds (events u ls)) (l .is)
-    ∙ ap (λ (x : Record). place ds (eventOf u x ∷ events (upperAfter u x) (linesOf (drop next s)))) (l .says)
+    ap (λ (ls : List Line). placing ds (events u ls)) (l .is)
+    ∙ ap (λ (x : Record). placing ds (eventOf u x ∷ events (upperAfter u x) (linesOf (drop next s)))) (l .says)
 
-pub moved : (s : List ℕ) (at next u new : ℕ) (ds : List Section) → LineTo s at next (ExtendedAddress new) → outcomeAt s at u ds ≡ outcomeAt s next new ds
-unfolding eventOf upperAfter place
+pub moved : (s : List ℕ) (at next u new : ℕ) (ds : List Section) → LineTo s at next (ExtendedAddress new) → contentAt s at u ds ≡ contentAt s next new ds
+unfolding eventOf upperAfter placing
 moved s at next u new ds l = onward s at next u (ExtendedAddress new) ds l
 
 -- payload
@@ -59,23 +59,23 @@ module _ (s : List ℕ) (at next u low count : ℕ) (due : Section) (row : List 
   rest : List Event
   rest = events u (linesOf (drop next s))
 
-  crosses : leb (low + count) 65536 ≡ false → (ds : List Section) → outcomeAt s at u ds ≡ Refusal 4
-  unfolding eventOf upperAfter place
+  crosses : leb (low + count) 65536 ≡ false → (ds : List Section) → contentAt s at u ds ≡ Refusal 4
+  unfolding eventOf upperAfter placing
   crosses h ds = onward s at next u (DataRecord low (payloadIn row count)) ds l ∙ rw (size, h)
 
-  fits-line : leb (low + count) 65536 ≡ true → (ds : List Section) → outcomeAt s at u ds ≡ place ds (Data (65536 * u + low) (payloadIn row count) ∷ rest)
+  fits-line : leb (low + count) 65536 ≡ true → (ds : List Section) → contentAt s at u ds ≡ placing ds (Data (65536 * u + low) (payloadIn row count) ∷ rest)
   unfolding eventOf upperAfter rest
   fits-line h ds = onward s at next u (DataRecord low (payloadIn row count)) ds l ∙ rw (size, h)
 
   no-place : (b : Bool) → (eqb (65536 * u + low) (due .address) && leb count (due .size)) ≡ false → (ss : List Section)
-      → place (cond b [] (due ∷ ss)) (Data (65536 * u + low) (payloadIn row count) ∷ rest) ≡ Refusal 4
-  unfolding place
+      → placing (cond b [] (due ∷ ss)) (Data (65536 * u + low) (payloadIn row count) ∷ rest) ≡ Refusal 4
+  unfolding placing
   no-place true h ss = refl
   no-place false h ss = rw size (rw h)
 
   by-tests : (a b c : Bool) → leb (low + count) 65536 ≡ a → eqb (65536 * u + low) (due .address) ≡ b → leb count (due .size) ≡ c
       → TurnAt s at u due (cond (a && (b && c)) (Store count next) (Stop 4)) row
-  unfolding place rest
+  unfolding placing rest
   by-tests true true true p q r =
       (λ ss. fits-line p (due ∷ ss) ∙ rw size (rw (q, r)), l .more, l .inside, some, small, leb-true count (due .size) r)
   by-tests true true false p q r = λ ss. fits-line p (dues due ss) ∙ no-place (eqb (due .size) 0) (rw (q, r)) ss
@@ -88,31 +88,31 @@ module _ (s : List ℕ) (at next u low count : ℕ) (due : Section) (row : List 
 
 -- the end record
 module _ (s : List ℕ) (at next u : ℕ) (due : Section) (row : List ℕ) (l : LineTo s at next EndRecord) where
-  ends : (ds : List Section) → outcomeAt s at u ds ≡ place ds (eventOf u EndRecord ∷ events u (linesOf (drop next s)))
+  ends : (ds : List Section) → contentAt s at u ds ≡ placing ds (eventOf u EndRecord ∷ events u (linesOf (drop next s)))
   unfolding upperAfter
   ends ds = onward s at next u EndRecord ds l
 
-  last : next ≡ length s → outcomeAt s at u [] ≡ Stream []
-  unfolding eventOf events place
+  last : next ≡ length s → contentAt s at u [] ≡ Stream []
+  unfolding eventOf events placing
   last h = ends [] ∙ rw (no-lines s next (omega arith))
 
-  followed : (next ≡ length s → ⊥) → outcomeAt s at u [] ≡ Refusal 5
-  unfolding eventOf events place
+  followed : (next ≡ length s → ⊥) → contentAt s at u [] ≡ Refusal 5
+  unfolding eventOf events placing
   followed h =
       let f = some-line (getD s next 0) (drop (suc next) s) in
       let i = l .inside in
       let e : linesOf (drop next s) ≡ f .0 ∷ f .1 = ap linesOf (drop-cons s next 0 (lt-of-ne next (length s) i h)) ∙ f .2 in
       ends [] ∙ rw e
 
-  early : (ss : List Section) → outcomeAt s at u (due ∷ ss) ≡ Refusal 5
-  unfolding eventOf place
+  early : (ss : List Section) → contentAt s at u (due ∷ ss) ≡ Refusal 5
+  unfolding eventOf placing
   early ss = ends (due ∷ ss)
 
   by-end : (a b : Bool) → eqb (due .size) 0 ≡ a → eqb next (length s) ≡ b → TurnAt s at u due (cond (a && b) Done (Stop 5)) row
   by-end true true p q =
-      ((λ ss. ap (λ (t : Bool). outcomeAt s at u (cond t [] (due ∷ ss))) p ∙ last (eqb-true next (length s) q)), eqb-true (due .size) 0 p)
-  by-end true false p q = λ ss. ap (λ (t : Bool). outcomeAt s at u (cond t [] (due ∷ ss))) p ∙ followed (eqb-false next (length s) q)
-  by-end false b p q = λ ss. ap (λ (t : Bool). outcomeAt s at u (cond t [] (due ∷ ss))) p ∙ early ss
+      ((λ ss. ap (λ (t : Bool). contentAt s at u (cond t [] (due ∷ ss))) p ∙ last (eqb-true next (length s) q)), eqb-true (due .size) 0 p)
+  by-end true false p q = λ ss. ap (λ (t : Bool). contentAt s at u (cond t [] (due ∷ ss))) p ∙ followed (eqb-false next (length s) q)
+  by-end false b p q = λ ss. ap (λ (t : Bool). contentAt s at u (cond t [] (due ∷ ss))) p ∙ early ss
 
   pub end-turn : TurnAt s at u due (endTurn due next (length s)) row
   unfolding endTurn
@@ -120,7 +120,7 @@ module _ (s : List ℕ) (at next u : ℕ) (due : Section) (row : List ℕ) (l : 
 
 -- what a record that was found does
 module _ (s : List ℕ) (at next u : ℕ) (due : Section) (r : Found) (row : List ℕ) (h : FoundAt s at next r row) where
-  pub found-refused : (n : ℕ) → r ≡ Refused n → (ss : List Section) → outcomeAt s at u (dues due ss) ≡ Refusal n
+  pub found-refused : (n : ℕ) → r ≡ Refused n → (ss : List Section) → contentAt s at u (dues due ss) ≡ Refusal n
   found-refused n e ss = stopped s at u n (dues due ss) (rw e at h)
 
   pub found-bounds : (low count : ℕ) → r ≡ Payload low count → (low < 65536) × (1 ≤ count) × (count ≤ 255)

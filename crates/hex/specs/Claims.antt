@@ -3,7 +3,7 @@ use mathlib.Core.List.{List, _∷_, _++_}
 use mathlib.Core.Path.{_≡_}
 use Prim.Native.Nat.{ℕ}
 use lib.ListN.{length}
-use Rattle.hex.specs.Texts.{outcomeOf, hexReading}
+use Rattle.hex.specs.Texts.{contentOf, hexReading}
 use Rattle.image.specs.Checks.{imageFault}
 use Rattle.image.specs.declared.Header.{Header}
 use Rattle.image.specs.declared.Section.{Section}
@@ -22,7 +22,7 @@ pub record ReadingClaims : Type 0 where
   -- what is taken passes the checks of writing and starting: 11, 12, 6 to 10
   pub sound : (part macros : ℕ) (text : List ℕ) (room : ℕ) (h : Header) (bytes : List ℕ) → Takes part macros text room h bytes → imageFault h bytes ≡ 0
   -- 'each byte once': the records in place have just the bytes of the sections
-  pub each-once : (text : List ℕ) (due : List Section) (stream : List ℕ) → outcomeOf text due ≡ Stream stream → length stream ≡ overall (λ s. s .size) due
+  pub each-once : (text : List ℕ) (due : List Section) (stream : List ℕ) → contentOf text due ≡ Stream stream → length stream ≡ overall (λ s. s .size) due
   -- 'anything after the end record is 5, unread'
-  pub followed : (text : List ℕ) (due : List Section) (stream : List ℕ) (c : ℕ) (more : List ℕ) → outcomeOf text due ≡ Stream stream
-      → outcomeOf (text ++ (c ∷ more)) due ≡ Refusal 5
+  pub followed : (text : List ℕ) (due : List Section) (stream : List ℕ) (c : ℕ) (more : List ℕ) → contentOf text due ≡ Stream stream
+      → contentOf (text ++ (c ∷ more)) due ≡ Refusal 5

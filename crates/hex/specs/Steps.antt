@@ -6,7 +6,7 @@ use Prim.Native.Nat.{ℕ, _+_, _*_, _≤_, _<_}
 use lib.Dec.{eqb, leb}
 use lib.ListN.{length, getD, take, drop}
 use Rattle.hex.specs.Records.{Record, BadRecord, DataRecord, ExtendedAddress, EndRecord, lineRecord, recordOf}
-use Rattle.hex.specs.Texts.{events, outcomeOf}
+use Rattle.hex.specs.Texts.{events, contentOf}
 use Rattle.hex.specs.declared.Due.{Due}
 use Rattle.hex.specs.declared.Found.{Found}
 use Rattle.hex.specs.declared.Found.the-variants.{Refused, Payload, Extended, Ended}
@@ -18,12 +18,12 @@ use Rattle.hex.specs.declared.Turn.{Turn}
 use Rattle.hex.specs.declared.Turn.the-variants.{Stop, Done, Moved, Store}
 use Rattle.image.specs.Sections.{sectionsOf, noSection}
 use Rattle.image.specs.Words.{total}
-use Rattle.image.specs.declared.Home.the-variants.{InImage, InHeader}
+use Rattle.image.specs.declared.Location.the-variants.{InImage, InHeader}
 use Rattle.image.specs.declared.Section.{Section}
 use Rattle.parts.specs.Sizes.{flashSize, lockTotal}
 use Rattle.parts.specs.declared.Geometry.{Geometry}
 use Rattle.text.specs.Lines.{Line, linesOf}
-use Rattle.text.specs.Placing.{Outcome, Refusal, Stream, place, after, advance, restOf}
+use Rattle.text.specs.Placing.{Content, Refusal, Stream, placing, prepend, dueAfter, restOf}
 use Rattle.text.specs.Storing.{laid}
 
 -- the first line at a position is such a record
@@ -70,8 +70,8 @@ FoundAt text at next (Extended upper) row = LineTo text at next (ExtendedAddress
 FoundAt text at next Ended row = LineTo text at next EndRecord
 
 -- what the lines from a position on come to
-abbrev pub outcomeAt : (text : List ℕ) (at upper : ℕ) (due : List Section) → Outcome
-outcomeAt text at upper due = place due (events upper (linesOf (drop at text)))
+abbrev pub contentAt : (text : List ℕ) (at upper : ℕ) (due : List Section) → Content
+contentAt text at upper due = placing due (events upper (linesOf (drop at text)))
 
 -- a section and those after it; one of no bytes stands for none
 abbrev pub dues : Section → List Section → List Section
@@ -84,14 +84,14 @@ dataTurn due upper low count next =
 unfoldable pub endTurn : Section → (next len : ℕ) → Turn
 endTurn due next len = cond (eqb (due .size) 0 && eqb next len) Done (Stop 5)
 
--- what a turn does to the outcome, whatever sections follow the one that is due
+-- what a turn does to the content, whatever sections follow the one that is due
 abbrev pub TurnAt : (text : List ℕ) (at upper : ℕ) → Section → Turn → (row : List ℕ) → Type 0
-TurnAt text at upper due (Stop n) row = (ss : List Section) → outcomeAt text at upper (dues due ss) ≡ Refusal n
-TurnAt text at upper due Done row = ((ss : List Section) → outcomeAt text at upper (dues due ss) ≡ Stream []) × (due .size ≡ 0)
+TurnAt text at upper due (Stop n) row = (ss : List Section) → contentAt text at upper (dues due ss) ≡ Refusal n
+TurnAt text at upper due Done row = ((ss : List Section) → contentAt text at upper (dues due ss) ≡ Stream []) × (due .size ≡ 0)
 TurnAt text at upper due (Moved next new) row =
-    ((ss : List Section) → outcomeAt text at upper ss ≡ outcomeAt text next new ss) × (at < next) × (next ≤ length text) × (new < 65536)
+    ((ss : List Section) → contentAt text at upper ss ≡ contentAt text next new ss) × (at < next) × (next ≤ length text) × (new < 65536)
 TurnAt text at upper due (Store count next) row =
-    ((ss : List Section) → outcomeAt text at upper (due ∷ ss) ≡ after (take count (drop 4 row)) (outcomeAt text next upper (advance count due ss)))
+    ((ss : List Section) → contentAt text at upper (due ∷ ss) ≡ prepend (take count (drop 4 row)) (contentAt text next upper (dueAfter count due ss)))
     × (at < next)
     × (next ≤ length text)
     × (1 ≤ count)
@@ -99,7 +99,7 @@ TurnAt text at upper due (Store count next) row =
     × (count ≤ due .size)
 
 -- the sizes of a part in the table
-pub record Sized (g : Geometry) : Type 0 where
+pub record TableSizes (g : Geometry) : Type 0 where
   pub flash-some : 0 < flashSize g
   pub flash-most : flashSize g ≤ 131072
   pub locks-some : 0 < lockTotal g
@@ -114,10 +114,10 @@ advancedOf g d count =
 -- a text whose records all are in place, and where its bytes are
 pub record Filled (text : List ℕ) (g : Geometry) (image₀ header₀ image header : List ℕ) : Type 0 where
   pub stream : List ℕ
-  pub is : outcomeOf text (sectionsOf g) ≡ Stream stream
+  pub is : contentOf text (sectionsOf g) ≡ Stream stream
   pub image-is : image ≡ laid InImage (sectionsOf g) stream image₀
   pub header-is : header ≡ laid InHeader (sectionsOf g) stream header₀
 
 abbrev pub ScannedAs : (text : List ℕ) (g : Geometry) (image₀ header₀ : List ℕ) → Scanned → (image header : List ℕ) → Type 0
-ScannedAs text g image₀ header₀ (Bad n) image header = outcomeOf text (sectionsOf g) ≡ Refusal n
+ScannedAs text g image₀ header₀ (Bad n) image header = contentOf text (sectionsOf g) ≡ Refusal n
 ScannedAs text g image₀ header₀ Whole image header = Filled text g image₀ header₀ image header

@@ -7,7 +7,7 @@ use lib.ListN.{length}
 use Rattle.hex.specs.Records.{Record, BadRecord, DataRecord, ExtendedAddress, EndRecord, lineRecord}
 use Rattle.image.specs.declared.Section.{Section}
 use Rattle.text.specs.Lines.{Line, linesOf}
-use Rattle.text.specs.Placing.{Event, Bad, Other, Data, End, Outcome, place}
+use Rattle.text.specs.Placing.{Event, Bad, Other, Data, End, Content, placing}
 use Rattle.text.specs.Reading.{Reading, readingOf}
 
 -- the upper half after a record
@@ -29,9 +29,9 @@ events upper [] = []
 events upper (l ∷ ls) = eventOf upper (lineRecord l) ∷ events (upperAfter upper (lineRecord l)) ls
 
 -- what a text comes to against the sections that are due; 'The upper address half starts at 0'
-abbrev pub outcomeOf : (text : List ℕ) (due : List Section) → Outcome
-outcomeOf text due = place due (events 0 (linesOf text))
+abbrev pub contentOf : (text : List ℕ) (due : List Section) → Content
+contentOf text due = placing due (events 0 (linesOf text))
 
 -- reading a text for part and M into a buffer of `room` bytes; text's specs/Reading.antt has its answer and the buffer after it
 abbrev pub hexReading : (part macros : ℕ) (text : List ℕ) (room : ℕ) → Reading
-hexReading part macros text room = readingOf part macros room (outcomeOf text)
+hexReading part macros text room = readingOf part macros room (contentOf text)

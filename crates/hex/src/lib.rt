@@ -2,8 +2,8 @@
 ghost use mathlib.Core.Path.{_≡_};
 ghost use Prim.Native.Nat.{_+_, _*_, _≤_, _<_};
 ghost use lib.ListN.{length, getD};
-ghost use Rattle.hex.specs.Steps.{FrameAt, foundIn, FoundAt, dataTurn, endTurn, TurnAt, Sized, advancedOf, ScannedAs};
-ghost use Rattle.hex.specs.Texts.{outcomeOf, hexReading};
+ghost use Rattle.hex.specs.Steps.{FrameAt, foundIn, FoundAt, dataTurn, endTurn, TurnAt, TableSizes, advancedOf, ScannedAs};
+ghost use Rattle.hex.specs.Texts.{contentOf, hexReading};
 ghost use Rattle.image.specs.Sections.{sectionsOf};
 ghost use Rattle.parts.specs.Parts.{lookupOf};
 ghost use Rattle.parts.specs.Sizes.{imageSize};
@@ -215,12 +215,12 @@ fn advanced(g: Geometry, due: Due, count: usize) -> Due
             next: next + 1,
         };
     }
-    let home = s.home;
+    let location = s.location;
     Due {
         section: Section {
             address: s.address + count as u32,
             size: s.size - count,
-            home,
+            location,
             offset: s.offset + count,
         },
         next,
@@ -229,7 +229,7 @@ fn advanced(g: Geometry, due: Due, count: usize) -> Due
 
 // Puts the payload of a text's records into the image and the header's bytes.
 fn scan(g: Geometry, text: &[u8], image: &mut [u8], header: &mut [u8]) -> Scanned
-    requires { ⌜ Sized g × (length (now image) ≡ imageSize g) × (length (now header) ≡ 15) ⌝ }
+    requires { ⌜ TableSizes g × (length (now image) ≡ imageSize g) × (length (now header) ≡ 15) ⌝ }
     ensures { λ r. ⌜ ScannedAs (now (text .entry)) g (now (image .entry)) (now (header .entry)) r (now (image .exit)) (now (header .exit)) ⌝ }
 {
     let flash = parts::flash_size(g);
@@ -262,8 +262,8 @@ fn scan(g: Geometry, text: &[u8], image: &mut [u8], header: &mut [u8]) -> Scanne
 // Reads a text into an image of its size.
 fn read_image(g: Geometry, part: u8, macros: u8, text: &[u8], image: &mut [u8]) -> ReadAnswer
     requires { ⌜ (lookupOf part macros ≡ Lookup.Found g) × (length (now image) ≡ imageSize g) ⌝ }
-    ensures { λ r. ⌜ r ≡ answerOf (judged g part macros (outcomeOf (now (text .entry)) (sectionsOf g))) ⌝ }
-    ensures { λ _. ⌜ now (image .exit) ≡ bufferAfter (judged g part macros (outcomeOf (now (text .entry)) (sectionsOf g))) (now (image .entry)) ⌝ }
+    ensures { λ r. ⌜ r ≡ answerOf (judged g part macros (contentOf (now (text .entry)) (sectionsOf g))) ⌝ }
+    ensures { λ _. ⌜ now (image .exit) ≡ bufferAfter (judged g part macros (contentOf (now (text .entry)) (sectionsOf g))) (now (image .entry)) ⌝ }
 {
     let mut header = [0u8; 15];
     let scanned = scan(g, text, image, &mut header);

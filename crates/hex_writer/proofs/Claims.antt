@@ -18,14 +18,14 @@ use Rattle.hex_writer.proofs.RoundTrip as trip
 use Rattle.hex_writer.proofs.Written.{written-from, writes, some-number}
 use Rattle.image.specs.Sections.{sectionsOf, headerOf}
 use Rattle.image.specs.declared.Header.{Header}
-use Rattle.image.specs.declared.Home.the-variants.{InImage, InHeader}
+use Rattle.image.specs.declared.Location.the-variants.{InImage, InHeader}
 use Rattle.parts.specs.Parts.{lookupOf}
 use Rattle.parts.specs.Sizes.{flashSize, lockTotal, imageSize}
 use Rattle.parts.specs.declared.Geometry.{Geometry}
 use Rattle.parts.specs.declared.Lookup.the-variants.{Found}
 use Rattle.text.proofs.Capitals.{AllBytes, all-bytes, bytes-take, bytes-drop}
-use Rattle.text.proofs.Pieces.{place-data, gathered-bytes}
-use Rattle.text.proofs.Placing.{place-length, image-length}
+use Rattle.text.proofs.Pieces.{placing-data, gathered-bytes}
+use Rattle.text.proofs.Placing.{placing-length, image-length}
 use Rattle.text.specs.Lines.{linesOf}
 use Rattle.text.specs.Placing.{gathered, overall}
 use Rattle.text.specs.Reading.{Reading, Taken, answerOf, bufferAfter}
@@ -109,8 +109,8 @@ again part macros known text space h bytes room offered t fits =
     let g = a .g in
     let s = a .stream in
     let es = events 0 (linesOf text) in
-    let each = place-length es (sectionsOf g) s (a .outcome) in
-    let all : AllBytes s = subst AllBytes (sym (place-data es (sectionsOf g) s (a .outcome))) (data-bytes 0 (linesOf text)) in
+    let each = placing-length es (sectionsOf g) s (a .content) in
+    let all : AllBytes s = subst AllBytes (sym (placing-data es (sectionsOf g) s (a .content))) (data-bytes 0 (linesOf text)) in
     let ty : Typed h bytes =
     subst (Typed h) (a .image) (subst (λ (x : Header). Typed x (gathered InImage (sectionsOf g) s)) (a .header) (typed part macros g s all each)) in
     let p : part ≡ h .part = ap (λ (x : Header). x .part) (a .header) in

@@ -15,49 +15,49 @@ use Rattle.text.specs.Lines.{Line, Ended, Open, withoutCR}
 use Rattle.text.specs.Placing.{Event, Bad, Data}
 
 -- a record whose payload, if it has one, is bytes
-abbrev Fine : Record → Type 0
-Fine (BadRecord n) = Unit {0}
-Fine (DataRecord low bs) = AllBytes bs
-Fine (ExtendedAddress upper) = Unit {0}
-Fine EndRecord = Unit {0}
+abbrev PayloadBytes : Record → Type 0
+PayloadBytes (BadRecord n) = Unit {0}
+PayloadBytes (DataRecord low bs) = AllBytes bs
+PayloadBytes (ExtendedAddress upper) = Unit {0}
+PayloadBytes EndRecord = Unit {0}
 
-either : (b : Bool) (x y : Record) → Fine x → Fine y → Fine (cond b x y)
+either : (b : Bool) (x y : Record) → PayloadBytes x → PayloadBytes y → PayloadBytes (cond b x y)
 either true x y h k = h
 either false x y h k = k
 
-fine-typed : (kind low : ℕ) (payload : List ℕ) → AllBytes payload → Fine (typed kind low payload)
+payload-typed : (kind low : ℕ) (payload : List ℕ) → AllBytes payload → PayloadBytes (typed kind low payload)
 unfolding typed
-fine-typed kind low payload a =
+payload-typed kind low payload a =
     either (eqb kind 0) _ _ (either (leb 1 (length payload)) (DataRecord low payload) (BadRecord 3) a tt)
     (either (eqb kind 4) _ _ (either (eqb (length payload) 2 && eqb low 0) (ExtendedAddress (highFirst payload)) (BadRecord 3) tt tt)
     (either (eqb kind 1) _ (BadRecord 3) (either (eqb (length payload) 0 && eqb low 0) EndRecord (BadRecord 3) tt tt) tt))
 
-fine-record : (bs : List ℕ) → AllBytes bs → Fine (recordOf bs)
+payload-record : (bs : List ℕ) → AllBytes bs → PayloadBytes (recordOf bs)
 unfolding recordOf
-fine-record [] a = tt
-fine-record (count ∷ bs) a =
+payload-record [] a = tt
+payload-record (count ∷ bs) a =
     either (eqb (length bs) (count + 4)) _ (BadRecord 1)
     (either (eqb (total (count ∷ bs) % 256) 0) (typed (getD bs 2 0) (highFirst bs) (take count (drop 3 bs))) (BadRecord 2)
-    (fine-typed (getD bs 2 0) (highFirst bs) (take count (drop 3 bs)) (bytes-take count (drop 3 bs) (bytes-drop 3 bs (a .1)))) tt)
+    (payload-typed (getD bs 2 0) (highFirst bs) (take count (drop 3 bs)) (bytes-take count (drop 3 bs) (bytes-drop 3 bs (a .1)))) tt)
     tt
 
-fine-spelt : (m : List ℕ) (t : Spelt) → spelt m ≡ t → Fine (ofSpelt t)
+payload-spelt : (m : List ℕ) (t : Spelt) → spelt m ≡ t → PayloadBytes (ofSpelt t)
 unfolding ofSpelt
-fine-spelt m Unreadable e = tt
-fine-spelt m (Spells bs) e = fine-record bs (bytes-spelt m bs e)
+payload-spelt m Unreadable e = tt
+payload-spelt m (Spells bs) e = payload-record bs (bytes-spelt m bs e)
 
-fine-body : (l : List ℕ) → Fine (ofBody l)
+payload-body : (l : List ℕ) → PayloadBytes (ofBody l)
 unfolding ofBody
-fine-body [] = tt
-fine-body (c ∷ s) = either (eqb c 58) (ofSpelt (spelt s)) (BadRecord 1) (fine-spelt s (spelt s) refl) tt
+payload-body [] = tt
+payload-body (c ∷ s) = either (eqb c 58) (ofSpelt (spelt s)) (BadRecord 1) (payload-spelt s (spelt s) refl) tt
 
-fine-line : (l : Line) → Fine (lineRecord l)
+payload-line : (l : Line) → PayloadBytes (lineRecord l)
 unfolding lineRecord
-fine-line (Open l) = tt
-fine-line (Ended l) = fine-body (withoutCR l)
+payload-line (Open l) = tt
+payload-line (Ended l) = payload-body (withoutCR l)
 
 -- the data of an event, before those of the events after it
-data-event : (u : ℕ) (r : Record) (es : List Event) → Fine r → AllBytes (dataOf es) → AllBytes (dataOf (eventOf u r ∷ es))
+data-event : (u : ℕ) (r : Record) (es : List Event) → PayloadBytes r → AllBytes (dataOf es) → AllBytes (dataOf (eventOf u r ∷ es))
 unfolding eventOf dataOf
 data-event u (BadRecord n) es f a = a
 data-event u (ExtendedAddress v) es f a = a
@@ -71,4 +71,4 @@ data-event u (DataRecord low bs) es f a = go (leb (low + length bs) 65536)
 pub data-bytes : (u : ℕ) (ls : List Line) → AllBytes (dataOf (events u ls))
 unfolding events dataOf
 data-bytes u [] = tt
-data-bytes u (l ∷ ls) = data-event u (lineRecord l) (events (upperAfter u (lineRecord l)) ls) (fine-line l) (data-bytes (upperAfter u (lineRecord l)) ls)
+data-bytes u (l ∷ ls) = data-event u (lineRecord l) (events (upperAfter u (lineRecord l)) ls) (payload-line l) (data-bytes (upperAfter u (lineRecord l)) ls)

@@ -8,11 +8,11 @@ use borrow.Author.Tests.{eqb-true, eqb-false}
 use lib.Dec.{eqb}
 use lib.ListN.{length, getD, take, drop, length-append, length-take, length-drop}
 use Rattle.hex.specs.Written.{dataLine, newUpper, lowOf, upperOf, linesFrom, textOf, textLength}
-use Rattle.hex_writer.specs.Lines.{upperPast, placeAfter}
+use Rattle.hex_writer.specs.Lines.{upperPast, positionAfter}
 use Rattle.hex_writer.specs.Sized.{Sized, Laid}
 use Rattle.hex_writer.proofs.Lines.{data-length, extended-length, upper-same, upper-new, lines-append}
 use Rattle.hex_writer.proofs.Whole.{linesLength, laid-at, text-lines, text-room}
-use Rattle.image.specs.Sections.{sectionsOf, noSection, sectionBytes, homeOf}
+use Rattle.image.specs.Sections.{sectionsOf, noSection, sectionBytes, locationBytes}
 use Rattle.image.specs.declared.Header.{Header}
 use Rattle.image.specs.declared.Section.{Section}
 use Rattle.parts.specs.Sizes.{flashSize}
@@ -111,7 +111,7 @@ all-lines f u (s ∷ ss) a =
       ap (λ (v : ℕ). length (linesFrom v (pieces f ss))) past,
     )
 
--- 'a type 4 record first': the first section's upper half is told before it
+-- 'a type 4 record first': the first section's upper half is written before it
 pub first-lines : (f : Section → List ℕ) (s : Section) (ss : List Section) → 0 < s .size → length (f s) ≡ s .size → s .address ≡ 0
     → Apart f ((s .size - 1) / 65536) ss
     → 17 + length (linesFrom 0 (pieces f (s ∷ ss))) ≡ overall linesLength (s ∷ ss)
@@ -132,7 +132,7 @@ first-lines f s ss some size begins rest =
 
 section-size : (h : Header) (bytes : List ℕ) (s : Section) → Laid h bytes s → length (sectionBytes h bytes s) ≡ s .size
 section-size h bytes s l =
-    omega (arith, length-take (s .size) (drop (s .offset) (homeOf (s .home) h bytes)), length-drop (s .offset) (homeOf (s .home) h bytes), l .inside)
+    omega (arith, length-take (s .size) (drop (s .offset) (locationBytes (s .location) h bytes)), length-drop (s .offset) (locationBytes (s .location) h bytes), l .inside)
 
 -- the text of an image has the length that the formula says
 module _ {g : Geometry} {h : Header} {bytes : List ℕ} (z : Sized g h bytes) where
@@ -164,7 +164,7 @@ module _ {g : Geometry} {h : Header} {bytes : List ℕ} (z : Sized g h bytes) wh
       )
 
   pub text-length : length (textOf g h bytes) ≡ textLength g
-  unfolding placeAfter
+  unfolding positionAfter
   text-length =
       omega (
         arith,

@@ -7,8 +7,8 @@ use borrow.Author.Tests.{eq-eqb, ne-eqb}
 use lib.ListN.{length, length-append}
 use lib.Seq.{sets, length-sets}
 use Rattle.hex.specs.Written.{sumByte, lineText, dataLine, extendedLine, newUpper, upperOf, lowOf, linesFrom}
-use Rattle.hex_writer.specs.Lines.{onePiece, upperPast, placeAfter}
-use Rattle.hex_writer.specs.declared.Place.{Place}
+use Rattle.hex_writer.specs.Lines.{onePiece, upperPast, positionAfter}
+use Rattle.hex_writer.specs.declared.Position.{Position}
 use Rattle.hex_writer.proofs.Pairs.{length-pairs}
 use Rattle.text.proofs.Storing.{sets-append}
 use Rattle.text.specs.Digits.{pairsOf}
@@ -44,26 +44,26 @@ unfolding upperPast
 past-append u [] qs = refl
 past-append u (p ∷ ps) qs = past-append (upperOf (p .address)) ps qs
 
-abbrev place : (at upper : ℕ) → Place
-place a u = record { at = a; upper = u }
+abbrev position : (at upper : ℕ) → Position
+position a u = record { at = a; upper = u }
 
-pub after-append : (w : Place) (ps qs : List Piece) → placeAfter w (ps ++ qs) ≡ placeAfter (placeAfter w ps) qs
-unfolding placeAfter
+pub after-append : (w : Position) (ps qs : List Piece) → positionAfter w (ps ++ qs) ≡ positionAfter (positionAfter w ps) qs
+unfolding positionAfter
 after-append w ps qs =
     let e : w .at + length (linesFrom (w .upper) (ps ++ qs)) ≡ w .at + length (linesFrom (w .upper) ps) + length (linesFrom (upperPast (w .upper) ps) qs) =
     omega (arith, ap length (lines-append (w .upper) ps qs), length-append (linesFrom (w .upper) ps) (linesFrom (upperPast (w .upper) ps) qs)) in
-    ap (λ (a : ℕ). place a (upperPast (w .upper) (ps ++ qs))) e ∙ ap (place _) (past-append (w .upper) ps qs)
+    ap (λ (a : ℕ). position a (upperPast (w .upper) (ps ++ qs))) e ∙ ap (position _) (past-append (w .upper) ps qs)
 
 -- one piece
 pub one-lines : (u a : ℕ) (bs : List ℕ) → linesFrom u (onePiece a bs) ≡ newUpper u (upperOf a) ++ dataLine (lowOf a) bs
 unfolding linesFrom
 one-lines u a bs = ap (λ (l : List ℕ). newUpper u (upperOf a) ++ l) (append-nil (dataLine (lowOf a) bs))
 
-pub one-after : (w : Place) (a : ℕ) (bs : List ℕ)
-    → placeAfter w (onePiece a bs) ≡ place (w .at + length (newUpper (w .upper) (upperOf a)) + 13 + 2 * length bs) (upperOf a)
-unfolding placeAfter upperPast
+pub one-after : (w : Position) (a : ℕ) (bs : List ℕ)
+    → positionAfter w (onePiece a bs) ≡ position (w .at + length (newUpper (w .upper) (upperOf a)) + 13 + 2 * length bs) (upperOf a)
+unfolding positionAfter upperPast
 one-after w a bs =
-    ap (λ (n : ℕ). place n (upperOf a))
+    ap (λ (n : ℕ). position n (upperOf a))
     (omega (
       arith,
       ap length (one-lines (w .upper) a bs),
@@ -72,7 +72,7 @@ one-after w a bs =
     ))
 
 -- what `put_upper` leaves
-module _ (text : List ℕ) (w : Place) (u : ℕ) where
+module _ (text : List ℕ) (w : Position) (u : ℕ) where
   abbrev Past : (at : ℕ) (text′ : List ℕ) → Type 0
   Past at text′ = (at ≡ w .at + length (newUpper (w .upper) u)) × (text′ ≡ sets text (w .at) (newUpper (w .upper) u))
 
@@ -89,56 +89,56 @@ module _ (text : List ℕ) (w : Place) (u : ℕ) where
         (omega (arith, ap length n, extended-length u), p ∙ ap (sets text (w .at)) (sym n))
 
 -- what `put_piece` leaves
-module _ (text : List ℕ) (w : Place) (a : ℕ) (bs : List ℕ) where
-  pub one-room : placeAfter w (onePiece a bs) .at ≤ length text → w .at + length (newUpper (w .upper) (upperOf a)) + 13 + 2 * length bs ≤ length text
-  one-room h = omega (arith, ap (λ (p : Place). p .at) (one-after w a bs))
+module _ (text : List ℕ) (w : Position) (a : ℕ) (bs : List ℕ) where
+  pub one-room : positionAfter w (onePiece a bs) .at ≤ length text → w .at + length (newUpper (w .upper) (upperOf a)) + 13 + 2 * length bs ≤ length text
+  one-room h = omega (arith, ap (λ (p : Position). p .at) (one-after w a bs))
 
   pub one-put : (at : ℕ) (text₁ text₂ : List ℕ) → Past text w (upperOf a) at text₁ → text₂ ≡ sets text₁ at (dataLine (lowOf a) bs)
-      → (place (at + 13 + 2 * length bs) (upperOf a) ≡ placeAfter w (onePiece a bs)) × (text₂ ≡ sets text (w .at) (linesFrom (w .upper) (onePiece a bs)))
+      → (position (at + 13 + 2 * length bs) (upperOf a) ≡ positionAfter w (onePiece a bs)) × (text₂ ≡ sets text (w .at) (linesFrom (w .upper) (onePiece a bs)))
   one-put at text₁ text₂ p e = (
     rw (p .0) (sym (one-after w a bs)),
     e ∙ rw (p .1, p .0) (sym (ap (sets text (w .at)) (one-lines (w .upper) a bs) ∙ sets-append text (w .at) (newUpper (w .upper) (upperOf a)) (dataLine (lowOf a) bs))),
   )
 
 -- how far the text has come: the pieces that are left put the rest
-pub record Going (text₀ : List ℕ) (w₀ : Place) (all : List Piece) (text : List ℕ) (w : Place) (rest : List Piece) : Type 0 where
+pub record Going (text₀ : List ℕ) (w₀ : Position) (all : List Piece) (text : List ℕ) (w : Position) (rest : List Piece) : Type 0 where
   pub put : sets text₀ (w₀ .at) (linesFrom (w₀ .upper) all) ≡ sets text (w .at) (linesFrom (w .upper) rest)
-  pub after : placeAfter w₀ all ≡ placeAfter w rest
+  pub after : positionAfter w₀ all ≡ positionAfter w rest
   pub kept : length text ≡ length text₀
-  pub room : placeAfter w rest .at ≤ length text
+  pub room : positionAfter w rest .at ≤ length text
 
-pub start : (text : List ℕ) (w : Place) (all : List Piece) → placeAfter w all .at ≤ length text → Going text w all text w all
+pub start : (text : List ℕ) (w : Position) (all : List Piece) → positionAfter w all .at ≤ length text → Going text w all text w all
 start text w all h = record { put = refl; after = refl; kept = refl; room = h }
 
-module _ {text₀ : List ℕ} {w₀ : Place} {all : List Piece} {text : List ℕ} {w : Place} {rest : List Piece} (v : Going text₀ w₀ all text w rest) where
+module _ {text₀ : List ℕ} {w₀ : Position} {all : List Piece} {text : List ℕ} {w : Position} {rest : List Piece} (v : Going text₀ w₀ all text w rest) where
   module _ (ps qs : List Piece) (e : rest ≡ ps ++ qs) where
     abbrev next : List ℕ
     next = sets text (w .at) (linesFrom (w .upper) ps)
 
-    stands : placeAfter w rest ≡ placeAfter (placeAfter w ps) qs
-    stands = ap (placeAfter w) e ∙ after-append w ps qs
+    stands : positionAfter w rest ≡ positionAfter (positionAfter w ps) qs
+    stands = ap (positionAfter w) e ∙ after-append w ps qs
 
-    pub fits : placeAfter w ps .at ≤ length text
-    unfolding placeAfter
-    fits = omega (arith, v .room, ap (λ (p : Place). p .at) stands)
+    pub fits : positionAfter w ps .at ≤ length text
+    unfolding positionAfter
+    fits = omega (arith, v .room, ap (λ (p : Position). p .at) stands)
 
-    puts : sets text (w .at) (linesFrom (w .upper) rest) ≡ sets next (placeAfter w ps .at) (linesFrom (placeAfter w ps .upper) qs)
-    unfolding placeAfter
+    puts : sets text (w .at) (linesFrom (w .upper) rest) ≡ sets next (positionAfter w ps .at) (linesFrom (positionAfter w ps .upper) qs)
+    unfolding positionAfter
     puts = ap (λ (l : List Piece). sets text (w .at) (linesFrom (w .upper) l)) e ∙ rw (lines-append, sets-append)
 
-    on : Going text₀ w₀ all next (placeAfter w ps) qs
+    on : Going text₀ w₀ all next (positionAfter w ps) qs
     on = record {
       put = v .put ∙ puts;
       after = v .after ∙ stands;
       kept = length-sets text (w .at) (linesFrom (w .upper) ps) ∙ v .kept;
-      room = omega (arith, v .room, ap (λ (p : Place). p .at) stands, length-sets text (w .at) (linesFrom (w .upper) ps));
+      room = omega (arith, v .room, ap (λ (p : Position). p .at) stands, length-sets text (w .at) (linesFrom (w .upper) ps));
     }
 
     -- after the lines of some pieces
-    pub turn : (text′ : List ℕ) (w′ : Place) → w′ ≡ placeAfter w ps → text′ ≡ sets text (w .at) (linesFrom (w .upper) ps)
+    pub turn : (text′ : List ℕ) (w′ : Position) → w′ ≡ positionAfter w ps → text′ ≡ sets text (w .at) (linesFrom (w .upper) ps)
         → Going text₀ w₀ all text′ w′ qs
     turn text′ w′ ew et = rw (ew, et) on
 
-  pub ended : rest ≡ [] → (w ≡ placeAfter w₀ all) × (text ≡ sets text₀ (w₀ .at) (linesFrom (w₀ .upper) all))
-  unfolding placeAfter upperPast linesFrom
-  ended e = (sym (v .after ∙ ap (placeAfter w) e ∙ ap (λ (n : ℕ). place n (w .upper)) (omega arith)), sym (v .put ∙ rw e))
+  pub ended : rest ≡ [] → (w ≡ positionAfter w₀ all) × (text ≡ sets text₀ (w₀ .at) (linesFrom (w₀ .upper) all))
+  unfolding positionAfter upperPast linesFrom
+  ended e = (sym (v .after ∙ ap (positionAfter w) e ∙ ap (λ (n : ℕ). position n (w .upper)) (omega arith)), sym (v .put ∙ rw e))

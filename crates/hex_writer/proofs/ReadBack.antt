@@ -81,23 +81,23 @@ unfolding events linesOf onto lineRecord ofBody ofSpelt recordOf typed total dig
 end-events u = refl
 
 -- a piece that a record may have: 1 to 64 bytes, within a 64 KiB line
-pub record Neat (p : Piece) : Type 0 where
+pub record FitsRecord (p : Piece) : Type 0 where
   pub some : 0 < length (p .bytes)
   pub most : length (p .bytes) ≤ 64
   pub high : p .address < 4294967296
   pub inside : lowOf (p .address) + length (p .bytes) ≤ 65536
   pub bytes : AllBytes (p .bytes)
 
-abbrev pub AllNeat : List Piece → Type 0
-AllNeat [] = Unit {0}
-AllNeat (p ∷ ps) = Neat p × AllNeat ps
+abbrev pub AllFitRecords : List Piece → Type 0
+AllFitRecords [] = Unit {0}
+AllFitRecords (p ∷ ps) = FitsRecord p × AllFitRecords ps
 
 extended-events : (u v : ℕ) (rest : List ℕ) → v < 65536 → events u (linesOf (extendedLine v ++ rest)) ≡ Other ∷ events v (linesOf rest)
 unfolding eventOf upperAfter
 extended-events u v rest h =
     line-events (2 ∷ 0 ∷ 0 ∷ 4 ∷ v / 256 ∷ v % 256 ∷ []) rest (omega arith, (omega arith, (omega arith, (omega arith, (omega arith, (omega arith, tt)))))) u (ExtendedAddress v) (extended-record v h)
 
-data-events : (p : Piece) (rest : List ℕ) → Neat p
+data-events : (p : Piece) (rest : List ℕ) → FitsRecord p
     → events (upperOf (p .address)) (linesOf (dataLine (lowOf (p .address)) (p .bytes) ++ rest))
     ≡ Data (65536 * upperOf (p .address) + lowOf (p .address)) (p .bytes) ∷ events (upperOf (p .address)) (linesOf rest)
 unfolding eventOf upperAfter
@@ -110,7 +110,7 @@ data-events p rest n =
     ∙ rw (le-leb (low + length (p .bytes)) 65536 (n .inside))
 
 -- the lines of pieces say these pieces
-module _ (u : ℕ) (p : Piece) (ps : List Piece) (n : Neat p) where
+module _ (u : ℕ) (p : Piece) (ps : List Piece) (n : FitsRecord p) where
   abbrev tail : List ℕ
   tail = linesFrom (upperOf (p .address)) ps ++ endLine
 
@@ -136,30 +136,30 @@ module _ (u : ℕ) (p : Piece) (ps : List Piece) (n : Neat p) where
     piece-says : Says (p ∷ ps) (events u (linesOf (linesFrom u (p ∷ ps) ++ endLine)))
     piece-says = rw begins (from (eqb (upperOf (p .address)) u) refl)
 
-pub lines-say : (u : ℕ) (ps : List Piece) → AllNeat ps → Says ps (events u (linesOf (linesFrom u ps ++ endLine)))
+pub lines-say : (u : ℕ) (ps : List Piece) → AllFitRecords ps → Says ps (events u (linesOf (linesFrom u ps ++ endLine)))
 unfolding linesFrom
 lines-say u [] a = rw (end-events u) tt
 lines-say u (p ∷ ps) a = piece-says u p ps (a .0) (lines-say (upperOf (p .address)) ps (a .1))
 
 -- 'a type 4 record first'
-pub text-says : (ps : List Piece) → AllNeat ps → Says ps (events 0 (linesOf (writtenText ps)))
+pub text-says : (ps : List Piece) → AllFitRecords ps → Says ps (events 0 (linesOf (writtenText ps)))
 unfolding writtenText
 text-says ps a = rw (extended-events 0 0 (linesFrom 0 ps ++ endLine) (omega arith)) (lines-say 0 ps a)
 
 -- a written record never crosses a 64 KiB line
-pub cut-neat : (n a size : ℕ) (bs : List ℕ) → length bs ≡ size → 0 < size → n ≡ (size + 63) / 64 → a % 64 ≡ 0 → a + size ≤ 4294967296 → AllBytes bs
-    → AllNeat (cut n a bs)
+pub cut-fits : (n a size : ℕ) (bs : List ℕ) → length bs ≡ size → 0 < size → n ≡ (size + 63) / 64 → a % 64 ≡ 0 → a + size ≤ 4294967296 → AllBytes bs
+    → AllFitRecords (cut n a bs)
 unfolding cut
-cut-neat zero a size bs l some c d h all = tt
-cut-neat (suc zero) a size bs l some c d h all =
+cut-fits zero a size bs l some c d h all = tt
+cut-fits (suc zero) a size bs l some c d h all =
     let t = length-take 64 bs in
     (record { some = omega arith; most = omega arith; high = omega arith; inside = omega arith; bytes = bytes-take 64 bs all }, tt)
-cut-neat (suc (suc n)) a size bs l some c d h all =
+cut-fits (suc (suc n)) a size bs l some c d h all =
     let t = length-take 64 bs in (
       record { some = omega arith; most = omega arith; high = omega arith; inside = omega arith; bytes = bytes-take 64 bs all },
-      cut-neat (suc n) (a + 64) (size - 64) (drop 64 bs) (omega (arith, length-drop 64 bs)) (omega arith) (omega arith) (omega arith) (omega arith) (bytes-drop 64 bs all),
+      cut-fits (suc n) (a + 64) (size - 64) (drop 64 bs) (omega (arith, length-drop 64 bs)) (omega arith) (omega arith) (omega arith) (omega arith) (bytes-drop 64 bs all),
     )
 
-pub neat-append : (ps qs : List Piece) → AllNeat ps → AllNeat qs → AllNeat (ps ++ qs)
-neat-append [] qs h k = k
-neat-append (p ∷ ps) qs h k = (h .0, neat-append ps qs (h .1) k)
+pub fits-append : (ps qs : List Piece) → AllFitRecords ps → AllFitRecords qs → AllFitRecords (ps ++ qs)
+fits-append [] qs h k = k
+fits-append (p ∷ ps) qs h k = (h .0, fits-append ps qs (h .1) k)

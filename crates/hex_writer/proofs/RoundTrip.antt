@@ -8,18 +8,18 @@ use borrow.Author.Tests.{le-leb}
 use lib.ListN.{length, getD, take, drop, length-append, length-drop, take-append-drop}
 use lib.Seq.{take-all, take-at, getD-at, drop-drop}
 use Rattle.hex.specs.Claims.{Takes}
-use Rattle.hex.specs.Texts.{outcomeOf}
+use Rattle.hex.specs.Texts.{contentOf}
 use Rattle.hex.specs.Written.{textOf}
 use Rattle.hex_writer.specs.Claims.{Typed}
 use Rattle.hex_writer.specs.Sized.{Sized}
 use Rattle.hex_writer.proofs.Lengths.{size-at}
-use Rattle.hex_writer.proofs.ReadBack.{AllNeat, neat-append, cut-neat, text-says}
+use Rattle.hex_writer.proofs.ReadBack.{AllFitRecords, fits-append, cut-fits, text-says}
 use Rattle.hex_writer.proofs.Entries.{sound}
 use Rattle.image.proofs.Sections.{headerWith}
 use Rattle.image.specs.Checks.{imageFault}
 use Rattle.image.specs.Sections.{sectionsOf, sectionBytes, headerBytes, headerOf}
 use Rattle.image.specs.declared.Header.{Header}
-use Rattle.image.specs.declared.Home.the-variants.{InImage, InHeader}
+use Rattle.image.specs.declared.Location.the-variants.{InImage, InHeader}
 use Rattle.image.specs.declared.Section.{Section}
 use Rattle.parts.specs.Parts.{lookupOf}
 use Rattle.parts.specs.Sizes.{flashSize, lockTotal, imageSize}
@@ -32,17 +32,17 @@ use Rattle.text.specs.Placing.{Stream, pieces, piecesIn, cut, gathered}
 use Rattle.text.specs.Reading.{Untouched, judged, readFor}
 
 -- sections whose pieces are neat
-abbrev Sharp : (Section → List ℕ) → List Section → Type 0
-Sharp f [] = Unit {0}
-Sharp f (s ∷ ss) = (s .address % 64 ≡ 0) × (s .address + s .size ≤ 4294967296) × AllBytes (f s) × Sharp f ss
+abbrev Aligned : (Section → List ℕ) → List Section → Type 0
+Aligned f [] = Unit {0}
+Aligned f (s ∷ ss) = (s .address % 64 ≡ 0) × (s .address + s .size ≤ 4294967296) × AllBytes (f s) × Aligned f ss
 
-pieces-neat : (f : Section → List ℕ) (ss : List Section) → Filled f ss → Sharp f ss → AllNeat (pieces f ss)
+pieces-fit : (f : Section → List ℕ) (ss : List Section) → Filled f ss → Aligned f ss → AllFitRecords (pieces f ss)
 unfolding pieces
-pieces-neat f [] fill sharp = tt
-pieces-neat f (s ∷ ss) fill sharp =
-    neat-append (cut (piecesIn s) (s .address) (f s)) (pieces f ss)
-    (cut-neat (piecesIn s) (s .address) (s .size) (f s) (fill .1) (fill .0) refl (sharp .0) (sharp .1) (sharp .2))
-    (pieces-neat f ss (fill .2) (sharp .3))
+pieces-fit f [] fill aligned = tt
+pieces-fit f (s ∷ ss) fill aligned =
+    fits-append (cut (piecesIn s) (s .address) (f s)) (pieces f ss)
+    (cut-fits (piecesIn s) (s .address) (s .size) (f s) (fill .1) (fill .0) refl (aligned .0) (aligned .1) (aligned .2))
+    (pieces-fit f ss (fill .2) (aligned .3))
 
 -- what a header says of itself makes it again
 module _ (h : Header) (sum : h .sum < 65536) (twelve : length (h .metadata) ≡ 12) where
@@ -96,8 +96,8 @@ module _ {g : Geometry} {h : Header} {bytes : List ℕ} (found : lookupOf (h .pa
   in-header : (n o : ℕ) → AllBytes (take n (drop o (headerBytes h)))
   in-header n o = bytes-take n (drop o (headerBytes h)) (bytes-drop o (headerBytes h) header-bytes)
 
-  sharp : Sharp f (sectionsOf g)
-  sharp =
+  aligned : Aligned f (sectionsOf g)
+  aligned =
       let a = sized .sound .flashSmall in
       let b = sized .sound .locksSmall in (
         omega arith,
@@ -111,9 +111,9 @@ module _ {g : Geometry} {h : Header} {bytes : List ℕ} (found : lookupOf (h .pa
         ),
       )
 
-  outcome : outcomeOf (textOf g h bytes) (sectionsOf g) ≡ Stream (joined f (sectionsOf g))
+  content : contentOf (textOf g h bytes) (sectionsOf g) ≡ Stream (joined f (sectionsOf g))
   unfolding textOf
-  outcome = placed f (sectionsOf g) _ filled (text-says (pieces f (sectionsOf g)) (pieces-neat f (sectionsOf g) filled sharp))
+  content = placed f (sectionsOf g) _ filled (text-says (pieces f (sectionsOf g)) (pieces-fit f (sectionsOf g) filled aligned))
 
   image-is : gathered InImage (sectionsOf g) (joined f (sectionsOf g)) ≡ bytes
   unfolding imageSize
@@ -126,7 +126,7 @@ module _ {g : Geometry} {h : Header} {bytes : List ℕ} (found : lookupOf (h .pa
 
   pub reads-back : (room : ℕ) → imageFault h bytes ≡ 0 → length bytes ≤ room → Takes (h .part) (h .macros) (textOf g h bytes) room h bytes
   reads-back room none fits =
-      ap (λ (l : Lookup). readFor l (h .part) (h .macros) room (outcomeOf (textOf g h bytes))) found
-      ∙ ap (λ (b : Bool). cond b (judged g (h .part) (h .macros) (outcomeOf (textOf g h bytes) (sectionsOf g))) (Untouched 12)) (le-leb (imageSize g) room (omega arith))
-      ∙ ap (judged g (h .part) (h .macros)) outcome
+      ap (λ (l : Lookup). readFor l (h .part) (h .macros) room (contentOf (textOf g h bytes))) found
+      ∙ ap (λ (b : Bool). cond b (judged g (h .part) (h .macros) (contentOf (textOf g h bytes) (sectionsOf g))) (Untouched 12)) (le-leb (imageSize g) room (omega arith))
+      ∙ ap (judged g (h .part) (h .macros)) content
       ∙ rw (header-is, image-is, header-again h (t .sum) (t .metadata), none)

@@ -9,13 +9,13 @@ use lib.Dec.{leb}
 use lib.ListN.{length, take, drop, length-drop, length-take, drop-of-length-le}
 use lib.Seq.{sets, take-all, drop-drop}
 use Rattle.hex.specs.Written.{linesFrom}
-use Rattle.hex_writer.specs.Lines.{onePiece, placeAfter}
+use Rattle.hex_writer.specs.Lines.{onePiece, positionAfter}
 use Rattle.hex_writer.specs.Sized.{Laid}
-use Rattle.hex_writer.specs.declared.Place.{Place}
+use Rattle.hex_writer.specs.declared.Position.{Position}
 use Rattle.hex_writer.proofs.Lines as lines
-use Rattle.image.specs.Sections.{homeOf, sectionBytes, headerBytes}
+use Rattle.image.specs.Sections.{locationBytes, sectionBytes, headerBytes}
 use Rattle.image.specs.declared.Header.{Header}
-use Rattle.image.specs.declared.Home.the-variants.{InImage, InHeader}
+use Rattle.image.specs.declared.Location.the-variants.{InImage, InHeader}
 use Rattle.image.specs.declared.Section.{Section}
 use Rattle.text.specs.Placing.{Piece, cut, piecesIn}
 
@@ -45,19 +45,19 @@ drop-min n l = go (leb n (length l)) refl
     go false q = let h = leb-false n (length l) q in drop-of-length-le l {i = min n (length l)} (omega arith) ∙ sym (drop-of-length-le l {i = n} (omega arith))
 
 -- how far the loop over a section's pieces has come
-pub record Piecing (text₀ : List ℕ) (w₀ : Place) (address : ℕ) (bytes text : List ℕ) (w : Place) (a from left : ℕ) : Type 0 where
+pub record Piecing (text₀ : List ℕ) (w₀ : Position) (address : ℕ) (bytes text : List ℕ) (w : Position) (a from left : ℕ) : Type 0 where
   pub going : lines.Going text₀ w₀ (cut ((length bytes + 63) / 64) address bytes) text w (cut left a (drop from bytes))
   pub within : from ≤ length bytes
   pub count : left ≡ (length bytes - from + 63) / 64
   pub high : a + 64 * left < 4294967296
 
-pub start : (text : List ℕ) (w : Place) (address : ℕ) (bytes : List ℕ)
+pub start : (text : List ℕ) (w : Position) (address : ℕ) (bytes : List ℕ)
     → address + length bytes + 64 ≤ 4294967296
-    → placeAfter w (cut ((length bytes + 63) / 64) address bytes) .at ≤ length text
+    → positionAfter w (cut ((length bytes + 63) / 64) address bytes) .at ≤ length text
     → Piecing text w address bytes text w address 0 ((length bytes + 63) / 64)
 start text w address bytes h r = record { going = lines.start text w _ r; within = omega arith; count = omega arith; high = omega arith }
 
-module _ {text₀ : List ℕ} {w₀ : Place} {address : ℕ} {bytes text : List ℕ} {w : Place} {a from left : ℕ} (v : Piecing text₀ w₀ address bytes text w a from left) where
+module _ {text₀ : List ℕ} {w₀ : Position} {address : ℕ} {bytes text : List ℕ} {w : Position} {a from left : ℕ} (v : Piecing text₀ w₀ address bytes text w a from left) where
   module _ (some : 0 < left) (end : ℕ) (is : end ≡ min (from + 64) (length bytes)) where
     part : take (end - from) (drop from bytes) ≡ take 64 (drop from bytes)
     part =
@@ -72,11 +72,11 @@ module _ {text₀ : List ℕ} {w₀ : Place} {address : ℕ} {bytes text : List 
     splits : cut left a (drop from bytes) ≡ onePiece a (take (end - from) (drop from bytes)) ++ cut (left - 1) (a + 64) (drop end bytes)
     splits = rw (part, rest) (cut-turn left a (drop from bytes) some)
 
-    pub piece-fits : (length (take (end - from) (drop from bytes)) ≤ 64) × (placeAfter w (onePiece a (take (end - from) (drop from bytes))) .at ≤ length text)
+    pub piece-fits : (length (take (end - from) (drop from bytes)) ≤ 64) × (positionAfter w (onePiece a (take (end - from) (drop from bytes))) .at ≤ length text)
     piece-fits = (rw part (omega (arith, length-take 64 (drop from bytes))), lines.fits (v .going) _ _ splits)
 
-    pub turn : (text′ : List ℕ) (w′ : Place)
-        → w′ ≡ placeAfter w (onePiece a (take (end - from) (drop from bytes)))
+    pub turn : (text′ : List ℕ) (w′ : Position)
+        → w′ ≡ positionAfter w (onePiece a (take (end - from) (drop from bytes)))
         → text′ ≡ sets text (w .at) (linesFrom (w .upper) (onePiece a (take (end - from) (drop from bytes))))
         → Piecing text₀ w₀ address bytes text′ w′ (a + 64) end (left - 1)
     turn text′ w′ ew et = record {
@@ -86,42 +86,42 @@ module _ {text₀ : List ℕ} {w₀ : Place} {address : ℕ} {bytes text : List 
       high = omega (arith, v .high);
     }
 
-  pub ended : left ≡ 0 → (w ≡ placeAfter w₀ (cut ((length bytes + 63) / 64) address bytes)) × (text ≡ sets text₀ (w₀ .at) (linesFrom (w₀ .upper) (cut ((length bytes + 63) / 64) address bytes)))
+  pub ended : left ≡ 0 → (w ≡ positionAfter w₀ (cut ((length bytes + 63) / 64) address bytes)) × (text ≡ sets text₀ (w₀ .at) (linesFrom (w₀ .upper) (cut ((length bytes + 63) / 64) address bytes)))
   ended e = lines.ended (v .going) (cut-none left a (drop from bytes) e)
 
 -- a section's bytes, as they are lent
-module _ (h : Header) (bytes : List ℕ) (s : Section) (laid : Laid h bytes s) (home : List ℕ) (e : homeOf (s .home) h bytes ≡ home) where
+module _ (h : Header) (bytes : List ℕ) (s : Section) (laid : Laid h bytes s) (location : List ℕ) (e : locationBytes (s .location) h bytes ≡ location) where
   abbrev lent : List ℕ
-  lent = take (s .offset + s .size - s .offset) (drop (s .offset) home)
+  lent = take (s .offset + s .size - s .offset) (drop (s .offset) location)
 
-  pub part-inside : s .offset + s .size ≤ length home
+  pub part-inside : s .offset + s .size ≤ length location
   part-inside = omega (arith, laid .inside, ap length e)
 
   part-is : lent ≡ sectionBytes h bytes s
   part-is =
       let n : s .offset + s .size - s .offset ≡ s .size = omega arith in
-      ap (λ (k : ℕ). take k (drop (s .offset) home)) n ∙ ap (λ (l : List ℕ). take (s .size) (drop (s .offset) l)) (sym e)
+      ap (λ (k : ℕ). take k (drop (s .offset) location)) n ∙ ap (λ (l : List ℕ). take (s .size) (drop (s .offset) l)) (sym e)
 
   part-size : length lent ≡ s .size
-  part-size = omega (arith, length-take (s .offset + s .size - s .offset) (drop (s .offset) home), length-drop (s .offset) home, part-inside)
+  part-size = omega (arith, length-take (s .offset + s .size - s .offset) (drop (s .offset) location), length-drop (s .offset) location, part-inside)
 
   cuts : cut ((length lent + 63) / 64) (s .address) lent ≡ cut (piecesIn s) (s .address) (sectionBytes h bytes s)
   cuts = ap (λ (n : ℕ). cut ((n + 63) / 64) (s .address) lent) part-size ∙ ap (cut (piecesIn s) (s .address)) part-is
 
-  module _ (text : List ℕ) (w : Place) where
-    abbrev Put : (pieces : List Piece) (text′ : List ℕ) (w′ : Place) → Type 0
-    Put ps text′ w′ = (w′ ≡ placeAfter w ps) × (text′ ≡ sets text (w .at) (linesFrom (w .upper) ps))
+  module _ (text : List ℕ) (w : Position) where
+    abbrev Put : (pieces : List Piece) (text′ : List ℕ) (w′ : Position) → Type 0
+    Put ps text′ w′ = (w′ ≡ positionAfter w ps) × (text′ ≡ sets text (w .at) (linesFrom (w .upper) ps))
 
-    pub section-asks : placeAfter w (cut (piecesIn s) (s .address) (sectionBytes h bytes s)) .at ≤ length text
-        → (s .address + length lent + 64 ≤ 4294967296) × (placeAfter w (cut ((length lent + 63) / 64) (s .address) lent) .at ≤ length text)
+    pub section-asks : positionAfter w (cut (piecesIn s) (s .address) (sectionBytes h bytes s)) .at ≤ length text
+        → (s .address + length lent + 64 ≤ 4294967296) × (positionAfter w (cut ((length lent + 63) / 64) (s .address) lent) .at ≤ length text)
     section-asks room = (omega (arith, part-size, laid .high), rw cuts room)
 
-    pub section-put : (text′ : List ℕ) (w′ : Place) → Put (cut ((length lent + 63) / 64) (s .address) lent) text′ w′
+    pub section-put : (text′ : List ℕ) (w′ : Position) → Put (cut ((length lent + 63) / 64) (s .address) lent) text′ w′
         → Put (cut (piecesIn s) (s .address) (sectionBytes h bytes s)) text′ w′
     section-put text′ w′ p = rw cuts at p
 
-pub in-image : (h : Header) (bytes : List ℕ) (s : Section) → s .home ≡ InImage → homeOf (s .home) h bytes ≡ bytes
+pub in-image : (h : Header) (bytes : List ℕ) (s : Section) → s .location ≡ InImage → locationBytes (s .location) h bytes ≡ bytes
 in-image h bytes s e = rw e
 
-pub in-header : (h : Header) (bytes : List ℕ) (s : Section) (l : List ℕ) → s .home ≡ InHeader → l ≡ headerBytes h → homeOf (s .home) h bytes ≡ l
+pub in-header : (h : Header) (bytes : List ℕ) (s : Section) (l : List ℕ) → s .location ≡ InHeader → l ≡ headerBytes h → locationBytes (s .location) h bytes ≡ l
 in-header h bytes s l e d = rw e (sym d)

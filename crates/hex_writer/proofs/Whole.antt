@@ -6,9 +6,9 @@ use native.Mathlib.Omega.{arith}
 use lib.ListN.{length, getD, drop, length-append, drop-of-length-le}
 use lib.Seq.{sets, drop-cons}
 use Rattle.hex.specs.Written.{extendedLine, endLine, linesFrom, writtenText, textOf, uppersIn, textLength}
-use Rattle.hex_writer.specs.Lines.{placeAfter}
+use Rattle.hex_writer.specs.Lines.{positionAfter}
 use Rattle.hex_writer.specs.Sized.{Sound, Sized, Laid}
-use Rattle.hex_writer.specs.declared.Place.{Place}
+use Rattle.hex_writer.specs.declared.Position.{Position}
 use Rattle.hex_writer.proofs.Lines as lines
 use Rattle.image.specs.Sections.{sectionsOf, noSection, sectionBytes, headerBytes}
 use Rattle.image.specs.declared.Header.{Header}
@@ -56,32 +56,32 @@ module _ {g : Geometry} {h : Header} {bytes : List ℕ} (z : Sized g h bytes) wh
   laid-at (suc (suc (suc (suc (suc k))))) i = absurd (omega arith)
 
 -- how far the loop over the sections has come
-pub record Through (text₀ : List ℕ) (w₀ : Place) (g : Geometry) (h : Header) (bytes text : List ℕ) (w : Place) (k : ℕ) : Type 0 where
+pub record Through (text₀ : List ℕ) (w₀ : Position) (g : Geometry) (h : Header) (bytes text : List ℕ) (w : Position) (k : ℕ) : Type 0 where
   pub sized : Sized g h bytes
   pub going : lines.Going text₀ w₀ (pieces (sectionBytes h bytes) (sectionsOf g)) text w (pieces (sectionBytes h bytes) (drop k (sectionsOf g)))
 
-pub start : (text : List ℕ) (w : Place) (g : Geometry) (h : Header) (bytes : List ℕ) → Sized g h bytes
-    → placeAfter w (pieces (sectionBytes h bytes) (sectionsOf g)) .at ≤ length text
+pub start : (text : List ℕ) (w : Position) (g : Geometry) (h : Header) (bytes : List ℕ) → Sized g h bytes
+    → positionAfter w (pieces (sectionBytes h bytes) (sectionsOf g)) .at ≤ length text
     → Through text w g h bytes text w 0
 start text w g h bytes z r = record { sized = z; going = lines.start text w _ r }
 
-module _ {text₀ : List ℕ} {w₀ : Place} {g : Geometry} {h : Header} {bytes text : List ℕ} {w : Place} {k : ℕ} (v : Through text₀ w₀ g h bytes text w k) where
+module _ {text₀ : List ℕ} {w₀ : Position} {g : Geometry} {h : Header} {bytes text : List ℕ} {w : Position} {k : ℕ} (v : Through text₀ w₀ g h bytes text w k) where
   module _ (some : k < 5) (s : Section) (is : s ≡ getD (sectionsOf g) k noSection) where
     first : pieces (sectionBytes h bytes) (drop k (sectionsOf g))
         ≡ cut (piecesIn s) (s .address) (sectionBytes h bytes s) ++ pieces (sectionBytes h bytes) (drop (k + 1) (sectionsOf g))
     first = rw is (pieces-turn (sectionBytes h bytes) (sectionsOf g) k noSection some)
 
-    pub asks : Laid h bytes s × (placeAfter w (cut (piecesIn s) (s .address) (sectionBytes h bytes s)) .at ≤ length text)
+    pub asks : Laid h bytes s × (positionAfter w (cut (piecesIn s) (s .address) (sectionBytes h bytes s)) .at ≤ length text)
     asks = (rw is (laid-at (v .sized) k some), lines.fits (v .going) _ _ first)
 
-    pub turn : (text′ : List ℕ) (w′ : Place)
-        → w′ ≡ placeAfter w (cut (piecesIn s) (s .address) (sectionBytes h bytes s))
+    pub turn : (text′ : List ℕ) (w′ : Position)
+        → w′ ≡ positionAfter w (cut (piecesIn s) (s .address) (sectionBytes h bytes s))
         → text′ ≡ sets text (w .at) (linesFrom (w .upper) (cut (piecesIn s) (s .address) (sectionBytes h bytes s)))
         → Through text₀ w₀ g h bytes text′ w′ (k + 1)
     turn text′ w′ ew et = record { sized = v .sized; going = lines.turn (v .going) _ _ first text′ w′ ew et }
 
   pub ended : 5 ≤ k
-      → (w ≡ placeAfter w₀ (pieces (sectionBytes h bytes) (sectionsOf g)))
+      → (w ≡ positionAfter w₀ (pieces (sectionBytes h bytes) (sectionsOf g)))
       × (text ≡ sets text₀ (w₀ .at) (linesFrom (w₀ .upper) (pieces (sectionBytes h bytes) (sectionsOf g))))
   ended i = lines.ended (v .going) (pieces-none (sectionBytes h bytes) (sectionsOf g) k i)
 
@@ -136,11 +136,11 @@ module _ (text : List ℕ) (g : Geometry) (h : Header) (bytes : List ℕ) where
   abbrev all : List Piece
   all = pieces (sectionBytes h bytes) (sectionsOf g)
 
-  abbrev begin : Place
+  abbrev begin : Position
   begin = record { at = 17; upper = 0 }
 
-  pub text-room : length (textOf g h bytes) ≡ placeAfter begin all .at + 13
-  unfolding textOf writtenText placeAfter
+  pub text-room : length (textOf g h bytes) ≡ positionAfter begin all .at + 13
+  unfolding textOf writtenText positionAfter
   text-room =
       omega (
         arith,
@@ -149,17 +149,17 @@ module _ (text : List ℕ) (g : Geometry) (h : Header) (bytes : List ℕ) where
         lines.extended-length 0,
       )
 
-  pub after-begin : 17 ≤ placeAfter begin all .at
-  unfolding placeAfter
+  pub after-begin : 17 ≤ positionAfter begin all .at
+  unfolding positionAfter
   after-begin = omega arith
 
-  pub text-put : (t₁ t₂ t₃ : List ℕ) (w : Place)
+  pub text-put : (t₁ t₂ t₃ : List ℕ) (w : Position)
       → t₁ ≡ sets text 0 (extendedLine 0)
-      → w ≡ placeAfter begin all
+      → w ≡ positionAfter begin all
       → t₂ ≡ sets t₁ 17 (linesFrom 0 all)
       → t₃ ≡ sets t₂ (w .at) endLine
       → t₃ ≡ sets text 0 (textOf g h bytes)
-  unfolding textOf writtenText placeAfter
+  unfolding textOf writtenText positionAfter
   text-put t₁ t₂ t₃ w e₁ ew e₂ e₃ =
       let n : 0 + length (extendedLine 0) ≡ 17 = omega (arith, lines.extended-length 0) in
       sym

@@ -3,7 +3,7 @@ use mathlib.Core.List.{List, [], _∷_}
 use Prim.Native.Nat.{ℕ, zero, suc, _+_}
 use lib.ListN.{length}
 use Rattle.hex.specs.Written.{linesFrom, upperOf}
-use Rattle.hex_writer.specs.declared.Place.{Place}
+use Rattle.hex_writer.specs.declared.Position.{Position}
 use Rattle.text.specs.Digits.{capital}
 use Rattle.text.specs.Placing.{Piece}
 
@@ -21,5 +21,5 @@ upperPast upper [] = upper
 upperPast upper (p ∷ ps) = upperPast (upperOf (p .address)) ps
 
 -- where the text goes on after the lines of some pieces
-unfoldable pub placeAfter : Place → List Piece → Place
-placeAfter w ps = record { at = w .at + length (linesFrom (w .upper) ps); upper = upperPast (w .upper) ps }
+unfoldable pub positionAfter : Position → List Piece → Position
+positionAfter w ps = record { at = w .at + length (linesFrom (w .upper) ps); upper = upperPast (w .upper) ps }

@@ -3,7 +3,7 @@ use mathlib.Core.Path.{_≡_}
 use Prim.Native.Nat.{ℕ, _+_, _≤_, _<_}
 use mathlib.Core.List.{List}
 use lib.ListN.{length}
-use Rattle.image.specs.Sections.{homeOf}
+use Rattle.image.specs.Sections.{locationBytes}
 use Rattle.image.specs.declared.Header.{Header}
 use Rattle.image.specs.declared.Section.{Section}
 use Rattle.parts.specs.Sizes.{flashSize, lockTotal, imageSize}
@@ -27,4 +27,4 @@ pub record Laid (h : Header) (bytes : List ℕ) (s : Section) : Type 0 where
   pub some : 0 < s .size
   pub small : s .offset + s .size ≤ 33554432
   pub high : s .address + s .size + 64 ≤ 4294967296
-  pub inside : s .offset + s .size ≤ length (homeOf (s .home) h bytes)
+  pub inside : s .offset + s .size ≤ length (locationBytes (s .location) h bytes)

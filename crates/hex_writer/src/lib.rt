@@ -7,7 +7,7 @@ ghost use lib.Seq.{sets};
 ghost use Rattle.image.specs.Words.{total};
 ghost use Rattle.text.specs.Digits.{capital as capitalOf, pairsOf};
 ghost use Rattle.hex.specs.Written.{lineText, dataLine, extendedLine, endLine, newUpper, linesFrom, textOf, textLength};
-ghost use Rattle.hex_writer.specs.Lines.{capitalsFrom, onePiece, placeAfter};
+ghost use Rattle.hex_writer.specs.Lines.{capitalsFrom, onePiece, positionAfter};
 ghost use Rattle.hex_writer.specs.Sized.{Sound, Sized, Laid};
 ghost use Rattle.hex_writer.specs.Writing.{writeOf, textAfter};
 ghost use Rattle.image.specs.Sections.{sectionsOf, sectionBytes};
@@ -15,7 +15,7 @@ ghost use Rattle.parts.specs.Parts.{lookupOf};
 ghost use Rattle.parts.specs.declared.Lookup.the-variants.{Found};
 ghost use Rattle.text.specs.Placing.{piecesIn, cut, pieces};
 use image::Header;
-use image::Home;
+use image::Location;
 use image::Section;
 use parts::Geometry;
 use parts::Lookup;
@@ -29,7 +29,7 @@ pub struct WriteAnswer {
 }
 
 // How far the text has come: the next place, and the upper half of the last address.
-struct Place {
+struct Position {
     at: usize,
     upper: u32,
 }
@@ -104,13 +104,13 @@ fn put_extended(text: &mut [u8], at: usize, upper: u32)
 }
 
 // Puts a type 4 record where the upper half is a new one; the place after it.
-fn put_upper(text: &mut [u8], place: Place, upper: u32) -> usize
-    requires { ⌜ (upper < 65536) × (place .at + length (newUpper (place .upper) upper) ≤ length (now text)) ⌝ }
-    ensures { λ r. ⌜ r ≡ place .at + length (newUpper (place .upper) upper) ⌝ }
-    ensures { λ _. ⌜ now (text .exit) ≡ sets (now (text .entry)) (place .at) (newUpper (place .upper) upper) ⌝ }
+fn put_upper(text: &mut [u8], position: Position, upper: u32) -> usize
+    requires { ⌜ (upper < 65536) × (position .at + length (newUpper (position .upper) upper) ≤ length (now text)) ⌝ }
+    ensures { λ r. ⌜ r ≡ position .at + length (newUpper (position .upper) upper) ⌝ }
+    ensures { λ _. ⌜ now (text .exit) ≡ sets (now (text .entry)) (position .at) (newUpper (position .upper) upper) ⌝ }
 {
-    let at = place.at;
-    if upper == place.upper {
+    let at = position.at;
+    if upper == position.upper {
         return at;
     }
     put_extended(text, at, upper);
@@ -118,15 +118,15 @@ fn put_upper(text: &mut [u8], place: Place, upper: u32) -> usize
 }
 
 // Puts the lines of one piece.
-fn put_piece(text: &mut [u8], place: Place, address: u32, payload: &[u8]) -> Place
-    requires { ⌜ (length (now payload) ≤ 64) × (placeAfter place (onePiece address (now payload)) .at ≤ length (now text)) ⌝ }
-    ensures { λ r. ⌜ r ≡ placeAfter place (onePiece address (now (payload .entry))) ⌝ }
-    ensures { λ _. ⌜ now (text .exit) ≡ sets (now (text .entry)) (place .at) (linesFrom (place .upper) (onePiece address (now (payload .entry)))) ⌝ }
+fn put_piece(text: &mut [u8], position: Position, address: u32, payload: &[u8]) -> Position
+    requires { ⌜ (length (now payload) ≤ 64) × (positionAfter position (onePiece address (now payload)) .at ≤ length (now text)) ⌝ }
+    ensures { λ r. ⌜ r ≡ positionAfter position (onePiece address (now (payload .entry))) ⌝ }
+    ensures { λ _. ⌜ now (text .exit) ≡ sets (now (text .entry)) (position .at) (linesFrom (position .upper) (onePiece address (now (payload .entry)))) ⌝ }
 {
     let upper = address / 65536;
-    let at = put_upper(text, place, upper);
+    let at = put_upper(text, position, upper);
     put_data(text, at, address % 65536, payload);
-    Place {
+    Position {
         at: at + 13 + 2 * payload.len(),
         upper,
     }
@@ -141,12 +141,12 @@ fn piece_end(from: usize, size: usize) -> usize
 }
 
 // Puts the lines of a section's pieces.
-fn put_section(text: &mut [u8], place: Place, address: u32, bytes: &[u8]) -> Place
-    requires { ⌜ (address + length (now bytes) + 64 ≤ 4294967296) × (placeAfter place (cut ((length (now bytes) + 63) / 64) address (now bytes)) .at ≤ length (now text)) ⌝ }
-    ensures { λ r. ⌜ r ≡ placeAfter place (cut ((length (now (bytes .entry)) + 63) / 64) address (now (bytes .entry))) ⌝ }
-    ensures { λ _. ⌜ now (text .exit) ≡ sets (now (text .entry)) (place .at) (linesFrom (place .upper) (cut ((length (now (bytes .entry)) + 63) / 64) address (now (bytes .entry)))) ⌝ }
+fn put_section(text: &mut [u8], position: Position, address: u32, bytes: &[u8]) -> Position
+    requires { ⌜ (address + length (now bytes) + 64 ≤ 4294967296) × (positionAfter position (cut ((length (now bytes) + 63) / 64) address (now bytes)) .at ≤ length (now text)) ⌝ }
+    ensures { λ r. ⌜ r ≡ positionAfter position (cut ((length (now (bytes .entry)) + 63) / 64) address (now (bytes .entry))) ⌝ }
+    ensures { λ _. ⌜ now (text .exit) ≡ sets (now (text .entry)) (position .at) (linesFrom (position .upper) (cut ((length (now (bytes .entry)) + 63) / 64) address (now (bytes .entry)))) ⌝ }
 {
-    let mut w = place;
+    let mut w = position;
     let mut a = address;
     let mut from: usize = 0;
     let mut left = (bytes.len() + 63) / 64;
@@ -161,37 +161,43 @@ fn put_section(text: &mut [u8], place: Place, address: u32, bytes: &[u8]) -> Pla
 }
 
 // Puts the lines of a section, whose bytes lie in the image or in the header.
-fn put_home(text: &mut [u8], place: Place, s: Section, h: Header, bytes: &[u8]) -> Place
+fn put_located(text: &mut [u8], position: Position, s: Section, h: Header, bytes: &[u8]) -> Position
     requires { ⌜ Laid h (now bytes) s ⌝ }
-    requires { ⌜ placeAfter place (cut (piecesIn s) (s .address) (sectionBytes h (now bytes) s)) .at ≤ length (now text) ⌝ }
-    ensures { λ r. ⌜ r ≡ placeAfter place (cut (piecesIn s) (s .address) (sectionBytes h (now (bytes .entry)) s)) ⌝ }
-    ensures { λ _. ⌜ now (text .exit) ≡ sets (now (text .entry)) (place .at) (linesFrom (place .upper) (cut (piecesIn s) (s .address) (sectionBytes h (now (bytes .entry)) s))) ⌝ }
+    requires { ⌜ positionAfter position (cut (piecesIn s) (s .address) (sectionBytes h (now bytes) s)) .at ≤ length (now text) ⌝ }
+    ensures { λ r. ⌜ r ≡ positionAfter position (cut (piecesIn s) (s .address) (sectionBytes h (now (bytes .entry)) s)) ⌝ }
+    ensures { λ _. ⌜ now (text .exit) ≡ sets (now (text .entry)) (position .at) (linesFrom (position .upper) (cut (piecesIn s) (s .address) (sectionBytes h (now (bytes .entry)) s))) ⌝ }
 {
     let address = s.address;
-    let home = s.home;
+    let location = s.location;
     let from = s.offset;
     let end = from + s.size;
-    match home {
-        Home::InImage => put_section(text, place, address, &bytes[from..end]),
-        Home::InHeader => {
+    match location {
+        Location::InImage => put_section(text, position, address, &bytes[from..end]),
+        Location::InHeader => {
             let header = image::header_bytes(h);
-            put_section(text, place, address, &header[from..end])
+            put_section(text, position, address, &header[from..end])
         }
     }
 }
 
 // Puts the lines of all sections.
-fn put_sections(text: &mut [u8], place: Place, g: Geometry, h: Header, bytes: &[u8]) -> Place
+fn put_sections(
+    text: &mut [u8],
+    position: Position,
+    g: Geometry,
+    h: Header,
+    bytes: &[u8],
+) -> Position
     requires { ⌜ Sized g h (now bytes) ⌝ }
-    requires { ⌜ placeAfter place (pieces (sectionBytes h (now bytes)) (sectionsOf g)) .at ≤ length (now text) ⌝ }
-    ensures { λ r. ⌜ r ≡ placeAfter place (pieces (sectionBytes h (now (bytes .entry))) (sectionsOf g)) ⌝ }
-    ensures { λ _. ⌜ now (text .exit) ≡ sets (now (text .entry)) (place .at) (linesFrom (place .upper) (pieces (sectionBytes h (now (bytes .entry))) (sectionsOf g))) ⌝ }
+    requires { ⌜ positionAfter position (pieces (sectionBytes h (now bytes)) (sectionsOf g)) .at ≤ length (now text) ⌝ }
+    ensures { λ r. ⌜ r ≡ positionAfter position (pieces (sectionBytes h (now (bytes .entry))) (sectionsOf g)) ⌝ }
+    ensures { λ _. ⌜ now (text .exit) ≡ sets (now (text .entry)) (position .at) (linesFrom (position .upper) (pieces (sectionBytes h (now (bytes .entry))) (sectionsOf g))) ⌝ }
 {
-    let mut w = place;
+    let mut w = position;
     let mut k: usize = 0;
     while k < 5 {
         let s = image::section_at(g, k);
-        w = put_home(text, w, s, h, bytes);
+        w = put_located(text, w, s, h, bytes);
         k += 1;
     }
     w
@@ -235,7 +241,7 @@ fn put_text(text: &mut [u8], g: Geometry, h: Header, bytes: &[u8])
     ensures { λ _. ⌜ now (text .exit) ≡ sets (now (text .entry)) 0 (textOf g h (now (bytes .entry))) ⌝ }
 {
     put_extended(text, 0, 0);
-    let w = put_sections(text, Place { at: 17, upper: 0 }, g, h, bytes);
+    let w = put_sections(text, Position { at: 17, upper: 0 }, g, h, bytes);
     let at = w.at;
     put_end(text, at);
 }

@@ -3,8 +3,8 @@ use mathlib.Core.List.{List, [], _∷_, _++_}
 use Prim.Native.Nat.{ℕ, _/_, _%_, _+_, _*_}
 use lib.ListN.{getD, take, drop}
 use Rattle.image.specs.declared.Header.{Header}
-use Rattle.image.specs.declared.Home.{Home}
-use Rattle.image.specs.declared.Home.the-variants.{InImage, InHeader}
+use Rattle.image.specs.declared.Location.{Location}
+use Rattle.image.specs.declared.Location.the-variants.{InImage, InHeader}
 use Rattle.image.specs.declared.Section.{Section}
 use Rattle.parts.specs.Sizes.{flashSize, lockTotal}
 use Rattle.parts.specs.declared.Geometry.{Geometry}
@@ -13,16 +13,16 @@ use Rattle.parts.specs.declared.Geometry.{Geometry}
 -- 0x90600000', each with where its bytes lie
 abbrev pub sectionsOf : Geometry → List Section
 sectionsOf g =
-    record { address = 0; size = flashSize g; home = InImage; offset = 0 }
-    ∷ record { address = 0x90300000; size = 2; home = InHeader; offset = 0 }
-    ∷ record { address = 0x90400000; size = lockTotal g; home = InImage; offset = flashSize g }
-    ∷ record { address = 0x90500000; size = 12; home = InHeader; offset = 2 }
-    ∷ record { address = 0x90600000; size = 1; home = InHeader; offset = 14 }
+    record { address = 0; size = flashSize g; location = InImage; offset = 0 }
+    ∷ record { address = 0x90300000; size = 2; location = InHeader; offset = 0 }
+    ∷ record { address = 0x90400000; size = lockTotal g; location = InImage; offset = flashSize g }
+    ∷ record { address = 0x90500000; size = 12; location = InHeader; offset = 2 }
+    ∷ record { address = 0x90600000; size = 1; location = InHeader; offset = 14 }
     ∷ []
 
 -- past the last section
 abbrev pub noSection : Section
-noSection = record { address = 0; size = 0; home = InImage; offset = 0 }
+noSection = record { address = 0; size = 0; location = InImage; offset = 0 }
 
 -- what a text says of a header: the sum, high byte first, the metadata and the level
 abbrev pub headerBytes : Header → List ℕ
@@ -39,9 +39,9 @@ headerOf part macros bs = record {
 }
 
 -- the bytes of a section
-abbrev pub homeOf : Home → Header → List ℕ → List ℕ
-homeOf InImage h bytes = bytes
-homeOf InHeader h bytes = headerBytes h
+abbrev pub locationBytes : Location → Header → List ℕ → List ℕ
+locationBytes InImage h bytes = bytes
+locationBytes InHeader h bytes = headerBytes h
 
 abbrev pub sectionBytes : Header → List ℕ → Section → List ℕ
-sectionBytes h bytes s = take (s .size) (drop (s .offset) (homeOf (s .home) h bytes))
+sectionBytes h bytes s = take (s .size) (drop (s .offset) (locationBytes (s .location) h bytes))

@@ -33,7 +33,7 @@ pub struct Header {
 }
 
 // Where the bytes of a section lie: in the lent image, or in the header's bytes.
-pub enum Home {
+pub enum Location {
     InImage,
     InHeader,
 }
@@ -42,7 +42,7 @@ pub enum Home {
 pub struct Section {
     pub address: u32,
     pub size: usize,
-    pub home: Home,
+    pub location: Location,
     pub offset: usize,
 }
 
@@ -173,23 +173,23 @@ pub fn check(h: Header, bytes: &[u8]) -> u8
 }
 
 fn in_image(address: u32, size: usize, offset: usize) -> Section
-    ensures { λ s. ⌜ s ≡ record { address = address; size = size; home = Home.InImage; offset = offset } ⌝ }
+    ensures { λ s. ⌜ s ≡ record { address = address; size = size; location = Location.InImage; offset = offset } ⌝ }
 {
     Section {
         address: address,
         size: size,
-        home: Home::InImage,
+        location: Location::InImage,
         offset: offset,
     }
 }
 
 fn in_header(address: u32, size: usize, offset: usize) -> Section
-    ensures { λ s. ⌜ s ≡ record { address = address; size = size; home = Home.InHeader; offset = offset } ⌝ }
+    ensures { λ s. ⌜ s ≡ record { address = address; size = size; location = Location.InHeader; offset = offset } ⌝ }
 {
     Section {
         address: address,
         size: size,
-        home: Home::InHeader,
+        location: Location::InHeader,
         offset: offset,
     }
 }

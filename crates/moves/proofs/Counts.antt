@@ -5,7 +5,7 @@ use Prim.Native.Nat.{ℕ, _+_, _*_, _/_}
 use native.Mathlib.Omega.{arith}
 use lib.ListN.{length, length-append}
 use Rattle.flow.proofs.Counting.{length-words}
-use Rattle.flow.specs.Sequence.{key, write, read, call, writes, listed, pieces, imoCall, privileged, latchList, programRow, compareWord, verifyFlash, lockStart, lockMacro, verifyMacro, program, opening, afterwards, sequence}
+use Rattle.flow.specs.Sequence.{key, write, read, call, writes, listed, inTurn, imoCall, privileged, latchList, programRow, compareWord, verifyFlash, lockStart, lockMacro, verifyMacro, program, opening, afterwards, sequence}
 use Rattle.flow.specs.declared.Entry.{Entry}
 use Rattle.flow.specs.declared.Entry.the-variants.{FromOpen, FromProtected}
 use Rattle.flow.specs.declared.Purpose.{Purpose}
@@ -59,16 +59,16 @@ module _ (i : Image) where
   unfolding verifyMacro locksIn
   length-check m = length-pieces (compareWord 8 23 (locksAt g m) (i .protection) (lockStart g m)) 3 (λ k. length-read 8 _ _) 0 locks
 
-  pub length-rows : length (pieces (programRow i) 0 (rowsOf g)) ≡ rowsOf g * (26 + 2 * words)
+  pub length-rows : length (inTurn (programRow i) 0 (rowsOf g)) ≡ rowsOf g * (26 + 2 * words)
   length-rows = length-pieces (programRow i) (26 + 2 * words) length-row 0 (rowsOf g)
 
   pub length-verify : length (verifyFlash i) ≡ rowsOf g * words * 3
   length-verify = length-pieces (compareWord 6 22 0 (i .flash) 0) 3 (λ k. length-read 6 _ _) 0 (rowsOf g * words)
 
-  pub length-locks : length (pieces (lockMacro i) 0 (macrosOf g)) ≡ macrosOf g * (24 + 2 * locks)
+  pub length-locks : length (inTurn (lockMacro i) 0 (macrosOf g)) ≡ macrosOf g * (24 + 2 * locks)
   length-locks = length-pieces (lockMacro i) (24 + 2 * locks) length-lock 0 (macrosOf g)
 
-  pub length-checks : length (pieces (verifyMacro i) 0 (macrosOf g)) ≡ macrosOf g * (locks * 3)
+  pub length-checks : length (inTurn (verifyMacro i) 0 (macrosOf g)) ≡ macrosOf g * (locks * 3)
   length-checks = length-pieces (verifyMacro i) (locks * 3) length-check 0 (macrosOf g)
 
   pub length-program : length (program i) ≡ 29 + rowsOf g * (26 + 5 * words) + macrosOf g * (24 + 5 * locks)

@@ -6,7 +6,7 @@ use native.Mathlib.Nat.{suc-mul, add-zero, zero-mul, zero-add, not-suc-le-zero, 
 use native.Mathlib.Omega.{arith}
 use lib.ListN.{length, getD, length-append, List·getD-append}
 use lib.Seq.{getD-append-add}
-use Rattle.flow.specs.Sequence.{pieces}
+use Rattle.flow.specs.Sequence.{inTurn}
 use Rattle.flow.specs.declared.Move.{Move}
 
 -- the first of two joined lists, and the second
@@ -31,24 +31,24 @@ module _ {A : Type 0} (xs ys : List A) (d : A) (a b i : ℕ) (e : a + length xs 
 
 -- pieces of one length b
 module _ (f : ℕ → List Move) (b : ℕ) (len : (k : ℕ) → length (f k) ≡ b) where
-  pub length-pieces : (k n : ℕ) → length (pieces f k n) ≡ n * b
-  unfolding pieces
+  pub length-pieces : (k n : ℕ) → length (inTurn f k n) ≡ n * b
+  unfolding inTurn
   length-pieces k zero = sym (zero-mul b)
-  length-pieces k (suc n) = length-append (f k) (pieces f (suc k) n) ∙ omega (arith, len k, length-pieces (suc k) n, suc-mul n b)
+  length-pieces k (suc n) = length-append (f k) (inTurn f (suc k) n) ∙ omega (arith, len k, length-pieces (suc k) n, suc-mul n b)
 
-  in-pieces : (d : Move) (i n k j : ℕ) → k < n → j < b → getD (pieces f i n) (k * b + j) d ≡ getD (f (i + k)) j d
-  unfolding pieces
+  in-pieces : (d : Move) (i n k j : ℕ) → k < n → j < b → getD (inTurn f i n) (k * b + j) d ≡ getD (f (i + k)) j d
+  unfolding inTurn
   in-pieces d i zero k j h g = absurd (not-suc-le-zero h)
   in-pieces d i (suc n) zero j h g =
-      rw (zero-mul, zero-add, add-zero) (List·getD-append (f i) (pieces f (suc i) n) d j (rw len g))
+      rw (zero-mul, zero-add, add-zero) (List·getD-append (f i) (inTurn f (suc i) n) d j (rw len g))
   in-pieces d i (suc n) (suc k) j h g =
       let e : suc k * b + j ≡ length (f i) + (k * b + j) = omega (arith, len i, suc-mul k b) in
       let s : i + suc k ≡ suc i + k = omega arith in
       rw (e, getD-append-add, s) (in-pieces d (suc i) n k j (le-of-suc-le-suc h) g)
 
-  pub at-piece : (d : Move) (n j : ℕ) → 0 < b → j < n * b → getD (pieces f 0 n) j d ≡ getD (f (j / b)) (j % b) d
+  pub at-piece : (d : Move) (n j : ℕ) → 0 < b → j < n * b → getD (inTurn f 0 n) j d ≡ getD (f (j / b)) (j % b) d
   at-piece d n j some h =
-      ap (λ (x : ℕ). getD (pieces f 0 n) x d) (sym (div-add-mod' j b))
+      ap (λ (x : ℕ). getD (inTurn f 0 n) x d) (sym (div-add-mod' j b))
       ∙ in-pieces d 0 n (j / b) (j % b) (div-lt-iff-lt-mul {k = b} {x = j} {y = n} some .1 h) (mod-lt j some)
       ∙ ap (λ (x : ℕ). getD (f x) (j % b) d) (zero-add (j / b))
 

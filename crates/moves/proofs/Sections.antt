@@ -5,7 +5,7 @@ use Prim.Native.Nat.{ℕ, _+_, _-_, _*_, _/_, _%_, _<_, _≤_}
 use native.Mathlib.Nat.{mul-le-mul, mul-le-mul-left, mul-le-mul-right, mod-lt, zero-add, div-add-mod', div-lt-iff-lt-mul}
 use native.Mathlib.Omega.{arith}
 use lib.ListN.{length, getD, take, drop}
-use Rattle.flow.specs.Sequence.{key, read, call, listed, pieces, latchList, programRow, compareWord, verifyFlash, lockStart, lockMacro, verifyMacro, endMove}
+use Rattle.flow.specs.Sequence.{key, read, call, listed, inTurn, latchList, programRow, compareWord, verifyFlash, lockStart, lockMacro, verifyMacro, endMove}
 use Rattle.flow.specs.declared.Purpose.the-variants.{Same}
 use Rattle.image.specs.Image.{Image, imageOf}
 use Rattle.image.specs.Words.{wordAt}
@@ -110,7 +110,7 @@ module _ (g : Geometry) (ok : Handled g) (h : Header) (bytes : List ℕ) (exact 
 
     pub rows-at : (bs : List ℕ) → bs ≡ take (j / b * rowBytes g + rowBytes g - j / b * rowBytes g) (drop (j / b * rowBytes g) bytes)
         → getD (listed g 5 4 (latchList (j / b / rowsPerMacro g) (length bs) bs 0) ++ listed g 5 6 ((key 6 + j / b * 0x10000) ∷ [])) (j % b) endMove
-        ≡ getD (pieces (programRow i) 0 (rowsOf g)) j endMove
+        ≡ getD (inTurn (programRow i) 0 (rowsOf g)) j endMove
     unfolding programRow
     rows-at bs is =
         rw (front-latch bytes bs (j / b * rowBytes g) (rowBytes g) is (row-place .end) (flashSize g) (j / b / rowsPerMacro g) row-fits)
@@ -168,7 +168,7 @@ module _ (g : Geometry) (ok : Handled g) (h : Header) (bytes : List ℕ) (exact 
     pub locks-at : (bs : List ℕ)
         → bs ≡ take (flash + j / b * (rowsPerMacro g / 8) + rowsPerMacro g / 8 - (flash + j / b * (rowsPerMacro g / 8))) (drop (flash + j / b * (rowsPerMacro g / 8)) bytes)
         → getD (listed g 7 4 (latchList (j / b) (length bs) bs 0) ++ call g 7 0x0D (key 0x0D + h .level * 0x10000 + j / b * 0x1000000)) (j % b) endMove
-        ≡ getD (pieces (lockMacro i) 0 (macrosOf g)) j endMove
+        ≡ getD (inTurn (lockMacro i) 0 (macrosOf g)) j endMove
     unfolding lockMacro locksIn
     locks-at bs is =
         rw (back-latch bytes bs (flash + j / b * (rowsPerMacro g / 8)) (rowsPerMacro g / 8) is (macro-place .end) (flashSize g) (j / b) (j / b * (rowsPerMacro g / 8)) (omega arith))
@@ -201,7 +201,7 @@ module _ (g : Geometry) (ok : Handled g) (h : Header) (bytes : List ℕ) (exact 
     pub checks-at : (bs : List ℕ)
         → bs ≡ take (flash + m * (rowsPerMacro g / 8) + rowsPerMacro g / 8 - (flash + m * (rowsPerMacro g / 8))) (drop (flash + m * (rowsPerMacro g / 8)) bytes)
         → getD (read 8 (locksAt g m + 4 * k) (Same (wordAt bs (4 * k)) 23)) (j % each % 3) endMove
-        ≡ getD (pieces (verifyMacro i) 0 (macrosOf g)) j endMove
+        ≡ getD (inTurn (verifyMacro i) 0 (macrosOf g)) j endMove
     unfolding verifyMacro locksIn
     checks-at bs is =
         let w : wordAt bs (4 * k) ≡ wordAt (i .protection) (lockStart g m + 4 * k) =

@@ -4,7 +4,7 @@ use mathlib.Core.Path.{_≡_, sym, ap, _∙_}
 use Prim.Native.Nat.{ℕ, _+_, _-_, _*_, _/_, _<_, _≤_}
 use native.Mathlib.Omega.{arith}
 use lib.ListN.{length, getD, length-append}
-use Rattle.flow.specs.Sequence.{key, read, call, listed, pieces, acquire, silicon, privileged, programRow, verifyFlash, lockMacro, verifyMacro, program, opening, afterwards, sequence, endMove}
+use Rattle.flow.specs.Sequence.{key, read, call, listed, inTurn, acquire, silicon, privileged, programRow, verifyFlash, lockMacro, verifyMacro, program, opening, afterwards, sequence, endMove}
 use Rattle.flow.specs.declared.Entry.{Entry}
 use Rattle.flow.specs.declared.Entry.the-variants.{FromOpen, FromProtected}
 use Rattle.flow.specs.declared.Move.{Move}
@@ -28,13 +28,13 @@ module _ (i : Image) where
   quads = rowsPerMacro g / 8 / 4
 
   abbrev rows : List Move
-  rows = pieces (programRow i) 0 (rowsOf g)
+  rows = inTurn (programRow i) 0 (rowsOf g)
 
   abbrev locks : List Move
-  locks = pieces (lockMacro i) 0 (macrosOf g)
+  locks = inTurn (lockMacro i) 0 (macrosOf g)
 
   abbrev checks : List Move
-  checks = pieces (verifyMacro i) 0 (macrosOf g)
+  checks = inTurn (verifyMacro i) 0 (macrosOf g)
 
   abbrev level : List Move
   level = read 8 (levelAt g) StoredLevel

@@ -3,7 +3,7 @@ ghost use mathlib.Core.List.{[], _∷_, _++_};
 ghost use mathlib.Core.Path.{_≡_};
 ghost use Prim.Native.Nat.{_+_, _*_, _/_, _<_, _≤_};
 ghost use lib.ListN.{length, getD};
-ghost use Rattle.flow.specs.Sequence.{key, call, listed, pieces, latchList, programRow, verifyFlash, lockMacro, verifyMacro, endMove};
+ghost use Rattle.flow.specs.Sequence.{key, call, listed, inTurn, latchList, programRow, verifyFlash, lockMacro, verifyMacro, endMove};
 ghost use Rattle.image.specs.Image.{imageOf};
 ghost use Rattle.moves.specs.Handled.{Handled};
 ghost use Rattle.moves.specs.Stands.{Stands};
@@ -73,7 +73,7 @@ pub(crate) fn row_moves(g: Geometry) -> u32
 // Step 5.
 pub(crate) fn rows_move(g: Geometry, h: Header, bytes: &[u8], j: u32) -> Move
     requires { ⌜ Handled g ⌝ ∗ ⌜ length (now bytes) ≡ imageSize g ⌝ ∗ ⌜ j < rowsOf g * (26 + 2 * (rowBytes g / 4)) ⌝ }
-    ensures { λ t. ⌜ t ≡ getD (pieces (programRow (imageOf g h (now (bytes .entry)))) 0 (rowsOf g)) j endMove ⌝ }
+    ensures { λ t. ⌜ t ≡ getD (inTurn (programRow (imageOf g h (now (bytes .entry)))) 0 (rowsOf g)) j endMove ⌝ }
 {
     let p = g.part;
     let size = p.row_bytes as u32;
@@ -134,7 +134,7 @@ pub(crate) fn lock_moves(g: Geometry) -> u32
 // Step 7.
 pub(crate) fn locks_move(g: Geometry, h: Header, bytes: &[u8], j: u32) -> Move
     requires { ⌜ Handled g ⌝ ∗ ⌜ length (now bytes) ≡ imageSize g ⌝ ∗ ⌜ j < macrosOf g * (24 + 2 * (rowsPerMacro g / 8 / 4)) ⌝ }
-    ensures { λ t. ⌜ t ≡ getD (pieces (lockMacro (imageOf g h (now (bytes .entry)))) 0 (macrosOf g)) j endMove ⌝ }
+    ensures { λ t. ⌜ t ≡ getD (inTurn (lockMacro (imageOf g h (now (bytes .entry)))) 0 (macrosOf g)) j endMove ⌝ }
 {
     let p = g.part;
     let size = (p.rows_per_macro as u32) / 8;
@@ -148,7 +148,7 @@ pub(crate) fn locks_move(g: Geometry, h: Header, bytes: &[u8], j: u32) -> Move
 // Step 8 but for the level.
 pub(crate) fn checks_move(g: Geometry, h: Header, bytes: &[u8], j: u32) -> Move
     requires { ⌜ Handled g ⌝ ∗ ⌜ length (now bytes) ≡ imageSize g ⌝ ∗ ⌜ j < macrosOf g * (rowsPerMacro g / 8 / 4 * 3) ⌝ }
-    ensures { λ t. ⌜ t ≡ getD (pieces (verifyMacro (imageOf g h (now (bytes .entry)))) 0 (macrosOf g)) j endMove ⌝ }
+    ensures { λ t. ⌜ t ≡ getD (inTurn (verifyMacro (imageOf g h (now (bytes .entry)))) 0 (macrosOf g)) j endMove ⌝ }
 {
     let p = g.part;
     let size = (p.rows_per_macro as u32) / 8;

@@ -7,11 +7,11 @@ use native.Mathlib.Omega.{arith}
 use borrow.Author.Tests.{le-leb, eq-eqb, ne-eqb, ltb-true}
 use lib.Dec.{eqb, ltb, lit≤}
 use lib.ListN.{length}
-use Rattle.flow.specs.Judge.{Judged, go, pollAgain, enter, report, judge, goIf, polled, entryBy, free, testBitSet, succeeded, idsFit, levelIn, storedIn, sumsFit}
+use Rattle.flow.specs.Judge.{Judged, go, pollAgain, enter, report, judge, goIf, polled, entryBy, free, testBitSet, succeeded, idsFit, levelIn, levelShown, sumsFit}
 use Rattle.flow.specs.Monitor.{isReset, isAttempt}
 use Rattle.flow.specs.Packets.{Verdict, okay, again, broken, heard, verdict, isRead, replyIn}
 use Rattle.flow.specs.Sequence.{opening}
-use Rattle.flow.specs.Session.{running, reported, moveAt, settled, tryAgain, waitAgain, heardBy, stepOf}
+use Rattle.flow.specs.Session.{running, reported, moveAt, judgedTo, tryAgain, waitAgain, heardBy, stepOf}
 use Rattle.flow.specs.Session as Flow
 use Rattle.flow.specs.declared.Answer.{Answer}
 use Rattle.flow.specs.declared.Entry.{Entry}
@@ -141,7 +141,7 @@ module _ (i : Image) (y : Entry) (n : ℕ) (inside : n < moveCount (i .geometry)
         allow-either (idsFit i k w) (goIf (eqb (levelIn w) 1) 21 p k) (report 20)
         (allow-if (eqb (levelIn w) 1) 21 (nx refl) (lit≤ tt, lit≤ tt)) (allow-report 20 (lit≤ tt, lit≤ tt))
     allowed (Same v x) w r nx = allow-if (eqb w v) x (nx refl) r
-    allowed StoredLevel w r nx = allow-if (eqb (storedIn w) (i .header .level)) 24 (nx refl) (lit≤ tt, lit≤ tt)
+    allowed StoredLevel w r nx = allow-if (eqb (levelShown w) (i .header .level)) 24 (nx refl) (lit≤ tt, lit≤ tt)
     allowed LastSum w r nx =
         allow-either (sumsFit i w k) (report 0) (report 25) (at-nine s r) (allow-report 25 (lit≤ tt, lit≤ tt))
 
@@ -153,7 +153,7 @@ module _ (i : Image) (y : Entry) (n : ℕ) (inside : n < moveCount (i .geometry)
     next-of : isLast (m .purpose) ≡ false → suc n < moveCount (i .geometry) y
     next-of e = has-next i y n inside (λ q. false≢true (sym e ∙ ap (λ (x : Move). isLast (x .purpose)) q))
 
-    settle : (j : Judged) (a′ t : ℕ) → a′ < 30 → Allowed j (m .step) → Stands i (settled j y n (m .step) a′ t)
+    settle : (j : Judged) (a′ t : ℕ) → a′ < 30 → Allowed j (m .step) → Stands i (judgedTo j y n (m .step) a′ t)
     unfolding Allowed
     settle (go p′ k′) a′ t l q = record { at = q .0; waits = lit≤ tt; polls = q .1; attempts = l }
     settle (pollAgain p′ k′) a′ t l q = record { at = omega arith; waits = lit≤ tt; polls = q; attempts = l }

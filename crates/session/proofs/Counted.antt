@@ -9,7 +9,7 @@ use Rattle.flow.specs.Monitor.{isReset, isAttempt}
 use Rattle.flow.specs.Packets.{Verdict, okay, again, broken, verdict}
 use Rattle.flow.specs.Plan.{Traffic, counting}
 use Rattle.flow.specs.Run.{Run, advanceBy}
-use Rattle.flow.specs.Session.{running, reported, moveAt, settled, tryAgain, waitAgain, heardBy, stepOf}
+use Rattle.flow.specs.Session.{running, reported, moveAt, judgedTo, tryAgain, waitAgain, heardBy, stepOf}
 use Rattle.flow.specs.Session as Flow
 use Rattle.flow.specs.declared.Answer.{Answer}
 use Rattle.flow.specs.declared.Entry.{Entry}
@@ -35,11 +35,11 @@ stand-resumed g s (reported x t h) c = let e : min h (mostOf g) ≡ h = omega ar
 
 -- ---- a step counts its transfer
 
-count-settled : (j : Judged) (y : Entry) (n s a h : ℕ) → countIn (settled j y n s a h) ≡ h
-count-settled (go p k) y n s a h = refl
-count-settled (pollAgain p k) y n s a h = refl
-count-settled (enter e p k) y n s a h = refl
-count-settled (report x) y n s a h = refl
+count-judged : (j : Judged) (y : Entry) (n s a h : ℕ) → countIn (judgedTo j y n s a h) ≡ h
+count-judged (go p k) y n s a h = refl
+count-judged (pollAgain p k) y n s a h = refl
+count-judged (enter e p k) y n s a h = refl
+count-judged (report x) y n s a h = refl
 
 count-try : (b : Bool) (y : Entry) (n s p a k h : ℕ) → countIn (tryAgain b y n s p a k h) ≡ h
 count-try true y n s p a k h = refl
@@ -50,8 +50,8 @@ count-wait true y n s w p a k h = refl
 count-wait false y n s w p a k h = refl
 
 count-heard : (b : Bool) (i : Image) (m : Move) (v : Verdict) (y : Entry) (n w p a k h : ℕ) → countIn (heardBy b i m v y n w p a k h) ≡ h
-count-heard true i m (okay x) y n w p a k h = count-settled (judge i (m .purpose) p k x) y n (m .step) 0 h
-count-heard false i m (okay x) y n w p a k h = count-settled (judge i (m .purpose) p k x) y n (m .step) a h
+count-heard true i m (okay x) y n w p a k h = count-judged (judge i (m .purpose) p k x) y n (m .step) 0 h
+count-heard false i m (okay x) y n w p a k h = count-judged (judge i (m .purpose) p k x) y n (m .step) a h
 count-heard true i m again y n w p a k h = count-try (ltb (suc a) 30) y n (m .step) p a k h
 count-heard false i m again y n w p a k h = count-wait (ltb w 16) y n (m .step) w p a k h
 count-heard true i m (broken x) y n w p a k h = count-try (ltb (suc a) 30) y n (m .step) p a k h

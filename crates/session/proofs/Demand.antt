@@ -5,10 +5,10 @@ use mathlib.Core.Path.{_≡_, refl, sym, ap, subst, _∙_}
 use Prim.Native.Nat.{ℕ, zero, suc, _≤_, _<_}
 use native.Mathlib.Omega.{arith}
 use borrow.Author.Tests.{lt-ltb}
-use Rattle.flow.proofs.Demand.{demand3-holds}
+use Rattle.flow.proofs.Demand.{run-demand3-holds}
 use Rattle.flow.specs.Claim.{Passes, Startable, entryOf}
 use Rattle.flow.specs.Plan.{Traffic, counting, plan, loops, mostTraffic}
-use Rattle.flow.specs.Run.{Run, advance, after, started, handedOutBy}
+use Rattle.flow.specs.Run.{Run, advance, runAfter, started, handedOutBy}
 use Rattle.flow.specs.Sequence.{sequence, opening, acquire}
 use Rattle.flow.specs.Session.{running, reported, moveAt}
 use Rattle.flow.specs.Session as Flow
@@ -31,7 +31,7 @@ use Rattle.session.specs.Given.{startOf, startedOn, startRefused, wantsL
 use Rattle.session.specs.Possible.{headerFits, progressFits, possibleIn}
 use Rattle.session.specs.Sessions.{mostOf, atStart, firstFor}
 use Rattle.session.specs.declared.Given.{Given}
-use Rattle.session.specs.declared.Outcome.the-variants.{Refused, Told}
+use Rattle.session.specs.declared.Outcome.the-variants.{Refused, Reported}
 use Rattle.session.specs.declared.Report.{Report}
 use Rattle.session.proofs.Counted.{countIn, count-step}
 use Rattle.session.proofs.Following.{Follows, follow}
@@ -101,8 +101,8 @@ handed-more i (running y n w p a k h) t = grows ((moveAt i y n) .request) t
 handed-more i (reported x s h) t = omega arith
 
 count-run : (i : Image) (k : ℕ) (r : Run) → countIn (r .session) ≡ r .traffic .transfers
-    → countIn ((after i k r) .session) ≡ ((after i k r) .traffic) .transfers
-unfolding after advance
+    → countIn ((runAfter i k r) .session) ≡ ((runAfter i k r) .traffic) .transfers
+unfolding runAfter advance
 count-run i zero r e = e
 count-run i (suc k) r e = count-run i k (advance i r) (count-step i (r .session) r e refl)
 
@@ -113,9 +113,9 @@ most-from g FromProtected = omega arith
 
 -- ---- a report that stands
 
-told-session : (i : Image) (x : Flow.Session) (r : Report) → outcomeAt i x ≡ Told r → x ≡ reported (r .number) (r .step) (r .transfers)
-told-session i (running y n w p a k h) r e = let z : _≡_ {A = ℕ} 0 1 = cc in absurd (omega arith)
-told-session i (reported x t h) r e =
+reported-session : (i : Image) (x : Flow.Session) (r : Report) → outcomeAt i x ≡ Reported r → x ≡ reported (r .number) (r .step) (r .transfers)
+reported-session i (running y n w p a k h) r e = let z : _≡_ {A = ℕ} 0 1 = cc in absurd (omega arith)
+reported-session i (reported x t h) r e =
     let same : record { number = x; step = t; transfers = h } ≡ r = cc in
     ap (λ (z : Report). reported (z .number) (z .step) (z .transfers)) same
 
@@ -124,19 +124,19 @@ module _ (g : Geometry) (h : Header) (bytes : List ℕ) (p : Passes g h bytes) (
   i = imageOf g h bytes
 
   abbrev run : Run
-  run = after i n (started b l)
+  run = runAfter i n (started b l)
 
-  low : (k : ℕ) → countIn ((after i k (started b l)) .session) ≤ mostOf g
+  low : (k : ℕ) → countIn ((runAfter i k (started b l)) .session) ≤ mostOf g
   low k =
-      let r = after i k (started b l) in
-      let d = demand3-holds g h bytes p b may l k in
+      let r = runAfter i k (started b l) in
+      let d = run-demand3-holds g h bytes p b may l k in
       omega (arith, count-run i k (started b l) refl, handed-more i (r .session) (r .traffic), d .transfers, most-from g (entryOf b))
 
   claim : (s : State) → Follows g h bytes (p .found) ((all g h bytes (p .found) (p .checked)) .size) s run → Demand3 i b l n s
   claim s f =
-      let d = demand3-holds g h bytes p b may l n in
-      let told : (r : Report) → s .stands ≡ Told r → run .session ≡ reported (r .number) (r .step) (r .transfers)
-      = λ r e. told-session i (run .session) r (sym (f .stands) ∙ e) in
+      let d = run-demand3-holds g h bytes p b may l n in
+      let as-run : (r : Report) → s .stands ≡ Reported r → run .session ≡ reported (r .number) (r .step) (r .transfers)
+      = λ r e. reported-session i (run .session) r (sym (f .stands) ∙ e) in
       record {
         neverVirgin = λ e. d .neverVirgin (ap (λ (t : Target). t .memory .stored) (sym (f .target)) ∙ e);
         transfers = rw (f .traffic) (d .transfers);
@@ -145,15 +145,15 @@ module _ (g : Geometry) (h : Header) (bytes : List ℕ) (p : Passes g h bytes) (
         stands = λ k e. not-refused i (run .session) k (sym (f .stands) ∙ e);
         comes = λ late.
             let c = d .comes late in
-            record { report = record { number = c .number; step = c .step; transfers = c .sent }; told = f .stands ∙ ap (outcomeAt i) (c .is) };
-        counted = λ r e. rw (f .traffic) (d .counted (r .number) (r .step) (r .transfers) (told r e));
-        exactly = λ r e. rw (f .monitor) (d .exactly (r .number) (r .step) (r .transfers) (told r e));
-        number = λ r e. rw (f .monitor) (d .number (r .number) (r .step) (r .transfers) (told r e));
+            record { report = record { number = c .number; step = c .step; transfers = c .sent }; is = f .stands ∙ ap (outcomeAt i) (c .is) };
+        counted = λ r e. rw (f .traffic) (d .counted (r .number) (r .step) (r .transfers) (as-run r e));
+        exactly = λ r e. rw (f .monitor) (d .exactly (r .number) (r .step) (r .transfers) (as-run r e));
+        number = λ r e. rw (f .monitor) (d .number (r .number) (r .step) (r .transfers) (as-run r e));
         done = λ r e z.
-            let c = d .done (r .step) (r .transfers) (told r e ∙ ap (λ (k : ℕ). reported k (r .step) (r .transfers)) z) in
+            let c = d .done (r .step) (r .transfers) (as-run r e ∙ ap (λ (k : ℕ). reported k (r .step) (r .transfers)) z) in
             rw (f .target, f .monitor) (record { atEnd = c .atEnd; flash = c .flash; locks = c .locks; level = c .level; planned = c .planned });
         provoked = λ c. rw (f .monitor) (d .provoked c);
-        calm = λ c right r e. d .calm c right (r .number) (r .step) (r .transfers) (told r e);
+        calm = λ c right r e. d .calm c right (r .number) (r .step) (r .transfers) (as-run r e);
       }
 
 pub demand3 : Demand3Holds

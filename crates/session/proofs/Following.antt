@@ -8,7 +8,7 @@ use lib.ListN.{length}
 use Rattle.flow.specs.Exchange.{known, decode, Met, meet}
 use Rattle.flow.specs.Packets.{packetOf}
 use Rattle.flow.specs.Plan.{counting}
-use Rattle.flow.specs.Run.{Run, served, advanceBy, advance, after, handedOut}
+use Rattle.flow.specs.Run.{Run, served, advanceBy, advance, runAfter, handedOut}
 use Rattle.flow.specs.Session.{running, reported, moveAt, stepOf}
 use Rattle.flow.specs.Session as Flow
 use Rattle.flow.specs.declared.Answer.{Answer}
@@ -27,7 +27,7 @@ use Rattle.session.specs.Possible.{possibleIn}
 use Rattle.session.specs.Sessions.{standOf, mostOf, resumed}
 use Rattle.session.specs.declared.Given.{Given}
 use Rattle.session.specs.declared.Outcome.{Outcome}
-use Rattle.session.specs.declared.Outcome.the-variants.{Refused, Ask, Told}
+use Rattle.session.specs.declared.Outcome.the-variants.{Refused, Ask, Reported}
 use Rattle.session.specs.declared.Report.{Report}
 use Rattle.session.specs.declared.Session.{Session}
 use Rattle.session.proofs.Closed.{Within}
@@ -40,7 +40,7 @@ use Rattle.session.proofs.Stepping.{fits, handing-stands, standing-new,
 same-packet : (p q : Packet) (o : Outcome) → o ≡ Ask p → o ≡ Ask q → p ≡ q
 same-packet p q o e f = cc
 
-no-packet : (p : Packet) (r : Report) (o : Outcome) → o ≡ Ask p → o ≡ Told r → ⊥
+no-packet : (p : Packet) (r : Report) (o : Outcome) → o ≡ Ask p → o ≡ Reported r → ⊥
 no-packet p r o e f = let z : _≡_ {A = ℕ} 0 1 = cc in omega arith
 
 not-finished : (s : Session) (y : Entry) (n w p a k h : ℕ) → standOf s ≡ running y n w p a k h
@@ -172,17 +172,17 @@ module _ (g : Geometry) (h : Header) (bytes : List ℕ) (found : lookupOf (h .pa
       }
 
   -- after the report every step repeats it
-  follow-later : (s : State) (r : Run) (a : Answer) (told : Report) → Follows s r → s .stands ≡ Told told
+  follow-later : (s : State) (r : Run) (a : Answer) (last-report : Report) → Follows s r → s .stands ≡ Reported last-report
       → Follows (called (stepWith (s .session) bytes a) s) r
-  follow-later s r a told f e = by (r .session) refl
+  follow-later s r a last-report f e = by (r .session) refl
     where
       by : (z : Flow.Session) → r .session ≡ z → Follows (called (stepWith (s .session) bytes a) s) r
-      by (running y n w p b k t) is = absurd (no-packet _ told (s .stands) (f .stands ∙ ap (outcomeAt i) is) e)
+      by (running y n w p b k t) is = absurd (no-packet _ last-report (s .stands) (f .stands ∙ ap (outcomeAt i) is) e)
       by (reported x t c) is =
           let again : stepWith (s .session) bytes a ≡ giving i (s .session) =
           step-finished g (s .session) bytes a (found-of s r f) (f .can) size (is-finished (s .session) x t c (f .session ∙ is))
           ∙ ap (λ (j : Header). giving (imageOf g j bytes) (s .session)) (f .header) in
-          let out : outcomeAt i (standOf (s .session)) ≡ Told (record { number = x; step = t; transfers = c }) = ap (outcomeAt i) (f .session ∙ is) in
+          let out : outcomeAt i (standOf (s .session)) ≡ Reported (record { number = x; step = t; transfers = c }) = ap (outcomeAt i) (f .session ∙ is) in
           subst (λ (v : Given). Follows (called v s) r) (sym again)
           (record {
             header = f .header;
@@ -197,10 +197,10 @@ module _ (g : Geometry) (h : Header) (bytes : List ℕ) (found : lookupOf (h .pa
           })
 
   -- the whole list
-  pub follow : (n : ℕ) (s s′ : State) (r : Run) → Follows s r → ((k : ℕ) → countIn ((after i k r) .session) ≤ mostOf g)
-      → Steps g bytes n s s′ → Follows s′ (after i n r)
-  unfolding after
+  pub follow : (n : ℕ) (s s′ : State) (r : Run) → Follows s r → ((k : ℕ) → countIn ((runAfter i k r) .session) ≤ mostOf g)
+      → Steps g bytes n s s′ → Follows s′ (runAfter i n r)
+  unfolding runAfter
   follow n s s′ r f low none = f
   follow n s s′ r f low (answer p e steps) = follow _ _ s′ (advance i r) (follow-answer s r p f e (low 1)) (λ k. low (suc k)) steps
   follow n s s′ r f low (refusal lent a number e steps) = follow n _ s′ r (follow-refusal s r lent a number f e) low steps
-  follow n s s′ r f low (later a told e steps) = follow n _ s′ r (follow-later s r a told f e) low steps
+  follow n s s′ r f low (later a last-report e steps) = follow n _ s′ r (follow-later s r a last-report f e) low steps

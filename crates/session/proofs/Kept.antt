@@ -25,7 +25,7 @@ use Rattle.session.specs.Possible.{possibleIn, possibleFor, possible}
 use Rattle.session.specs.Sessions.{standOf, mostOf, firstFor, resumed}
 use Rattle.session.specs.declared.Given.{Given}
 use Rattle.session.specs.declared.Outcome.{Outcome}
-use Rattle.session.specs.declared.Outcome.the-variants.{Refused, Told}
+use Rattle.session.specs.declared.Outcome.the-variants.{Refused, Reported}
 use Rattle.session.specs.declared.Report.{Report}
 use Rattle.session.specs.declared.Session.{Session}
 use Rattle.session.proofs.Counted.{countIn}
@@ -84,14 +84,14 @@ module _ (g : Geometry) (s : Session) (bytes : List ℕ) (a : Answer) (found : l
 module _ (s : Session) (bytes : List ℕ) (a : Answer) where
   record Right (r : Given) : Type 0 where
     pub header : r .session .header ≡ s .header
-    pub count : (t : Report) → r .outcome ≡ Told t → t .transfers ≡ r .session .transfers
+    pub count : (t : Report) → r .outcome ≡ Reported t → t .transfers ≡ r .session .transfers
 
   right-refusing : (k : ℕ) → Right (refusing s k)
   right-refusing k = record { header = refl; count = λ t e. let z : _≡_ {A = ℕ} 0 1 = cc in absurd (omega arith) }
 
-  told-count : (i : Image) (x : Flow.Session) (t : Report) → outcomeAt i x ≡ Told t → (c : ℕ) → countIn x ≡ c → t .transfers ≡ c
-  told-count i (running y n w p b k h) t e c f = let z : _≡_ {A = ℕ} 0 1 = cc in absurd (omega arith)
-  told-count i (reported x r h) t e c f = let same : record { number = x; step = r; transfers = h } ≡ t = cc in ap (λ (q : Report). q .transfers) (sym same) ∙ f
+  reported-count : (i : Image) (x : Flow.Session) (t : Report) → outcomeAt i x ≡ Reported t → (c : ℕ) → countIn x ≡ c → t .transfers ≡ c
+  reported-count i (running y n w p b k h) t e c f = let z : _≡_ {A = ℕ} 0 1 = cc in absurd (omega arith)
+  reported-count i (reported x r h) t e c f = let same : record { number = x; step = r; transfers = h } ≡ t = cc in ap (λ (q : Report). q .transfers) (sym same) ∙ f
 
   count-stand : (s′ : Session) → countIn (standOf s′) ≡ s′ .transfers
   count-stand s′ = by (s′ .finished)
@@ -104,7 +104,7 @@ module _ (s : Session) (bytes : List ℕ) (a : Answer) where
       by false = refl
 
   right-giving : (i : Image) (s′ : Session) → s′ .header ≡ s .header → Right (giving i s′)
-  right-giving i s′ e = record { header = e; count = λ t f. told-count i (standOf s′) t f (s′ .transfers) (count-stand s′) }
+  right-giving i s′ e = record { header = e; count = λ t f. reported-count i (standOf s′) t f (s′ .transfers) (count-stand s′) }
 
   right-either : (t : Bool) (r r′ : Given) → Right r → Right r′ → Right (cond t r r′)
   right-either true r r′ h h′ = h
@@ -143,7 +143,7 @@ kept s bytes a h = by (lookupOf (s .header .part) (s .header .macros)) refl
         possible-by ((stepWith s bytes a) .session) found ∙ kept-step g s bytes a e h
 
 within : (s : Session) (bytes : List ℕ) (a : Answer) (g : Geometry) (r : Report) → lookupOf (s .header .part) (s .header .macros) ≡ Found g
-    → (stepWith s bytes a) .outcome ≡ Told r
+    → (stepWith s bytes a) .outcome ≡ Reported r
     → r .transfers ≤ mostOf g
 unfolding Kept
 within s bytes a g r e t =
@@ -151,7 +151,7 @@ within s bytes a g r e t =
     let low = (parts g ((stepWith s bytes a) .session) (kept-step g s bytes a e free)) .count in
     omega (arith, (right-step s bytes a) .count r t, low)
   where
-    clash : (r : Report) (n : ℕ) (o : Outcome) → o ≡ Told r → o ≡ Refused n → ⊥
+    clash : (r : Report) (n : ℕ) (o : Outcome) → o ≡ Reported r → o ≡ Refused n → ⊥
     clash r n o p q = let z : _≡_ {A = ℕ} 0 1 = cc in omega arith
 
 begins : (h : Header) (bytes : List ℕ) (leave : Bool) → Unrefused (startOf h bytes leave) → possible ((startOf h bytes leave) .session) ≡ true

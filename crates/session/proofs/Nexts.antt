@@ -7,7 +7,7 @@ use native.Mathlib.Numerals.{add-one}
 use lib.Dec.{ltb}
 use Rattle.flow.specs.Judge.{Judged, go, pollAgain, enter, report, judge, idsFit, sumsFit}
 use Rattle.flow.specs.Packets.{Verdict, okay, again, broken}
-use Rattle.flow.specs.Session.{settled, tryAgain, waitAgain, heardBy}
+use Rattle.flow.specs.Session.{judgedTo, tryAgain, waitAgain, heardBy}
 use Rattle.flow.specs.declared.Entry.{Entry}
 use Rattle.flow.specs.declared.Move.{Move}
 use Rattle.flow.specs.declared.Purpose.{Purpose}
@@ -50,7 +50,7 @@ judge-header g h bytes (Same v n) p k w = refl
 judge-header g h bytes StoredLevel p k w = refl
 judge-header g h bytes LastSum p k w = refl
 
-stand-next : (j : Judged) (y : Entry) (n a s h : ℕ) → standAfter (nextOf j y n a) s h ≡ settled j y n s a h
+stand-next : (j : Judged) (y : Entry) (n a s h : ℕ) → standAfter (nextOf j y n a) s h ≡ judgedTo j y n s a h
 stand-next (go p k) y n a s h = simp add-one
 stand-next (pollAgain p k) y n a s h = refl
 stand-next (enter e p k) y n a s h = simp add-one

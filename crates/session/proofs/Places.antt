@@ -11,7 +11,7 @@ use lib.Seq.{getD-at}
 use Rattle.flow.proofs.Counting.{total, one-more, sequence-totals}
 use Rattle.flow.proofs.Table.{Facts}
 use Rattle.flow.specs.Plan.{trafficIn, plan, acquisitions}
-use Rattle.flow.specs.Sequence.{move, read, call, listed, pieces, privileged, programRow, verifyFlash, lockMacro, verifyMacro, acquire, silicon, program, opening, afterwards, sequence, endMove, key}
+use Rattle.flow.specs.Sequence.{move, read, call, listed, inTurn, privileged, programRow, verifyFlash, lockMacro, verifyMacro, acquire, silicon, program, opening, afterwards, sequence, endMove, key}
 use Rattle.flow.specs.Session.{moveAt}
 use Rattle.flow.specs.declared.Entry.{Entry}
 use Rattle.flow.specs.declared.Entry.the-variants.{FromOpen, FromProtected}
@@ -56,10 +56,10 @@ unfolding program
 ends-program i =
     let g = i .geometry in
     after (privileged g 4 Keep)
-    (after (pieces (programRow i) 0 (rowsOf g))
+    (after (inTurn (programRow i) 0 (rowsOf g))
     (after (verifyFlash i)
-    (after (pieces (lockMacro i) 0 (macrosOf g))
-    (after (pieces (verifyMacro i) 0 (macrosOf g)) (after (read 8 (levelAt g) StoredLevel) (ends-privileged g))))))
+    (after (inTurn (lockMacro i) 0 (macrosOf g))
+    (after (inTurn (verifyMacro i) 0 (macrosOf g)) (after (read 8 (levelAt g) StoredLevel) (ends-privileged g))))))
 
 ends-sequence : (i : Image) (y : Entry) → Ends lastMove (sequence i y)
 unfolding sequence afterwards

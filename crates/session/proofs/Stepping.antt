@@ -7,14 +7,14 @@ use native.Mathlib.Omega.{arith}
 use borrow.Author.Tests.{eq-eqb}
 use lib.Dec.{eqb}
 use lib.ListN.{length}
-use Rattle.flow.specs.Exchange.{known, meetOn, transferred, met, dead, barred, carriedOut}
+use Rattle.flow.specs.Exchange.{known, meetOn, transferred, met, killed, barred, carriedOut}
 use Rattle.flow.specs.Monitor.{isReset}
 use Rattle.flow.specs.Packets.{packetOf}
 use Rattle.flow.specs.Plan.{Traffic, counting}
 use Rattle.flow.specs.Run.{handedOutBy}
 use Rattle.flow.specs.Session.{running, reported, moveAt, stepOf}
 use Rattle.flow.specs.Session as Flow
-use Rattle.flow.specs.Target.{Target, LineEvent, Lists, eventOf}
+use Rattle.flow.specs.Target.{Target, LineEvent, Lists, nextEvent}
 use Rattle.flow.specs.declared.Answer.{Answer}
 use Rattle.flow.specs.declared.Reply.{Reply}
 use Rattle.flow.specs.declared.Request.{Request}
@@ -43,16 +43,16 @@ met-fits false g q e l a b = refl
 
 transfer-fits : (g : Geometry) (q : Request) (e : LineEvent) (l : Lists) (b : Target) → answers q ((transferred g q e l b) .answer) ≡ not (isReset q)
 unfolding transferred
-transfer-fits g q e l b = met-fits (not (dead b) && not (barred g q b) && carriedOut (e .fate)) g q e l _ b
+transfer-fits g q e l b = met-fits (not (killed b) && not (barred g q b) && carriedOut (e .outcome)) g q e l _ b
 
 pub fits : (g : Geometry) (q : Request) (l : Lists) (b : Target) → answers q ((meetOn g (known q) l b) .answer) ≡ true
 fits g Xres l b = refl
 fits g LineReset l b = refl
-fits g ReadIdcode l b = transfer-fits g ReadIdcode (eventOf (l .line)) l b
-fits g ReadDrw l b = transfer-fits g ReadDrw (eventOf (l .line)) l b
-fits g (WriteTar w) l b = transfer-fits g (WriteTar w) (eventOf (l .line)) l b
-fits g (WriteDrw w) l b = transfer-fits g (WriteDrw w) (eventOf (l .line)) l b
-fits g (WriteSetup r w) l b = transfer-fits g (WriteSetup r w) (eventOf (l .line)) l b
+fits g ReadIdcode l b = transfer-fits g ReadIdcode (nextEvent (l .line)) l b
+fits g ReadDrw l b = transfer-fits g ReadDrw (nextEvent (l .line)) l b
+fits g (WriteTar w) l b = transfer-fits g (WriteTar w) (nextEvent (l .line)) l b
+fits g (WriteDrw w) l b = transfer-fits g (WriteDrw w) (nextEvent (l .line)) l b
+fits g (WriteSetup r w) l b = transfer-fits g (WriteSetup r w) (nextEvent (l .line)) l b
 
 -- ---- what stands, handed out
 

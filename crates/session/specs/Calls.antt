@@ -15,7 +15,7 @@ use Rattle.parts.specs.declared.Geometry.{Geometry}
 use Rattle.session.specs.Given.{stepWith}
 use Rattle.session.specs.declared.Given.{Given}
 use Rattle.session.specs.declared.Outcome.{Outcome}
-use Rattle.session.specs.declared.Outcome.the-variants.{Refused, Ask, Told}
+use Rattle.session.specs.declared.Outcome.the-variants.{Refused, Ask, Reported}
 use Rattle.session.specs.declared.Report.{Report}
 use Rattle.session.specs.declared.Session.{Session}
 
@@ -29,18 +29,18 @@ sent (Write b w p) t = record { transfers = suc (t .transfers); xresets = t .xre
 abbrev pub handing : Outcome → Traffic → Traffic
 handing (Refused n) t = t
 handing (Ask p) t = sent p t
-handing (Told r) t = t
+handing (Reported r) t = t
 
 -- a refused step hands out nothing: what stood still stands
 abbrev pub standing : (before now : Outcome) → Outcome
 standing before (Refused n) = before
 standing before (Ask p) = Ask p
-standing before (Told r) = Told r
+standing before (Reported r) = Reported r
 
 -- the mishaps are told by what is on the wire; a packet that is no request is met by silence (29)
-abbrev pub watching : Geometry → Decoded → Answer → Monitor → Monitor
-watching g (known q) a m = watch g q a m
-watching g unknown a m = linkError 29
+abbrev pub watchPacket : Geometry → Decoded → Answer → Monitor → Monitor
+watchPacket g (known q) a m = watch g q a m
+watchPacket g unknown a m = linkError 29
 
 -- the session that the last call gave, the request or report that stands, the target, what is left of its free lists, what the
 -- monitor has seen, and the requests handed out, the standing one included
@@ -74,7 +74,7 @@ answered g p m r s = record {
   stands = standing (s .stands) (r .outcome);
   target = m .target;
   lists = m .lists;
-  monitor = watching g (decode p) (m .answer) (s .monitor);
+  monitor = watchPacket g (decode p) (m .answer) (s .monitor);
   traffic = handing (r .outcome) (s .traffic);
 }
 
@@ -100,5 +100,5 @@ pub data Steps (g : Geometry) (bytes : List ℕ) : (n : ℕ) → State → State
   refusal : {n : ℕ} {s s′ : State} (lent : List ℕ) (a : Answer) (number : ℕ) → (stepWith (s .session) lent a) .outcome ≡ Refused number
       → Steps g bytes n (called (stepWith (s .session) lent a) s) s′ → Steps g bytes n s s′
   -- after the report, the image lent and any answer
-  later : {n : ℕ} {s s′ : State} (a : Answer) (r : Report) → s .stands ≡ Told r
+  later : {n : ℕ} {s s′ : State} (a : Answer) (r : Report) → s .stands ≡ Reported r
       → Steps g bytes n (called (stepWith (s .session) bytes a) s) s′ → Steps g bytes n s s′

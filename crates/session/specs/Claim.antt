@@ -13,7 +13,7 @@ use Rattle.image.specs.declared.Header.{Header}
 use Rattle.parts.specs.declared.Geometry.{Geometry}
 use Rattle.session.specs.Calls.{State, Steps, begun}
 use Rattle.session.specs.Given.{startOf}
-use Rattle.session.specs.declared.Outcome.the-variants.{Refused, Told}
+use Rattle.session.specs.declared.Outcome.the-variants.{Refused, Reported}
 use Rattle.session.specs.declared.Report.{Report}
 
 -- the most that document 01's count allows for this target
@@ -30,16 +30,16 @@ pub record Demand3 (i : Image) (b : Target) (l : Lists) (n : ℕ) (s : State) : 
   pub lineResets : s .traffic .lineResets ≤ most i b .lineResets
   -- 'Each step not refused gives a request or the report', and 'A report comes within document 01's count of transfers and resets.'
   pub stands : (number : ℕ) → ¬ (s .stands ≡ Refused number)
-  pub comes : most i b .transfers + most i b .xresets + most i b .lineResets ≤ n → record { report : Report; told : s .stands ≡ Told report }
+  pub comes : most i b .transfers + most i b .xresets + most i b .lineResets ≤ n → record { report : Report; is : s .stands ≡ Reported report }
   -- 'The report's transfers are those handed out in the list.'
-  pub counted : (r : Report) → s .stands ≡ Told r → r .transfers ≡ s .traffic .transfers
+  pub counted : (r : Report) → s .stands ≡ Reported r → r .transfers ≡ s .traffic .transfers
   -- 'It says done exactly when the board is the right part and nothing in document 01's list of mishaps has occurred.'
-  pub exactly : (r : Report) → s .stands ≡ Told r → (r .number ≡ 0) ↔ (RightPart i (b .silicon) × NoError (s .monitor))
+  pub exactly : (r : Report) → s .stands ≡ Reported r → (r .number ≡ 0) ↔ (RightPart i (b .silicon) × NoError (s .monitor))
   -- any other report has the mishap's number, or is 16 or 20 on another part
-  pub number : (r : Report) → s .stands ≡ Told r
+  pub number : (r : Report) → s .stands ≡ Reported r
       → (r .number ≡ 0) ⊎ ((s .monitor ≡ linkError (r .number)) ⊎ ((¬ RightPart i (b .silicon)) × ((r .number ≡ 16) ⊎ (r .number ≡ 20))))
   -- 'Once it says done, at the end of document 01's flow, the board's every flash byte, row lock and chip level are the image's.'
-  pub done : (r : Report) → s .stands ≡ Told r → r .number ≡ 0
+  pub done : (r : Report) → s .stands ≡ Reported r → r .number ≡ 0
       → record {
         atEnd : r .step ≡ 9;
         flash : s .target .memory .flash ≡ i .flash;
@@ -49,7 +49,7 @@ pub record Demand3 (i : Image) (b : Target) (l : Lists) (n : ℕ) (s : State) : 
       }
   -- on lists without a hitch nothing goes wrong, and the right part is done with 'exactly plan'
   pub provoked : Calm l → NoError (s .monitor)
-  pub calm : Calm l → RightPart i (b .silicon) → (r : Report) → s .stands ≡ Told r
+  pub calm : Calm l → RightPart i (b .silicon) → (r : Report) → s .stands ≡ Reported r
       → (r .number ≡ 0) × (r .transfers ≡ plan (i .geometry) (entryOf b))
 
 -- 'Take an unrefused start on an image that document 01's checks let pass, then any list of steps'

@@ -59,7 +59,7 @@ refusing s n = record { session = s; outcome = Outcomes.Refused n }
 -- what stands: a request, or the report
 abbrev pub outcomeAt : Image → Flow.Session → Outcome
 outcomeAt i (running y n w p a k h) = Outcomes.Ask (packetOf ((moveAt i y n) .request))
-outcomeAt i (reported x t h) = Outcomes.Told (record { number = x; step = t; transfers = h })
+outcomeAt i (reported x t h) = Outcomes.Reported (record { number = x; step = t; transfers = h })
 
 -- an unrefused step: what stands in the session that it gives
 abbrev pub giving : Image → Session → Given

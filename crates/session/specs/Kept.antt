@@ -12,7 +12,7 @@ use Rattle.session.specs.Given.{startOf, stepWith}
 use Rattle.session.specs.Possible.{possible}
 use Rattle.session.specs.Sessions.{mostOf}
 use Rattle.session.specs.declared.Given.{Given}
-use Rattle.session.specs.declared.Outcome.the-variants.{Refused, Told}
+use Rattle.session.specs.declared.Outcome.the-variants.{Refused, Reported}
 use Rattle.session.specs.declared.Report.{Report}
 use Rattle.session.specs.declared.Session.{Session}
 
@@ -28,5 +28,5 @@ pub record SessionClaims : Type 0 where
       → (stepWith s bytes a) .session ≡ s
   -- every report's count is within document 01's formula
   pub counted : (s : Session) (bytes : List ℕ) (a : Answer) (g : Geometry) (r : Report) → lookupOf (s .header .part) (s .header .macros) ≡ Found g
-      → (stepWith s bytes a) .outcome ≡ Told r
+      → (stepWith s bytes a) .outcome ≡ Reported r
       → r .transfers ≤ mostOf g

@@ -10,7 +10,7 @@ use Rattle.flow.specs.declared.Packet.the-variants.{Xres, LineReset, Read, Writ
 use Rattle.parts.specs.declared.Geometry.{Geometry}
 use Rattle.session.specs.Calls.{State, Steps, sent}
 use Rattle.session.specs.Given.{stepWith}
-use Rattle.session.specs.declared.Outcome.the-variants.{Refused, Ask, Told}
+use Rattle.session.specs.declared.Outcome.the-variants.{Refused, Ask, Reported}
 use Rattle.session.specs.declared.Report.{Report}
 
 -- a list of n answers leads from a state to one with this session and this board
@@ -31,7 +31,7 @@ pub record ListExamples : Type 0 where
       → (stepWith (s .session) lent a) .outcome ≡ Refused number
       → Steps g bytes 0 s s
   -- 'after the report, any answer': the board meets nothing
-  pub later : (g : Geometry) (bytes : List ℕ) (s : State) (a : Answer) (r : Report) → s .stands ≡ Told r
+  pub later : (g : Geometry) (bytes : List ℕ) (s : State) (a : Answer) (r : Report) → s .stands ≡ Reported r
       → Reached g bytes 0 s (λ t. t .session ≡ (stepWith (s .session) bytes a) .session) (λ t. t .target ≡ s .target)
   -- 'the reads and writes handed out, repeats included, resets not', and the resets
   pub sent : (byte word parityBit : ℕ)

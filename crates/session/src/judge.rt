@@ -13,7 +13,7 @@ use crate::words::bit_set;
 use crate::words::call_succeeded;
 use crate::words::ids_fit;
 use crate::words::is_free;
-use crate::words::stored_in;
+use crate::words::level_shown;
 use crate::words::sums_fit;
 use flow::Entry;
 use flow::Purpose;
@@ -155,7 +155,7 @@ pub(crate) fn on_word(
         Purpose::EntryLevel => entered(g, h, y, p, attempts, w),
         Purpose::Reopened => reopened(g, h, y, p, attempts, w),
         Purpose::Same(v, n) => onward_if(w == v, n, y, p, attempts),
-        Purpose::StoredLevel => onward_if(stored_in(w) == h.level, 24, y, p, attempts),
+        Purpose::StoredLevel => onward_if(level_shown(w) == h.level, 24, y, p, attempts),
         Purpose::LastSum => summed(g, h, y, p, attempts, w),
     }
 }

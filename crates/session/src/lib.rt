@@ -56,7 +56,7 @@ pub struct Report {
 pub enum Outcome {
     Refused(u8),
     Ask(Packet),
-    Told(Report),
+    Reported(Report),
 }
 
 pub struct Given {
@@ -153,7 +153,7 @@ fn outcome_of(g: Geometry, s: Session, bytes: &[u8]) -> Outcome
     ensures { λ r. ⌜ r ≡ outcomeAt (imageOf g (s .header) (now (bytes .entry))) (standOf s) ⌝ }
 {
     if s.finished {
-        return Outcome::Told(Report {
+        return Outcome::Reported(Report {
             number: s.number,
             step: s.step,
             transfers: s.transfers,

@@ -1,7 +1,7 @@
 // What single words say: document 01, 'Flow'.
 ghost use mathlib.Core.List.{[]};
 ghost use mathlib.Core.Path.{_≡_};
-ghost use Rattle.flow.specs.Judge.{free, testBitSet, succeeded, idsFit, storedIn, sumsFit};
+ghost use Rattle.flow.specs.Judge.{free, testBitSet, succeeded, idsFit, levelShown, sumsFit};
 ghost use Rattle.image.specs.Image.{imageOf};
 use image::Header;
 use parts::Geometry;
@@ -43,8 +43,8 @@ pub(crate) fn ids_fit(g: Geometry, h: Header, sysarg: u32, sysreq: u32) -> bool
 }
 
 // The stored level in the word that step 8 reads, with 0 and 1 exchanged.
-pub(crate) fn stored_in(w: u32) -> u8
-    ensures { λ r. ⌜ r ≡ storedIn w ⌝ }
+pub(crate) fn level_shown(w: u32) -> u8
+    ensures { λ r. ⌜ r ≡ levelShown w ⌝ }
 {
     let n = (w / 16777216 % 16) as u8;
     match n {

@@ -6,7 +6,7 @@ use Prim.Native.Nat.{ℕ, _+_, _*_, _≤_, _<_}
 use borrow.Author.Tests.{le-leb, lt-leb, ne-eqb}
 use lib.ListN.{length, getD, List·getD-eq-default}
 use lib.Seq.{sets}
-use Rattle.text.specs.Spelling.{front, pairsAt, runOf, rowAfter, lineEnd}
+use Rattle.text.specs.Spelling.{front, pairsAt, pairRunOf, rowAfter, lineEnd}
 use Rattle.text.proofs.Spelling.{ran}
 
 module _ (s : List ℕ) (e : ℕ) where
@@ -33,26 +33,26 @@ module _ (s : List ℕ) (e : ℕ) where
 -- k pairs from p on that have no room in the text or the row, and those that have
 module _ (row text : List ℕ) (p k : ℕ) where
   abbrev Nothing : Type 0
-  Nothing = (record { good = false; sum = 0 } ≡ runOf text p k (length row)) × (row ≡ rowAfter row text p k)
+  Nothing = (record { good = false; sum = 0 } ≡ pairRunOf text p k (length row)) × (row ≡ rowAfter row text p k)
 
   pub too-many : 260 < k → Nothing
-  unfolding runOf rowAfter
+  unfolding pairRunOf rowAfter
   too-many h = let e = lt-leb k 260 h in (rw e, rw e)
 
   pub row-short : k ≤ 260 → length row < k → Nothing
-  unfolding runOf rowAfter
+  unfolding pairRunOf rowAfter
   row-short h i = let e = le-leb k 260 h in let f = lt-leb k (length row) i in (rw (e, f), rw (e, f))
 
   pub text-short : k ≤ 260 → k ≤ length row → length text < p + 2 * k → Nothing
-  unfolding runOf rowAfter
+  unfolding pairRunOf rowAfter
   text-short h i j =
       let e = le-leb k 260 h in
       let f = le-leb k (length row) i in
       let g = lt-leb (p + 2 * k) (length text) j in (rw (e, f, g), rw (e, f, g))
 
   pub has-room : k ≤ 260 → k ≤ length row → p + 2 * k ≤ length text
-      → (runOf text p k (length row) ≡ ran text p k) × (rowAfter row text p k ≡ sets row 0 (front (pairsAt text p k)))
-  unfolding runOf rowAfter
+      → (pairRunOf text p k (length row) ≡ ran text p k) × (rowAfter row text p k ≡ sets row 0 (front (pairsAt text p k)))
+  unfolding pairRunOf rowAfter
   has-room h i j =
       let e = le-leb k 260 h in
       let f = le-leb k (length row) i in

@@ -8,10 +8,10 @@ use borrow.Author.Tests.{le-leb, eq-eqb, ne-eqb}
 use lib.ListN.{length, take, drop, length-drop, take-append-drop}
 use lib.Seq.{take-all, length-take-le, take-at, drop-at}
 use Rattle.image.specs.declared.Section.{Section}
-use Rattle.image.specs.declared.Home.{Home}
-use Rattle.text.specs.Placing.{Event, Bad, Other, Data, End, Outcome, Refusal, Stream, after, restOf, fits, advance, place, sameHome, gathered, Piece, cut, piecesIn, pieces}
+use Rattle.image.specs.declared.Location.{Location}
+use Rattle.text.specs.Placing.{Event, Bad, Other, Data, End, Content, Refusal, Stream, prepend, restOf, fits, dueAfter, placing, sameLocation, gathered, Piece, cut, piecesIn, pieces}
 use Rattle.text.proofs.Capitals.{AllBytes, bytes-append, bytes-take, bytes-drop}
-use Rattle.text.proofs.Placing.{no-outcome, after-stream, after-append}
+use Rattle.text.proofs.Placing.{no-content, prepend-stream, prepend-append}
 
 -- the records of a text say just these pieces, then end
 abbrev pub Says : List Piece → List Event → Type 0
@@ -36,68 +36,68 @@ joined f (s ∷ ss) = f s ++ joined f ss
 
 -- one data record that is due
 step : (s : Section) (ss : List Section) (bs : List ℕ) (es : List Event) → length bs ≤ s .size
-    → place (s ∷ ss) (Data (s .address) bs ∷ es) ≡ after bs (place (advance (length bs) s ss) es)
-unfolding place
+    → placing (s ∷ ss) (Data (s .address) bs ∷ es) ≡ prepend bs (placing (dueAfter (length bs) s ss) es)
+unfolding placing
 step s ss bs es h = rw (eq-eqb (s .address) (s .address) refl, le-leb (length bs) (s .size) h)
 
-advance-all : (n : ℕ) (s : Section) (ss : List Section) → n ≡ s .size → advance n s ss ≡ ss
-unfolding advance
-advance-all n s ss h = rw (eq-eqb n (s .size) h)
+due-after-all : (n : ℕ) (s : Section) (ss : List Section) → n ≡ s .size → dueAfter n s ss ≡ ss
+unfolding dueAfter
+due-after-all n s ss h = rw (eq-eqb n (s .size) h)
 
-advance-part : (n : ℕ) (s : Section) (ss : List Section) → n < s .size → advance n s ss ≡ restOf n s ∷ ss
-unfolding advance
-advance-part n s ss h = rw (ne-eqb n (s .size) (λ e. absurd (omega arith)))
+due-after-part : (n : ℕ) (s : Section) (ss : List Section) → n < s .size → dueAfter n s ss ≡ restOf n s ∷ ss
+unfolding dueAfter
+due-after-part n s ss h = rw (ne-eqb n (s .size) (λ e. absurd (omega arith)))
 
 -- the first piece of a section: the last, or one of 64 bytes
-first : (es : List Event) (c : ℕ) (s : Section) (bs : List ℕ) (ss : List Section) (ps : List Piece) (o : Outcome)
+first : (es : List Event) (c : ℕ) (s : Section) (bs : List ℕ) (ss : List Section) (ps : List Piece) (o : Content)
     → s .size ≡ length bs
     → 0 < s .size
     → suc c ≡ (s .size + 63) / 64
-    → ((es′ : List Event) → Says ps es′ → place ss es′ ≡ o)
+    → ((es′ : List Event) → Says ps es′ → placing ss es′ ≡ o)
     → Says (cut c (s .address + 64) (drop 64 bs) ++ ps) es
-    → (64 < s .size → place (restOf 64 s ∷ ss) es ≡ after (drop 64 bs) o)
-    → place (s ∷ ss) (Data (s .address) (take 64 bs) ∷ es) ≡ after bs o
+    → (64 < s .size → placing (restOf 64 s ∷ ss) es ≡ prepend (drop 64 bs) o)
+    → placing (s ∷ ss) (Data (s .address) (take 64 bs) ∷ es) ≡ prepend bs o
 unfolding cut
 first es zero s bs ss ps o hn h0 hc rest says more =
     let t : take 64 bs ≡ bs = take-all 64 bs (omega arith) in
     let k : length (take 64 bs) ≡ s .size = ap length t ∙ sym hn in
     step s ss (take 64 bs) es (omega arith)
-    ∙ ap (λ (x : List Section). after (take 64 bs) (place x es)) (advance-all (length (take 64 bs)) s ss k)
-    ∙ ap (after (take 64 bs)) (rest es says)
-    ∙ ap (λ (x : List ℕ). after x o) t
+    ∙ ap (λ (x : List Section). prepend (take 64 bs) (placing x es)) (due-after-all (length (take 64 bs)) s ss k)
+    ∙ ap (prepend (take 64 bs)) (rest es says)
+    ∙ ap (λ (x : List ℕ). prepend x o) t
 first es (suc c) s bs ss ps o hn h0 hc rest says more =
     let k : length (take 64 bs) ≡ 64 = length-take-le 64 bs (omega arith) in
     let big : 64 < s .size = omega arith in
     step s ss (take 64 bs) es (omega arith)
-    ∙ ap (λ (x : ℕ). after (take 64 bs) (place (advance x s ss) es)) k
-    ∙ ap (λ (x : List Section). after (take 64 bs) (place x es)) (advance-part 64 s ss big)
-    ∙ ap (after (take 64 bs)) (more big)
-    ∙ after-append (take 64 bs) (drop 64 bs) o
-    ∙ ap (λ (x : List ℕ). after x o) (take-append-drop 64 bs)
+    ∙ ap (λ (x : ℕ). prepend (take 64 bs) (placing (dueAfter x s ss) es)) k
+    ∙ ap (λ (x : List Section). prepend (take 64 bs) (placing x es)) (due-after-part 64 s ss big)
+    ∙ ap (prepend (take 64 bs)) (more big)
+    ∙ prepend-append (take 64 bs) (drop 64 bs) o
+    ∙ ap (λ (x : List ℕ). prepend x o) (take-append-drop 64 bs)
 
 -- a section cut into pieces, and what follows
-section : (es : List Event) (c : ℕ) (s : Section) (bs : List ℕ) (ss : List Section) (ps : List Piece) (o : Outcome)
+section : (es : List Event) (c : ℕ) (s : Section) (bs : List ℕ) (ss : List Section) (ps : List Piece) (o : Content)
     → s .size ≡ length bs
     → 0 < s .size
     → c ≡ (s .size + 63) / 64
-    → ((es′ : List Event) → Says ps es′ → place ss es′ ≡ o)
+    → ((es′ : List Event) → Says ps es′ → placing ss es′ ≡ o)
     → Says (cut c (s .address) bs ++ ps) es
-    → place (s ∷ ss) es ≡ after bs o
-unfolding cut place
+    → placing (s ∷ ss) es ≡ prepend bs o
+unfolding cut placing
 section es zero s bs ss ps o hn h0 hc rest says = absurd (omega arith)
 section [] (suc c) s bs ss ps o hn h0 hc rest says = absurd says
 section (Bad k ∷ es) (suc c) s bs ss ps o hn h0 hc rest says = absurd says
 section (Other ∷ es) (suc c) s bs ss ps o hn h0 hc rest says = section es (suc c) s bs ss ps o hn h0 hc rest says
 section (End ∷ es) (suc c) s bs ss ps o hn h0 hc rest says = absurd says
 section (Data a bs′ ∷ es) (suc c) s bs ss ps o hn h0 hc rest says =
-    ap (λ (x : ℕ). place (s ∷ ss) (Data x bs′ ∷ es)) (says .0)
-    ∙ ap (λ (x : List ℕ). place (s ∷ ss) (Data (s .address) x ∷ es)) (says .1)
+    ap (λ (x : ℕ). placing (s ∷ ss) (Data x bs′ ∷ es)) (says .0)
+    ∙ ap (λ (x : List ℕ). placing (s ∷ ss) (Data (s .address) x ∷ es)) (says .1)
     ∙ first es c s bs ss ps o hn h0 hc rest (says .2)
     (λ big. section es c (restOf 64 s) (drop 64 bs) ss ps o (omega (arith, length-drop 64 bs)) (omega arith) (omega arith) rest (says .2))
 
 -- a text that says the pieces of the sections' bytes comes to those bytes
-pub placed : (f : Section → List ℕ) (ss : List Section) (es : List Event) → Filled f ss → Says (pieces f ss) es → place ss es ≡ Stream (joined f ss)
-unfolding pieces place after joined
+pub placed : (f : Section → List ℕ) (ss : List Section) (es : List Event) → Filled f ss → Says (pieces f ss) es → placing ss es ≡ Stream (joined f ss)
+unfolding pieces placing prepend joined
 placed f [] [] fill says = absurd says
 placed f [] (Bad n ∷ es) fill says = absurd says
 placed f [] (Other ∷ es) fill says = placed f [] es fill says
@@ -118,40 +118,40 @@ dataOf (Data a bs ∷ es) = bs ++ dataOf es
 dataOf (End ∷ es) = dataOf es
 
 -- a text that is taken: its data, in their order, are the bytes of the sections
-pub place-data : (es : List Event) (due : List Section) (g : List ℕ) → place due es ≡ Stream g → g ≡ dataOf es
-unfolding place dataOf
-place-data [] due g e = no-outcome 5 g e
-place-data (Bad n ∷ es) due g e = no-outcome n g e
-place-data (Other ∷ es) due g e = place-data es due g e
-place-data (Data a bs ∷ es) [] g e = no-outcome 4 g e
-place-data (Data a bs ∷ es) (s ∷ ss) g e = go (fits a (length bs) s) e (λ r q. place-data es (advance (length bs) s ss) r q)
+pub placing-data : (es : List Event) (due : List Section) (g : List ℕ) → placing due es ≡ Stream g → g ≡ dataOf es
+unfolding placing dataOf
+placing-data [] due g e = no-content 5 g e
+placing-data (Bad n ∷ es) due g e = no-content n g e
+placing-data (Other ∷ es) due g e = placing-data es due g e
+placing-data (Data a bs ∷ es) [] g e = no-content 4 g e
+placing-data (Data a bs ∷ es) (s ∷ ss) g e = go (fits a (length bs) s) e (λ r q. placing-data es (dueAfter (length bs) s ss) r q)
   where
-    go : (b : Bool) → cond b (after bs (place (advance (length bs) s ss) es)) (Refusal 4) ≡ Stream g
-        → ((r : List ℕ) → place (advance (length bs) s ss) es ≡ Stream r → r ≡ dataOf es)
+    go : (b : Bool) → cond b (prepend bs (placing (dueAfter (length bs) s ss) es)) (Refusal 4) ≡ Stream g
+        → ((r : List ℕ) → placing (dueAfter (length bs) s ss) es ≡ Stream r → r ≡ dataOf es)
         → g ≡ bs ++ dataOf es
     go true e ih =
-        let r = after-stream bs g (place (advance (length bs) s ss) es) e in
+        let r = prepend-stream bs g (placing (dueAfter (length bs) s ss) es) e in
         r .2 ∙ ap (λ (x : List ℕ). bs ++ x) (ih (r .0) (r .1))
-    go false e ih = no-outcome 4 g e
-place-data (End ∷ []) [] g e = let z : [] ≡ g = cc e in sym z
-place-data (End ∷ x ∷ es) [] g e = no-outcome 5 g e
-place-data (End ∷ es) (s ∷ ss) g e = no-outcome 5 g e
+    go false e ih = no-content 4 g e
+placing-data (End ∷ []) [] g e = let z : [] ≡ g = cc e in sym z
+placing-data (End ∷ x ∷ es) [] g e = no-content 5 g e
+placing-data (End ∷ es) (s ∷ ss) g e = no-content 5 g e
 
--- the bytes of the sections in one home, out of the bytes of them all
-abbrev pub filtered : Home → (Section → List ℕ) → List Section → List ℕ
+-- the bytes of the sections in one location, out of the bytes of them all
+abbrev pub filtered : Location → (Section → List ℕ) → List Section → List ℕ
 filtered h f [] = []
-filtered h f (s ∷ ss) = cond (sameHome h (s .home)) (f s) [] ++ filtered h f ss
+filtered h f (s ∷ ss) = cond (sameLocation h (s .location)) (f s) [] ++ filtered h f ss
 
-pub gathered-joined : (h : Home) (f : Section → List ℕ) (ss : List Section) → Filled f ss → gathered h ss (joined f ss) ≡ filtered h f ss
+pub gathered-joined : (h : Location) (f : Section → List ℕ) (ss : List Section) → Filled f ss → gathered h ss (joined f ss) ≡ filtered h f ss
 unfolding gathered joined
 gathered-joined h f [] fill = refl
 gathered-joined h f (s ∷ ss) fill =
     rw (take-at (f s) (joined f ss) (s .size) (fill .1), drop-at (f s) (joined f ss) (s .size) (fill .1), gathered-joined h f ss (fill .2))
 
-pub gathered-bytes : (h : Home) (ss : List Section) (stream : List ℕ) → AllBytes stream → AllBytes (gathered h ss stream)
+pub gathered-bytes : (h : Location) (ss : List Section) (stream : List ℕ) → AllBytes stream → AllBytes (gathered h ss stream)
 unfolding gathered
 gathered-bytes h [] stream a = tt
-gathered-bytes h (s ∷ ss) stream a = bytes-append (cond (sameHome h (s .home)) (take (s .size) stream) []) (gathered h ss (drop (s .size) stream)) (go (sameHome h (s .home))) (gathered-bytes h ss (drop (s .size) stream) (bytes-drop (s .size) stream a))
+gathered-bytes h (s ∷ ss) stream a = bytes-append (cond (sameLocation h (s .location)) (take (s .size) stream) []) (gathered h ss (drop (s .size) stream)) (go (sameLocation h (s .location))) (gathered-bytes h ss (drop (s .size) stream) (bytes-drop (s .size) stream a))
   where
     go : (b : Bool) → AllBytes (cond b (take (s .size) stream) [])
     go true = bytes-take (s .size) stream a

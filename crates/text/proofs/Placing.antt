@@ -10,69 +10,69 @@ use lib.Dec.{eqb, leb}
 use lib.ListN.{length, take, drop, length-append, length-drop}
 use lib.Seq.{sets, sets-eq, drop-length, take-at, drop-at, take-append-add, drop-append-add, length-take-le}
 use Rattle.image.specs.Sections.{sectionsOf}
-use Rattle.image.specs.declared.Home.{Home}
-use Rattle.image.specs.declared.Home.the-variants.{InImage, InHeader}
+use Rattle.image.specs.declared.Location.{Location}
+use Rattle.image.specs.declared.Location.the-variants.{InImage, InHeader}
 use Rattle.image.specs.declared.Section.{Section}
 use Rattle.parts.specs.Sizes.{flashSize, lockTotal, imageSize}
 use Rattle.parts.specs.declared.Geometry.{Geometry}
-use Rattle.text.specs.Placing.{Event, Bad, Other, Data, End, Outcome, Refusal, Stream, after, restOf, advance, place, sameHome, gathered, overall}
-use Rattle.text.specs.Storing.{storedAt, storedIn, laid}
+use Rattle.text.specs.Placing.{Event, Bad, Other, Data, End, Content, Refusal, Stream, prepend, restOf, dueAfter, placing, sameLocation, gathered, overall}
+use Rattle.text.specs.Storing.{storedAt, filledWith, laid}
 use Rattle.text.proofs.Storing.{sets-past, sets-append, stored}
 
 -- Taken: each byte of each section once.
 
-pub no-outcome : {A : Type 0} (n : ℕ) (g : List ℕ) → Refusal n ≡ Stream g → A
-no-outcome n g e = let t : false ≡ true = cc e in absurd (false≢true t)
+pub no-content : {A : Type 0} (n : ℕ) (g : List ℕ) → Refusal n ≡ Stream g → A
+no-content n g e = let t : false ≡ true = cc e in absurd (false≢true t)
 
-pub after-stream : (bs g : List ℕ) (o : Outcome) → after bs o ≡ Stream g → (r : List ℕ) × (o ≡ Stream r) × (g ≡ bs ++ r)
-unfolding after
-after-stream bs g (Refusal n) e = no-outcome n g e
-after-stream bs g (Stream r) e = (r, refl, cc e)
+pub prepend-stream : (bs g : List ℕ) (o : Content) → prepend bs o ≡ Stream g → (r : List ℕ) × (o ≡ Stream r) × (g ≡ bs ++ r)
+unfolding prepend
+prepend-stream bs g (Refusal n) e = no-content n g e
+prepend-stream bs g (Stream r) e = (r, refl, cc e)
 
 abbrev pub sizeOf : Section → ℕ
 sizeOf s = s .size
 
-advance-size : (n : ℕ) (s : Section) (ss : List Section) → n ≤ s .size → n + overall sizeOf (advance n s ss) ≡ s .size + overall sizeOf ss
-unfolding advance overall
-advance-size n s ss h = go (eqb n (s .size)) refl
+due-after-size : (n : ℕ) (s : Section) (ss : List Section) → n ≤ s .size → n + overall sizeOf (dueAfter n s ss) ≡ s .size + overall sizeOf ss
+unfolding dueAfter overall
+due-after-size n s ss h = go (eqb n (s .size)) refl
   where
     go : (b : Bool) → eqb n (s .size) ≡ b → n + overall sizeOf (cond b ss (restOf n s ∷ ss)) ≡ s .size + overall sizeOf ss
     go true q = omega (arith, eqb-true n (s .size) q)
     go false q = omega arith
 
 -- 'each byte once': a text that is taken has all bytes of the sections
-pub place-length : (es : List Event) (ds : List Section) (g : List ℕ) → place ds es ≡ Stream g → length g ≡ overall sizeOf ds
-unfolding place overall
-place-length [] ds g e = no-outcome 5 g e
-place-length (Bad n ∷ es) ds g e = no-outcome n g e
-place-length (Other ∷ es) ds g e = place-length es ds g e
-place-length (Data a bs ∷ es) [] g e = no-outcome 4 g e
-place-length (Data a bs ∷ es) (d ∷ ds) g e =
-    go (eqb a (d .address)) (leb (length bs) (d .size)) refl e (λ r q. place-length es (advance (length bs) d ds) r q)
+pub placing-length : (es : List Event) (ds : List Section) (g : List ℕ) → placing ds es ≡ Stream g → length g ≡ overall sizeOf ds
+unfolding placing overall
+placing-length [] ds g e = no-content 5 g e
+placing-length (Bad n ∷ es) ds g e = no-content n g e
+placing-length (Other ∷ es) ds g e = placing-length es ds g e
+placing-length (Data a bs ∷ es) [] g e = no-content 4 g e
+placing-length (Data a bs ∷ es) (d ∷ ds) g e =
+    go (eqb a (d .address)) (leb (length bs) (d .size)) refl e (λ r q. placing-length es (dueAfter (length bs) d ds) r q)
   where
-    go : (x y : Bool) → leb (length bs) (d .size) ≡ y → cond (x && y) (after bs (place (advance (length bs) d ds) es)) (Refusal 4) ≡ Stream g
-        → ((r : List ℕ) → place (advance (length bs) d ds) es ≡ Stream r → length r ≡ overall sizeOf (advance (length bs) d ds))
+    go : (x y : Bool) → leb (length bs) (d .size) ≡ y → cond (x && y) (prepend bs (placing (dueAfter (length bs) d ds) es)) (Refusal 4) ≡ Stream g
+        → ((r : List ℕ) → placing (dueAfter (length bs) d ds) es ≡ Stream r → length r ≡ overall sizeOf (dueAfter (length bs) d ds))
         → length g ≡ d .size + overall sizeOf ds
     go true true q e ih =
-        let r = after-stream bs g (place (advance (length bs) d ds) es) e in
+        let r = prepend-stream bs g (placing (dueAfter (length bs) d ds) es) e in
         let i = ih (r .0) (r .1) in
-        omega (arith, ap length (r .2), length-append bs (r .0), i, advance-size (length bs) d ds (leb-true (length bs) (d .size) q))
-    go true false q e ih = no-outcome 4 g e
-    go false y q e ih = no-outcome 4 g e
-place-length (End ∷ []) [] g e = let z : [] ≡ g = cc e in omega (arith, ap length z)
-place-length (End ∷ x ∷ es) [] g e = no-outcome 5 g e
-place-length (End ∷ es) (d ∷ ds) g e = no-outcome 5 g e
+        omega (arith, ap length (r .2), length-append bs (r .0), i, due-after-size (length bs) d ds (leb-true (length bs) (d .size) q))
+    go true false q e ih = no-content 4 g e
+    go false y q e ih = no-content 4 g e
+placing-length (End ∷ []) [] g e = let z : [] ≡ g = cc e in omega (arith, ap length z)
+placing-length (End ∷ x ∷ es) [] g e = no-content 5 g e
+placing-length (End ∷ es) (d ∷ ds) g e = no-content 5 g e
 
-pub after-append : (a b : List ℕ) (o : Outcome) → after a (after b o) ≡ after (a ++ b) o
-unfolding after
-after-append a b (Refusal n) = refl
-after-append a b (Stream g) = ap Stream (sym (append-assoc a b g))
+pub prepend-append : (a b : List ℕ) (o : Content) → prepend a (prepend b o) ≡ prepend (a ++ b) o
+unfolding prepend
+prepend-append a b (Refusal n) = refl
+prepend-append a b (Stream g) = ap Stream (sym (append-assoc a b g))
 
 -- Bytes that go into the section that is due.
 
-module _ (h : Home) (s : Section) (ss : List Section) (bs r dst : List ℕ) (h-le : length bs ≤ s .size) where
+module _ (h : Location) (s : Section) (ss : List Section) (bs r dst : List ℕ) (h-le : length bs ≤ s .size) where
   abbrev put : List ℕ
-  put = cond (sameHome h (s .home)) (sets dst (s .offset) bs) dst
+  put = cond (sameLocation h (s .location)) (sets dst (s .offset) bs) dst
 
   whole : length bs ≡ s .size → laid h (s ∷ ss) (bs ++ r) dst ≡ laid h ss r put
   unfolding laid
@@ -87,27 +87,27 @@ module _ (h : Home) (s : Section) (ss : List Section) (bs r dst : List ℕ) (h-l
   unfolding laid
   part =
       let e : s .size ≡ length bs + (s .size - length bs) = omega arith in
-      ap (λ (k : ℕ). laid h ss (drop k (bs ++ r)) (cond (sameHome h (s .home)) (sets dst (s .offset) (take k (bs ++ r))) dst)) e
-      ∙ ap (λ (l : List ℕ). laid h ss l (cond (sameHome h (s .home)) (sets dst (s .offset) (take (length bs + (s .size - length bs)) (bs ++ r))) dst)) (drop-append-add bs r (s .size - length bs))
-      ∙ ap (λ (l : List ℕ). laid h ss (drop (s .size - length bs) r) (cond (sameHome h (s .home)) (sets dst (s .offset) l) dst)) (take-append-add bs r (s .size - length bs))
-      ∙ ap (laid h ss (drop (s .size - length bs) r)) (twice (sameHome h (s .home)) (length bs) (s .offset) (take (s .size - length bs) r) refl)
+      ap (λ (k : ℕ). laid h ss (drop k (bs ++ r)) (cond (sameLocation h (s .location)) (sets dst (s .offset) (take k (bs ++ r))) dst)) e
+      ∙ ap (λ (l : List ℕ). laid h ss l (cond (sameLocation h (s .location)) (sets dst (s .offset) (take (length bs + (s .size - length bs)) (bs ++ r))) dst)) (drop-append-add bs r (s .size - length bs))
+      ∙ ap (λ (l : List ℕ). laid h ss (drop (s .size - length bs) r) (cond (sameLocation h (s .location)) (sets dst (s .offset) l) dst)) (take-append-add bs r (s .size - length bs))
+      ∙ ap (laid h ss (drop (s .size - length bs) r)) (twice (sameLocation h (s .location)) (length bs) (s .offset) (take (s .size - length bs) r) refl)
 
-  pub laid-advance : laid h (s ∷ ss) (bs ++ r) dst ≡ laid h (advance (length bs) s ss) r put
-  unfolding advance
-  laid-advance = go (eqb (length bs) (s .size)) refl
+  pub laid-due-after : laid h (s ∷ ss) (bs ++ r) dst ≡ laid h (dueAfter (length bs) s ss) r put
+  unfolding dueAfter
+  laid-due-after = go (eqb (length bs) (s .size)) refl
     where
       go : (b : Bool) → eqb (length bs) (s .size) ≡ b → laid h (s ∷ ss) (bs ++ r) dst ≡ laid h (cond b ss (restOf (length bs) s ∷ ss)) r put
       go true q = whole (eqb-true (length bs) (s .size) q)
       go false q = part
 
 -- a store that has room
-pub stored-in : (h : Home) (dst : List ℕ) (s : Section) (row : List ℕ) (from n : ℕ) → from + n ≤ length row
-    → (sameHome h (s .home) ≡ true → s .offset + n ≤ length dst)
-    → storedIn h dst s row from n ≡ cond (sameHome h (s .home)) (sets dst (s .offset) (take n (drop from row))) dst
-unfolding storedIn
-stored-in h dst s row from n a b = go (sameHome h (s .home)) refl
+pub filled-with : (h : Location) (dst : List ℕ) (s : Section) (row : List ℕ) (from n : ℕ) → from + n ≤ length row
+    → (sameLocation h (s .location) ≡ true → s .offset + n ≤ length dst)
+    → filledWith h dst s row from n ≡ cond (sameLocation h (s .location)) (sets dst (s .offset) (take n (drop from row))) dst
+unfolding filledWith
+filled-with h dst s row from n a b = go (sameLocation h (s .location)) refl
   where
-    go : (t : Bool) → sameHome h (s .home) ≡ t → cond t (storedAt dst (s .offset) row from n) dst ≡ cond t (sets dst (s .offset) (take n (drop from row))) dst
+    go : (t : Bool) → sameLocation h (s .location) ≡ t → cond t (storedAt dst (s .offset) row from n) dst ≡ cond t (sets dst (s .offset) (take n (drop from row))) dst
     go true e = sym (stored dst (s .offset) row from n a (b e))
     go false e = refl
 
@@ -191,20 +191,20 @@ module _ (g : Geometry) (stream : List ℕ) (all : length stream ≡ overall siz
       simp (length-append, append-nil) (omega arith)
 
 -- Whatever follows records that are in place is 5.
-pub place-followed : (es : List Event) (ds : List Section) (g : List ℕ) (f : Event) (fs : List Event) → place ds es ≡ Stream g → place ds (es ++ (f ∷ fs)) ≡ Refusal 5
-unfolding place after
-place-followed [] ds g f fs e = no-outcome 5 g e
-place-followed (Bad n ∷ es) ds g f fs e = no-outcome n g e
-place-followed (Other ∷ es) ds g f fs e = place-followed es ds g f fs e
-place-followed (Data a bs ∷ es) [] g f fs e = no-outcome 4 g e
-place-followed (Data a bs ∷ es) (d ∷ ds) g f fs e =
-    go (eqb a (d .address) && leb (length bs) (d .size)) e (λ r q. place-followed es (advance (length bs) d ds) r f fs q)
+pub placing-followed : (es : List Event) (ds : List Section) (g : List ℕ) (f : Event) (fs : List Event) → placing ds es ≡ Stream g → placing ds (es ++ (f ∷ fs)) ≡ Refusal 5
+unfolding placing prepend
+placing-followed [] ds g f fs e = no-content 5 g e
+placing-followed (Bad n ∷ es) ds g f fs e = no-content n g e
+placing-followed (Other ∷ es) ds g f fs e = placing-followed es ds g f fs e
+placing-followed (Data a bs ∷ es) [] g f fs e = no-content 4 g e
+placing-followed (Data a bs ∷ es) (d ∷ ds) g f fs e =
+    go (eqb a (d .address) && leb (length bs) (d .size)) e (λ r q. placing-followed es (dueAfter (length bs) d ds) r f fs q)
   where
-    go : (b : Bool) → cond b (after bs (place (advance (length bs) d ds) es)) (Refusal 4) ≡ Stream g
-        → ((r : List ℕ) → place (advance (length bs) d ds) es ≡ Stream r → place (advance (length bs) d ds) (es ++ (f ∷ fs)) ≡ Refusal 5)
-        → cond b (after bs (place (advance (length bs) d ds) (es ++ (f ∷ fs)))) (Refusal 4) ≡ Refusal 5
-    go true e ih = let r = after-stream bs g (place (advance (length bs) d ds) es) e in rw (ih (r .0) (r .1))
-    go false e ih = no-outcome 4 g e
-place-followed (End ∷ []) [] g f fs e = refl
-place-followed (End ∷ x ∷ es) [] g f fs e = no-outcome 5 g e
-place-followed (End ∷ es) (d ∷ ds) g f fs e = no-outcome 5 g e
+    go : (b : Bool) → cond b (prepend bs (placing (dueAfter (length bs) d ds) es)) (Refusal 4) ≡ Stream g
+        → ((r : List ℕ) → placing (dueAfter (length bs) d ds) es ≡ Stream r → placing (dueAfter (length bs) d ds) (es ++ (f ∷ fs)) ≡ Refusal 5)
+        → cond b (prepend bs (placing (dueAfter (length bs) d ds) (es ++ (f ∷ fs)))) (Refusal 4) ≡ Refusal 5
+    go true e ih = let r = prepend-stream bs g (placing (dueAfter (length bs) d ds) es) e in rw (ih (r .0) (r .1))
+    go false e ih = no-content 4 g e
+placing-followed (End ∷ []) [] g f fs e = refl
+placing-followed (End ∷ x ∷ es) [] g f fs e = no-content 5 g e
+placing-followed (End ∷ es) (d ∷ ds) g f fs e = no-content 5 g e

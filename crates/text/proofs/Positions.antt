@@ -10,7 +10,7 @@ use lib.Dec.{eqb, leb, ltb}
 use lib.ListN.{length, getD, take, drop, List·getD-eq-default}
 use lib.Seq.{getD-drop, drop-drop, drop-cons, sets, sets-eq, take-at}
 use Rattle.text.specs.Digits.{digitOf, isDigit}
-use Rattle.text.specs.Spelling.{front, pairsAt, runOf, lineEnd}
+use Rattle.text.specs.Spelling.{front, pairsAt, pairRunOf, lineEnd}
 use Rattle.text.proofs.Spelling.{pairs-turn, ran}
 
 pub head-at : (s : List ℕ) (p x : ℕ) (t : List ℕ) → drop p s ≡ x ∷ t → getD s p 0 ≡ x
@@ -111,8 +111,8 @@ pub record Good (text : List ℕ) (p k room : ℕ) : Type 0 where
   pub within : p + 2 * k ≤ length text
   pub all : length (front (pairsAt text p k)) ≡ k
 
-pub good-run : (text : List ℕ) (p k room : ℕ) → runOf text p k room .good ≡ true → Good text p k room
-unfolding runOf
+pub good-run : (text : List ℕ) (p k room : ℕ) → pairRunOf text p k room .good ≡ true → Good text p k room
+unfolding pairRunOf
 good-run text p k room = go (leb k 260) (leb k room) (leb (p + 2 * k) (length text)) refl refl refl
   where
     go : (a b c : Bool) → leb k 260 ≡ a → leb k room ≡ b → leb (p + 2 * k) (length text) ≡ c

@@ -12,7 +12,7 @@ use lib.Seq.{sets, drop-cons}
 use Rattle.image.specs.Words.{total}
 use Rattle.text.specs.Digits.{digitOf}
 use Rattle.text.specs.Spelling.{digitsFrom, front, pairsAt}
-use Rattle.text.specs.declared.Run.{Run}
+use Rattle.text.specs.declared.PairRun.{PairRun}
 
 -- the table's entry is the digit's value
 pub digits-at : (n i k : ℕ) → k < n → getD (digitsFrom i n) k 0 ≡ digitOf (i + k)
@@ -66,7 +66,7 @@ pub record Spelling (text : List ℕ) (p k : ℕ) (row₀ row : List ℕ) (q i l
   pub summed : total (front (pairsAt text p k)) ≡ sum + total (front (pairsAt text q left))
   pub written : sets row₀ 0 (front (pairsAt text p k)) ≡ sets row i (front (pairsAt text q left))
 
-abbrev pub ran : (text : List ℕ) (p k : ℕ) → Run
+abbrev pub ran : (text : List ℕ) (p k : ℕ) → PairRun
 ran text p k = record { good = eqb (length (front (pairsAt text p k))) k; sum = total (front (pairsAt text p k)) }
 
 module _ {text : List ℕ} {p k : ℕ} {row₀ row : List ℕ} {q i left sum : ℕ} (v : Spelling text p k row₀ row q i left sum) where

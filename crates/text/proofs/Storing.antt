@@ -9,9 +9,9 @@ use borrow.Rule.Slice.PartMut.{putMid}
 use lib.Dec.{leb}
 use lib.ListN.{length, getD, set, take, drop, replicate, length-drop, drop-of-length-le, take-append-drop}
 use lib.Seq.{sets, drop-cons, take-all, length-take-le}
-use Rattle.image.specs.declared.Home.the-variants.{InImage, InHeader}
+use Rattle.image.specs.declared.Location.the-variants.{InImage, InHeader}
 use Rattle.image.specs.declared.Section.{Section}
-use Rattle.text.specs.Storing.{storedAt, storedIn, cleared}
+use Rattle.text.specs.Storing.{storedAt, filledWith, cleared}
 
 -- one turn of a copying loop that counts what is left
 pub copy-more : (d row : List ℕ) (j i k : ℕ) → 0 < k → i < length row
@@ -98,14 +98,14 @@ module _ (xs : List ℕ) (a to : ℕ) (row : List ℕ) (from n : ℕ) (inside : 
       ∙ ap (λ (l : List ℕ). take a xs ++ l) (e ∙ ap (λ (l : List ℕ). storedAt l (to - a) row from n) (tail-part xs a))
       ∙ stored-tail
 
--- a section that lies in one home
+-- a section that lies in one location
 module _ (dst : List ℕ) (s : Section) (row : List ℕ) (from n : ℕ) where
-  pub in-image : s .home ≡ InImage → (storedAt dst (s .offset) row from n ≡ storedIn InImage dst s row from n) × (dst ≡ storedIn InHeader dst s row from n)
-  unfolding storedIn
+  pub in-image : s .location ≡ InImage → (storedAt dst (s .offset) row from n ≡ filledWith InImage dst s row from n) × (dst ≡ filledWith InHeader dst s row from n)
+  unfolding filledWith
   in-image e = (rw e, rw e)
 
-  pub in-header : s .home ≡ InHeader → (storedAt dst (s .offset) row from n ≡ storedIn InHeader dst s row from n) × (dst ≡ storedIn InImage dst s row from n)
-  unfolding storedIn
+  pub in-header : s .location ≡ InHeader → (storedAt dst (s .offset) row from n ≡ filledWith InHeader dst s row from n) × (dst ≡ filledWith InImage dst s row from n)
+  unfolding filledWith
   in-header e = (rw e, rw e)
 
 -- zeroing

@@ -4,8 +4,8 @@ use mathlib.Core.List.{List, [], _∷_, _++_}
 use Prim.Native.Nat.{ℕ, zero, suc, _+_, _-_, _/_}
 use lib.Dec.{eqb, leb}
 use lib.ListN.{length, take, drop}
-use Rattle.image.specs.declared.Home.{Home}
-use Rattle.image.specs.declared.Home.the-variants.{InImage, InHeader}
+use Rattle.image.specs.declared.Location.{Location}
+use Rattle.image.specs.declared.Location.the-variants.{InImage, InHeader}
 use Rattle.image.specs.declared.Section.{Section}
 
 -- what one record of a text says
@@ -20,13 +20,13 @@ pub data Event : Type 0 where
   End : Event
 
 -- what a text comes to: a refusal, or the bytes of the sections, one after the other
-pub data Outcome : Type 0 where
-  Refusal : (number : ℕ) → Outcome
-  Stream : (bytes : List ℕ) → Outcome
+pub data Content : Type 0 where
+  Refusal : (number : ℕ) → Content
+  Stream : (bytes : List ℕ) → Content
 
-unfoldable pub after : List ℕ → Outcome → Outcome
-after bs (Refusal n) = Refusal n
-after bs (Stream rest) = Stream (bs ++ rest)
+unfoldable pub prepend : List ℕ → Content → Content
+prepend bs (Refusal n) = Refusal n
+prepend bs (Stream rest) = Stream (bs ++ rest)
 
 -- 'data not the next due, or crossing': n bytes at an address are the next due, and do not cross the end of their section
 abbrev pub fits : (address n : ℕ) → Section → Bool
@@ -34,33 +34,33 @@ fits a n s = eqb a (s .address) && leb n (s .size)
 
 -- what remains of a section after n bytes
 abbrev pub restOf : ℕ → Section → Section
-restOf n s = record { address = s .address + n; size = s .size - n; home = s .home; offset = s .offset + n }
+restOf n s = record { address = s .address + n; size = s .size - n; location = s .location; offset = s .offset + n }
 
 -- what is due after n bytes of the first section
-unfoldable pub advance : ℕ → Section → List Section → List Section
-advance n s ss = cond (eqb n (s .size)) ss (restOf n s ∷ ss)
+unfoldable pub dueAfter : ℕ → Section → List Section → List Section
+dueAfter n s ss = cond (eqb n (s .size)) ss (restOf n s ∷ ss)
 
 -- 'Sections in rising order, each byte once'; '4 data not the next due, or crossing; 5 end record missing, early or followed'
-unfoldable pub place : (due : List Section) → List Event → Outcome
-place due [] = Refusal 5
-place due (Bad n ∷ es) = Refusal n
-place due (Other ∷ es) = place due es
-place [] (Data a bs ∷ es) = Refusal 4
-place (s ∷ ss) (Data a bs ∷ es) = cond (fits a (length bs) s) (after bs (place (advance (length bs) s ss) es)) (Refusal 4)
-place [] (End ∷ []) = Stream []
-place [] (End ∷ e ∷ es) = Refusal 5
-place (s ∷ ss) (End ∷ es) = Refusal 5
+unfoldable pub placing : (due : List Section) → List Event → Content
+placing due [] = Refusal 5
+placing due (Bad n ∷ es) = Refusal n
+placing due (Other ∷ es) = placing due es
+placing [] (Data a bs ∷ es) = Refusal 4
+placing (s ∷ ss) (Data a bs ∷ es) = cond (fits a (length bs) s) (prepend bs (placing (dueAfter (length bs) s ss) es)) (Refusal 4)
+placing [] (End ∷ []) = Stream []
+placing [] (End ∷ e ∷ es) = Refusal 5
+placing (s ∷ ss) (End ∷ es) = Refusal 5
 
-abbrev pub sameHome : Home → Home → Bool
-sameHome InImage InImage = true
-sameHome InImage InHeader = false
-sameHome InHeader InImage = false
-sameHome InHeader InHeader = true
+abbrev pub sameLocation : Location → Location → Bool
+sameLocation InImage InImage = true
+sameLocation InImage InHeader = false
+sameLocation InHeader InImage = false
+sameLocation InHeader InHeader = true
 
--- the bytes of the sections that lie in one home, out of the bytes of them all
-unfoldable pub gathered : Home → List Section → List ℕ → List ℕ
+-- the bytes of the sections that lie in one location, out of the bytes of them all
+unfoldable pub gathered : Location → List Section → List ℕ → List ℕ
 gathered h [] stream = []
-gathered h (s ∷ ss) stream = cond (sameHome h (s .home)) (take (s .size) stream) [] ++ gathered h ss (drop (s .size) stream)
+gathered h (s ∷ ss) stream = cond (sameLocation h (s .location)) (take (s .size) stream) [] ++ gathered h ss (drop (s .size) stream)
 
 -- the data of a record that is written
 pub record Piece : Type 0 where

@@ -8,14 +8,14 @@ use Rattle.image.specs.Checks.{imageFault}
 use Rattle.image.specs.Image.{noHeader}
 use Rattle.image.specs.Sections.{sectionsOf, headerOf}
 use Rattle.image.specs.declared.Header.{Header}
-use Rattle.image.specs.declared.Home.the-variants.{InImage, InHeader}
+use Rattle.image.specs.declared.Location.the-variants.{InImage, InHeader}
 use Rattle.image.specs.declared.Section.{Section}
 use Rattle.parts.specs.Parts.{lookupOf}
 use Rattle.parts.specs.Sizes.{imageSize}
 use Rattle.parts.specs.declared.Geometry.{Geometry}
 use Rattle.parts.specs.declared.Lookup.{Lookup}
 use Rattle.parts.specs.declared.Lookup.the-variants.{Found, Refused}
-use Rattle.text.specs.Placing.{Outcome, Refusal, Stream, gathered}
+use Rattle.text.specs.Placing.{Content, Refusal, Stream, gathered}
 use Rattle.text.specs.declared.ReadAnswer.{ReadAnswer}
 
 -- how a reading ends
@@ -32,20 +32,20 @@ abbrev pub checked : Geometry → Header → List ℕ → Reading
 checked g h bytes = cond (eqb (imageFault h bytes) 0) (Taken h bytes) (Cleared (imageFault h bytes) (imageSize g))
 
 -- what the records came to, for part and M
-abbrev pub judged : Geometry → (part macros : ℕ) → Outcome → Reading
+abbrev pub judged : Geometry → (part macros : ℕ) → Content → Reading
 judged g part macros (Refusal n) = Cleared n (imageSize g)
 judged g part macros (Stream bs) =
     checked g (headerOf part macros (gathered InHeader (sectionsOf g) bs)) (gathered InImage (sectionsOf g) bs)
 
 -- '11 part or M; 12 the buffer to be written under size', then the text against the sections that are due
-abbrev pub readFor : Lookup → (part macros room : ℕ) → (List Section → Outcome) → Reading
-readFor (Refused n) part macros room outcome = Untouched n
-readFor (Found g) part macros room outcome =
-    cond (leb (imageSize g) room) (judged g part macros (outcome (sectionsOf g))) (Untouched 12)
+abbrev pub readFor : Lookup → (part macros room : ℕ) → (List Section → Content) → Reading
+readFor (Refused n) part macros room content = Untouched n
+readFor (Found g) part macros room content =
+    cond (leb (imageSize g) room) (judged g part macros (content (sectionsOf g))) (Untouched 12)
 
 -- 'Reading checks 11, 12, then 1 to 5 per record in that order, then 6 to 10'; room is the size of the lent buffer
-abbrev pub readingOf : (part macros room : ℕ) → (List Section → Outcome) → Reading
-readingOf part macros room outcome = readFor (lookupOf part macros) part macros room outcome
+abbrev pub readingOf : (part macros room : ℕ) → (List Section → Content) → Reading
+readingOf part macros room content = readFor (lookupOf part macros) part macros room content
 
 abbrev pub answerOf : Reading → ReadAnswer
 answerOf (Untouched n) = record { number = n; header = noHeader }

@@ -7,7 +7,7 @@ use lib.ListN.{length, getD, take, drop}
 use lib.Seq.{sets}
 use Rattle.image.specs.Words.{total}
 use Rattle.text.specs.Digits.{digitOf, isDigit}
-use Rattle.text.specs.declared.Run.{Run}
+use Rattle.text.specs.declared.PairRun.{PairRun}
 
 -- the values of the n bytes from i on, as digits
 unfoldable pub digitsFrom : (i n : ℕ) → List ℕ
@@ -29,8 +29,8 @@ abbrev pub hasPairs : (text : List ℕ) (p k room : ℕ) → Bool
 hasPairs text p k room = leb k 260 && leb k room && leb (p + 2 * k) (length text)
 
 -- whether they all are digit pairs, and the sum of those before the first that is none
-unfoldable pub runOf : (text : List ℕ) (p k room : ℕ) → Run
-runOf text p k room =
+unfoldable pub pairRunOf : (text : List ℕ) (p k room : ℕ) → PairRun
+pairRunOf text p k room =
     cond (hasPairs text p k room)
     (record { good = eqb (length (front (pairsAt text p k))) k; sum = total (front (pairsAt text p k)) })
     (record { good = false; sum = 0 })

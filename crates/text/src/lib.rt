@@ -8,18 +8,18 @@ ghost use lib.Seq.{sets};
 ghost use Rattle.image.specs.Image.{noHeader};
 ghost use Rattle.image.specs.Words.{total};
 ghost use Rattle.text.specs.Digits.{digitOf};
-ghost use Rattle.text.specs.Spelling.{digitsFrom, front, pairsAt, runOf, rowAfter, lineEnd};
-ghost use Rattle.image.specs.declared.Home.the-variants.{InImage, InHeader};
+ghost use Rattle.text.specs.Spelling.{digitsFrom, front, pairsAt, pairRunOf, rowAfter, lineEnd};
+ghost use Rattle.image.specs.declared.Location.the-variants.{InImage, InHeader};
 ghost use Rattle.text.specs.Reading.{answerOf, bufferAfter};
-ghost use Rattle.text.specs.Storing.{storedAt, storedIn, cleared, settled};
+ghost use Rattle.text.specs.Storing.{storedAt, filledWith, cleared, settled};
 use image::Header;
-use image::Home;
+use image::Location;
 use image::Section;
 
 mod table;
 
 // What a run of pairs comes to.
-pub struct Run {
+pub struct PairRun {
     pub good: bool,
     pub sum: u32,
 }
@@ -39,7 +39,7 @@ fn digit(table: &[u8; 256], c: u8) -> u8
 }
 
 // Spells k pairs from p on into the row, up to the first that is none.
-fn spell_pairs(row: &mut [u8], text: &[u8], p: usize, k: usize) -> Run
+fn spell_pairs(row: &mut [u8], text: &[u8], p: usize, k: usize) -> PairRun
     requires { ⌜ (p + 2 * k ≤ length (now text)) × (k ≤ length (now row)) × (k ≤ 260) ⌝ }
     ensures { λ r. ⌜ r ≡ record { good = eqb (length (front (pairsAt (now (text .entry)) p k))) k; sum = total (front (pairsAt (now (text .entry)) p k)) } ⌝ }
     ensures { λ _. ⌜ now (row .exit) ≡ sets (now (row .entry)) 0 (front (pairsAt (now (text .entry)) p k)) ⌝ }
@@ -53,10 +53,10 @@ fn spell_pairs(row: &mut [u8], text: &[u8], p: usize, k: usize) -> Run
         let h = digit(&table, text[q]);
         let l = digit(&table, text[q + 1]);
         if 15 < h {
-            return Run { good: false, sum };
+            return PairRun { good: false, sum };
         }
         if 15 < l {
-            return Run { good: false, sum };
+            return PairRun { good: false, sum };
         }
         let b = 16 * h + l;
         row[i] = b;
@@ -65,34 +65,34 @@ fn spell_pairs(row: &mut [u8], text: &[u8], p: usize, k: usize) -> Run
         i += 1;
         left -= 1;
     }
-    Run { good: true, sum }
+    PairRun { good: true, sum }
 }
 
 // Spells k pairs from p on into the row, up to the first that is none; nothing where they lie past the text or the row.
-pub fn spell(row: &mut [u8], text: &[u8], p: usize, k: usize) -> Run
-    ensures { λ r. ⌜ r ≡ runOf (now (text .entry)) p k (length (now (row .entry))) ⌝ }
+pub fn spell(row: &mut [u8], text: &[u8], p: usize, k: usize) -> PairRun
+    ensures { λ r. ⌜ r ≡ pairRunOf (now (text .entry)) p k (length (now (row .entry))) ⌝ }
     ensures { λ _. ⌜ now (row .exit) ≡ rowAfter (now (row .entry)) (now (text .entry)) p k ⌝ }
 {
     if 260 < k {
-        return Run {
+        return PairRun {
             good: false,
             sum: 0,
         };
     }
     if row.len() < k {
-        return Run {
+        return PairRun {
             good: false,
             sum: 0,
         };
     }
     if text.len() < p {
-        return Run {
+        return PairRun {
             good: false,
             sum: 0,
         };
     }
     if text.len() - p < 2 * k {
-        return Run {
+        return PairRun {
             good: false,
             sum: 0,
         };
@@ -179,14 +179,14 @@ pub fn fill(
     from: usize,
     n: usize,
 )
-    ensures { λ _. ⌜ now (image .exit) ≡ storedIn InImage (now (image .entry)) due (now (row .entry)) from n ⌝ }
-    ensures { λ _. ⌜ now (header .exit) ≡ storedIn InHeader (now (header .entry)) due (now (row .entry)) from n ⌝ }
+    ensures { λ _. ⌜ now (image .exit) ≡ filledWith InImage (now (image .entry)) due (now (row .entry)) from n ⌝ }
+    ensures { λ _. ⌜ now (header .exit) ≡ filledWith InHeader (now (header .entry)) due (now (row .entry)) from n ⌝ }
 {
-    let home = due.home;
+    let location = due.location;
     let to = due.offset;
-    match home {
-        Home::InImage => store_image(image, flash, to, row, from, n),
-        Home::InHeader => store(header, to, row, from, n),
+    match location {
+        Location::InImage => store_image(image, flash, to, row, from, n),
+        Location::InHeader => store(header, to, row, from, n),
     }
 }
 

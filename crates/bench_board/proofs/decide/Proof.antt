@@ -17,7 +17,7 @@ returns-2 : tie.Need-returns-2
 returns-2 c =
     let a = c .before .before .before .before .before .before .before .before .before .args in
     let h = sym (ap (λ (t : Decoded). decodedOf t) (c .before .before .enum-told .given .1)) ∙ c .before .before .before .before .request-in .ensures in
-    rw (c .before .keep .ensures) (meet-unknown (a .g) (a .flash .now) (a .locks .now) (a .params .now) (a .p) (a .e) (a .o) (a .r) (c .be-silent .result) h (c .be-silent .ensures))
+    rw (c .before .keep .ensures) (meet-unknown (a .g) (a .flash .now) (a .locks .now) (a .params .now) (a .p) (a .e) (a .o) (a .r) (c .silent-reply .result) h (c .silent-reply .ensures))
 
 pub decide-spec : {M : Type 1} → statement M
 decide-spec =

@@ -17,12 +17,12 @@ returns-2 c =
 returns-3 : tie.Need-returns-3
 returns-3 c =
     let a = c .before .before .before .before .before .before .before .before .before .before .args in
-    no-call (a .board .now) (a .event .now) (a .call .now) (a .request .now) (c .before .before .before .before .before .is-board .result) (c .before .before .before .is-event .result) (c .before .is-outcome .result) (c .before .before .before .before .before .is-board .ensures) (c .before .before .before .before .if1 .left) (c .before .before .before .is-event .ensures) (c .before .before .if2 .left) (c .before .is-outcome .ensures) (c .if3 .taken)
+    no-call (a .board .now) (a .event .now) (a .call .now) (a .request .now) (c .before .before .before .before .before .is-board .result) (c .before .before .before .is-event .result) (c .before .is-call-outcome .result) (c .before .before .before .before .before .is-board .ensures) (c .before .before .before .before .if1 .left) (c .before .before .before .is-event .ensures) (c .before .before .if2 .left) (c .before .is-call-outcome .ensures) (c .if3 .taken)
 
 returns-4 : tie.Need-returns-4
 returns-4 c =
     let a = c .before .before .before .before .before .before .before .before .before .before .before .args in
-    by-request (a .board .now) (a .event .now) (a .call .now) (a .request .now) (c .before .before .before .before .before .before .is-board .result) (c .before .before .before .before .is-event .result) (c .before .before .is-outcome .result) (c .is-packet .result) (c .before .before .before .before .before .before .is-board .ensures) (c .before .before .before .before .before .if1 .left) (c .before .before .before .before .is-event .ensures) (c .before .before .before .if2 .left) (c .before .before .is-outcome .ensures) (c .before .if3 .left) (c .is-packet .ensures)
+    by-request (a .board .now) (a .event .now) (a .call .now) (a .request .now) (c .before .before .before .before .before .before .is-board .result) (c .before .before .before .before .is-event .result) (c .before .before .is-call-outcome .result) (c .is-packet .result) (c .before .before .before .before .before .before .is-board .ensures) (c .before .before .before .before .before .if1 .left) (c .before .before .before .before .is-event .ensures) (c .before .before .before .if2 .left) (c .before .before .is-call-outcome .ensures) (c .before .if3 .left) (c .is-packet .ensures)
 
 pub is-bench-spec : {M : Type 1} → statement M
 is-bench-spec =

@@ -30,8 +30,8 @@ event-in-requires c κs =
     let s = sized (a .board .now) (a .event .now) (a .call .now) (a .request .now) (a .answer .now) (c .before .before .before .before .before .before .before .before .before .before .before .before .before .before .before .before .pre) in
     s .1 .0
 
-outcome-at-requires : tie.Need-outcome-at-requires
-outcome-at-requires c κs =
+call-outcome-at-requires : tie.Need-call-outcome-at-requires
+call-outcome-at-requires c κs =
     let a = c .before .before .before .before .before .before .before .before .before .before .before .before .before .before .before .before .before .args in
     let s = sized (a .board .now) (a .event .now) (a .call .now) (a .request .now) (a .answer .now) (c .before .before .before .before .before .before .before .before .before .before .before .before .before .before .before .before .before .pre) in
     omega (arith, s .1 .1 .0)
@@ -45,7 +45,7 @@ meet-on-requires c κs =
 returns-2 : tie.Need-returns-2
 returns-2 c =
     let a = c .before .before .before .before .before .before .before .before .before .before .before .before .before .before .before .before .before .before .before .before .before .before .before .before .before .before .before .before .before .before .before .before .before .before .before .before .before .args in
-    meet-taken (a .g) (a .event .now) (a .call .now) (a .request .now) (left (a .left-flash .now) (a .left-locks .now) (a .left-latch .now)) (benchOf (a .board .now) (a .flash .now) (a .locks .now) (a .latch .now) (a .params .now) (a .answer .now)) (c .before .before .before .before .before .before .before .before .before .before .before .before .before .before .before .before .before .before .before .before .before .packet-in .result) (c .before .before .before .before .before .before .before .before .before .before .before .before .before .before .before .before .before .before .before .before .event-in .result) (c .before .before .before .before .before .before .before .before .before .before .before .before .before .before .before .before .before .before .before .outcome-at .result) _ (says-yes (c .before .before .before .before .before .before .before .before .before .before .before .before .before .before .before .before .before .before .before .before .before .before .before .is-bench .result) (isBench (a .board .now) (a .event .now) (a .call .now) (a .request .now)) (c .before .before .before .before .before .before .before .before .before .before .before .before .before .before .before .before .before .before .before .before .before .before .before .is-bench .ensures) (c .before .before .before .before .before .before .before .before .before .before .before .before .before .before .before .before .before .before .before .before .before .before .if1 .left)) (c .before .before .before .before .before .before .before .before .before .before .before .before .before .before .before .before .before .before .before .before .before .packet-in .ensures) (c .before .before .before .before .before .before .before .before .before .before .before .before .before .before .before .before .before .before .before .before .event-in .ensures) (c .before .before .before .before .before .before .before .before .before .before .before .before .before .before .before .before .before .before .before .outcome-at .ensures) (c .before .before .before .before .before .before .before .before .before .before .before .before .meet-on .ensures)
+    meet-taken (a .g) (a .event .now) (a .call .now) (a .request .now) (left (a .left-flash .now) (a .left-locks .now) (a .left-latch .now)) (benchOf (a .board .now) (a .flash .now) (a .locks .now) (a .latch .now) (a .params .now) (a .answer .now)) (c .before .before .before .before .before .before .before .before .before .before .before .before .before .before .before .before .before .before .before .before .before .packet-in .result) (c .before .before .before .before .before .before .before .before .before .before .before .before .before .before .before .before .before .before .before .before .event-in .result) (c .before .before .before .before .before .before .before .before .before .before .before .before .before .before .before .before .before .before .before .call-outcome-at .result) _ (says-yes (c .before .before .before .before .before .before .before .before .before .before .before .before .before .before .before .before .before .before .before .before .before .before .before .is-bench .result) (isBench (a .board .now) (a .event .now) (a .call .now) (a .request .now)) (c .before .before .before .before .before .before .before .before .before .before .before .before .before .before .before .before .before .before .before .before .before .before .before .is-bench .ensures) (c .before .before .before .before .before .before .before .before .before .before .before .before .before .before .before .before .before .before .before .before .before .before .if1 .left)) (c .before .before .before .before .before .before .before .before .before .before .before .before .before .before .before .before .before .before .before .before .before .packet-in .ensures) (c .before .before .before .before .before .before .before .before .before .before .before .before .before .before .before .before .before .before .before .before .event-in .ensures) (c .before .before .before .before .before .before .before .before .before .before .before .before .before .before .before .before .before .before .before .call-outcome-at .ensures) (c .before .before .before .before .before .before .before .before .before .before .before .before .meet-on .ensures)
 
 pub meet-in-spec : {M : Type 1} → statement M
 meet-in-spec =
@@ -56,7 +56,7 @@ meet-in-spec =
     returns
     packet-in-requires
     event-in-requires
-    outcome-at-requires
+    call-outcome-at-requires
     meet-on-requires
     (λ c. search needs)
     (λ c. search needs)

@@ -1,4 +1,4 @@
--- As `replyTo`, fate by fate. Assumes nothing.
+-- As `replyTo`, outcome by outcome. Assumes nothing.
 use borrow.Author.Needs.{needs}
 use Rattle.bench_lines.proofs.reply_to.Statement.{statement}
 use Rattle.bench_lines.proofs.reply_to.Tie as tie
@@ -19,10 +19,10 @@ reply-to-spec =
     (λ c κs. search needs)
     (λ c. search needs)
     (λ c κs. search needs)
-    (λ c. simp (c .say .ensures, c .before .before .enum-told .given .1, c .before .if1 .taken))
-    (λ c. simp (c .okay .ensures, c .before .before .enum-told .given .1, c .before .if1 .left))
-    (λ c. simp (c .say2 .ensures, c .before .enum-told2 .given .1))
-    (λ c. simp (c .say3 .ensures, c .before .enum-told3 .given .1))
-    (λ c. simp (c .say4 .ensures, c .before .before .enum-told4 .given .1, c .before .if2 .taken))
-    (λ c. simp (c .garbled .ensures, c .before .before .enum-told4 .given .1, c .before .if2 .left))
-    (λ c. simp (c .be-silent .ensures, c .before .enum-told5 .given .1)))
+    (λ c. simp (c .reply-with .ensures, c .before .before .enum-told .given .1, c .before .if1 .taken))
+    (λ c. simp (c .okay-reply .ensures, c .before .before .enum-told .given .1, c .before .if1 .left))
+    (λ c. simp (c .reply-with2 .ensures, c .before .enum-told2 .given .1))
+    (λ c. simp (c .reply-with3 .ensures, c .before .enum-told3 .given .1))
+    (λ c. simp (c .reply-with4 .ensures, c .before .before .enum-told4 .given .1, c .before .if2 .taken))
+    (λ c. simp (c .wrong-parity-reply .ensures, c .before .before .enum-told4 .given .1, c .before .if2 .left))
+    (λ c. simp (c .silent-reply .ensures, c .before .enum-told5 .given .1)))

@@ -4,7 +4,7 @@ use mathlib.Core.Path.{_≡_, refl, sym}
 use native.Mathlib.Omega.{arith}
 use borrow.Author.Needs.{needs}
 use Rattle.bench_board.specs.Board.{lent}
-use Rattle.dry.proofs.Playing.{Playing, first-turn, next-turn, report-told, none-refused, report-comes}
+use Rattle.dry.proofs.Playing.{Playing, first-turn, next-turn, report-planned, none-refused, report-comes}
 use Rattle.dry.proofs.played.Statement.{statement}
 use Rattle.dry.proofs.played.Tie as tie
 
@@ -43,7 +43,7 @@ same-length-4 : tie.Need-same-length-4 Inv-loop μ-loop
 same-length-4 c = c .before .before .before .before .loop .inv .params
 
 returns : tie.Need-returns Inv-loop μ-loop
-returns c = rw (c .report-in .ensures) (report-told (c .before .before .before .before .loop .inv) (c .before .before .before .before .before .before .before .before .before .before .before .pre .1) (c .before .enum-told .given .1))
+returns c = rw (c .report-in .ensures) (report-planned (c .before .before .before .before .loop .inv) (c .before .before .before .before .before .before .before .before .before .before .before .pre .1) (c .before .enum-told .given .1))
 
 enum-told-2 : tie.Need-enum-told-2 Inv-loop μ-loop
 enum-told-2 c = search needs

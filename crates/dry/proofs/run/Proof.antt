@@ -1,5 +1,5 @@
 use mathlib.Core.Path.{_∙_}
-use Rattle.dry.proofs.Rehearsing.{playable, ran-refused, ran-done}
+use Rattle.dry.proofs.Reporting.{playable, ran-refused, ran-done}
 use borrow.Author.Needs.{needs}
 use Rattle.dry.proofs.run.Statement.{statement}
 use Rattle.dry.proofs.run.Tie as tie
@@ -16,17 +16,17 @@ read-requires c κs = search needs
 returns : tie.Need-returns
 returns c = ran-refused (c .before .before .before .before .before .before .args .text .now) (c .before .before .before .before .blank-image .result) (c .before .before .before .before .blank-image .ensures) _ (c .before .before .read .ensures .0) (c .if1 .taken)
 
-slice-aggregate-rehearse : tie.Need-slice-aggregate-rehearse
-slice-aggregate-rehearse c = search needs
+slice-aggregate-report-for : tie.Need-slice-aggregate-report-for
+slice-aggregate-report-for c = search needs
 
-rehearse-requires : tie.Need-rehearse-requires
-rehearse-requires c κs = playable (c .before .before .before .before .before .before .before .before .args .text .now) (c .before .before .before .before .before .before .blank-image .result) (c .before .before .before .before .before .before .blank-image .ensures) _ _ (c .before .before .before .before .read .ensures .0) (c .before .before .before .before .read .ensures .1) (c .before .before .if1 .left)
+report-for-requires : tie.Need-report-for-requires
+report-for-requires c κs = playable (c .before .before .before .before .before .before .before .before .args .text .now) (c .before .before .before .before .before .before .blank-image .result) (c .before .before .before .before .before .before .blank-image .ensures) _ _ (c .before .before .before .before .read .ensures .0) (c .before .before .before .before .read .ensures .1) (c .before .before .if1 .left)
 
-told-by-requires : tie.Need-told-by-requires
-told-by-requires c κs = search needs
+ran-by-requires : tie.Need-ran-by-requires
+ran-by-requires c κs = search needs
 
 returns-2 : tie.Need-returns-2
-returns-2 c = c .told-by .ensures ∙ ran-done (c .before .before .before .before .before .before .before .before .before .before .args .text .now) (c .before .before .before .before .before .before .before .before .blank-image .result) (c .before .before .before .before .before .before .before .before .blank-image .ensures) _ _ (c .before .before .before .before .before .before .read .ensures .0) (c .before .before .before .before .if1 .left) (c .before .rehearse .ensures)
+returns-2 c = c .ran-by .ensures ∙ ran-done (c .before .before .before .before .before .before .before .before .before .before .args .text .now) (c .before .before .before .before .before .before .before .before .blank-image .result) (c .before .before .before .before .before .before .before .before .blank-image .ensures) _ _ (c .before .before .before .before .before .before .read .ensures .0) (c .before .before .before .before .if1 .left) (c .before .report-for .ensures)
 
 pub run-spec : {M : Type 1} → statement M
 run-spec =
@@ -36,7 +36,7 @@ run-spec =
     slice-aggregate-read
     read-requires
     returns
-    slice-aggregate-rehearse
-    rehearse-requires
-    told-by-requires
+    slice-aggregate-report-for
+    report-for-requires
+    ran-by-requires
     returns-2)

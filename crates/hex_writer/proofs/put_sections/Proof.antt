@@ -14,7 +14,7 @@ abbrev μ-loop : tie.MeasureT-loop
 
 loop-again : tie.Need-loop-again Inv-loop μ-loop
 loop-again c =
-    let p = c .before .before .put-home in
+    let p = c .before .before .put-located in
     turn (c .before .before .before .before .before .before .loop .inv) (c .before .before .before .before .before .loop-test .taken) _ (c .before .before .before .before .section-at .ensures) _ _ (p .ensures .0) (p .ensures .1)
 
 pub put-sections-spec : {M : Type 1} → statement M

@@ -2,7 +2,7 @@
 use mathlib.Core.Path.{ap}
 use native.Mathlib.Omega.{arith}
 use borrow.Author.Needs.{needs}
-use Rattle.hex_writer.specs.declared.Place.{Place}
+use Rattle.hex_writer.specs.declared.Position.{Position}
 use Rattle.hex_writer.proofs.Whole.{text-room, text-put, after-begin}
 use Rattle.hex_writer.proofs.put_text.Statement.{statement}
 use Rattle.hex_writer.proofs.put_text.Tie as tie
@@ -27,7 +27,7 @@ put-end-requires c κs =
       text-room (s .args .text .now) (s .args .g) (s .args .h) (s .args .bytes .now),
       p .kept .0,
       c .before .before .before .before .before .before .before .put-extended .kept .0,
-      ap (λ (w : Place). w .at) (p .ensures .0),
+      ap (λ (w : Position). w .at) (p .ensures .0),
     )
 
 returns : tie.Need-returns

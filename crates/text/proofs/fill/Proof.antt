@@ -1,4 +1,4 @@
--- The home of the section decides. Assumes nothing.
+-- The location of the section decides. Assumes nothing.
 use mathlib.Core.Path.{_∙_}
 use Rattle.text.proofs.Storing.{in-image, in-header}
 use borrow.Author.Needs.{needs}

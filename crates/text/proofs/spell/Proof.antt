@@ -1,4 +1,4 @@
--- The room tests of `runOf`, then the loop. Assumes nothing.
+-- The room tests of `pairRunOf`, then the loop. Assumes nothing.
 use native.Mathlib.Omega.{arith}
 use mathlib.Core.Path.{sym, _∙_}
 use Rattle.text.proofs.Ends.{has-room, too-many, row-short, text-short}

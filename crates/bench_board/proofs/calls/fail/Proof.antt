@@ -9,7 +9,7 @@ returns : tie.Need-returns
 returns c =
     let p = c .before .before in
     let a = p .before .before .args in
-    rw (c .end .ensures) (failed-quiet (a .r) (a .o) (a .c) _ (p .before .failed-arg .ensures) (sym (p .harmless .ensures) ∙ c .before .if1 .taken))
+    rw (c .end .ensures) (failed-quiet (a .r) (a .o) (a .c) _ (p .before .failed-arg .ensures) (sym (p .keeps-memory .ensures) ∙ c .before .if1 .taken))
 
 returns-2 : tie.Need-returns-2
 returns-2 c =
@@ -17,7 +17,7 @@ returns-2 c =
     let a = p .before .before .args in
     let l = c .before .level-left .ensures in
     rw (c .end2 .ensures)
-    (failed-left (a .r) (a .o) (a .c) _ (p .before .failed-arg .ensures) (sym (p .harmless .ensures) ∙ c .before .before .if1 .left) _ (l .0) (l .1))
+    (failed-left (a .r) (a .o) (a .c) _ (p .before .failed-arg .ensures) (sym (p .keeps-memory .ensures) ∙ c .before .before .if1 .left) _ (l .0) (l .1))
 
 pub fail-spec : {M : Type 1} → statement M
 fail-spec =

@@ -11,4 +11,4 @@ goes-through-spec =
     (λ c. simp (eq-eqb _ _ (c .if1 .taken)))
     (λ c. simp (ne-eqb _ _ (c .before .if1 .left), c .if2 .taken))
     (λ c κs. search needs)
-    (λ c. simp (ne-eqb _ _ (c .before .before .if1 .left), c .before .if2 .left, c .lets-through .ensures)))
+    (λ c. simp (ne-eqb _ _ (c .before .before .if1 .left), c .before .if2 .left, c .carries-out .ensures)))

@@ -13,4 +13,4 @@ event-in-spec =
     (λ c κs. search needs)
     (λ c. search needs)
     (λ c. search needs)
-    (λ c. simp (c .before .before .word-at2 .ensures, c .before .before .before .word-at .ensures, c .before .before .before .before .fate-in .ensures)))
+    (λ c. simp (c .before .before .word-at2 .ensures, c .before .before .before .word-at .ensures, c .before .before .before .before .transfer-outcome-in .ensures)))

@@ -12,4 +12,4 @@ running-in-spec =
     (λ c. rw (eq-eqb _ _ (c .if1 .taken)))
     (λ c κs. search needs)
     (λ c. search needs)
-    (λ c. simp (c .before .outcome-at .ensures, ne-eqb _ _ (c .before .before .if1 .left))))
+    (λ c. simp (c .before .call-outcome-at .ensures, ne-eqb _ _ (c .before .before .if1 .left))))

@@ -67,8 +67,8 @@ onward-if-requires-4 c κs = search needs
 enum-told-9 : tie.Need-enum-told-9
 enum-told-9 c = search needs
 
-stored-in-requires : tie.Need-stored-in-requires
-stored-in-requires c κs = search needs
+level-shown-requires : tie.Need-level-shown-requires
+level-shown-requires c κs = search needs
 
 onward-if-requires-5 : tie.Need-onward-if-requires-5
 onward-if-requires-5 c κs = search needs
@@ -117,7 +117,7 @@ returns-9 c = simp (c .onward-if4 .ensures, c .before .before .u .given .1)
 
 returns-10 : tie.Need-returns-10
 unfolding judge
-returns-10 c = simp (c .onward-if5 .ensures, c .before .before .stored-in .ensures, c .before .before .before .enum-told9 .given .1)
+returns-10 c = simp (c .onward-if5 .ensures, c .before .before .level-shown .ensures, c .before .before .before .enum-told9 .given .1)
 
 returns-11 : tie.Need-returns-11
 unfolding judge
@@ -148,7 +148,7 @@ on-word-spec =
     enum-known-u
     onward-if-requires-4
     enum-told-9
-    stored-in-requires
+    level-shown-requires
     onward-if-requires-5
     enum-told-10
     summed-requires

@@ -1,0 +1,238 @@
+-- A mishap has an entry that was used and was not calm: what lies behind the used entries makes no difference. Assumes nothing.
+use mathlib.Core.Bool.{Bool, true, false, _&&_, not, cond}
+use mathlib.Core.List.{List, [], _∷_, _++_, append-assoc}
+use mathlib.Core.Logic.{_⊎_, inl, inr}
+use mathlib.Core.Path.{_≡_, refl, ap, sym, _∙_}
+use Prim.Native.Nat.{ℕ, zero, suc, _≤_, _<_}
+use native.Mathlib.Nat.{le-refl}
+use native.Mathlib.Omega.{arith}
+use lib.ListN.{length, length-append}
+use Rattle.flow.specs.Claim.{Used, UndisturbedHolds}
+use Rattle.flow.specs.Exchange.{Decoded, known, unknown, decode, carry, store, begin, isCall, isSysreq, killed, barred, carriedOut, callsOn, silentReply, replyTo, gives, Met, met, transferred, meetOn, meet}
+use Rattle.flow.specs.Map.{Place, inFlash, inLocks, inParams, atLevel, atSysreq, atSysarg, atTestMode, elsewhere, place}
+use Rattle.flow.specs.Packets.{packetOf, isRead}
+use Rattle.flow.specs.Run.{Run, advanceBy, advance, runAfter, started}
+use Rattle.flow.specs.Session.{Session, running, reported, moveAt}
+use Rattle.flow.specs.Target.{Target, LineEvent, CallOutcome, Lists, nextEvent, nextOutcome, rest}
+use Rattle.flow.specs.declared.Reply.{Reply}
+use Rattle.flow.specs.declared.Request.{Request}
+use Rattle.flow.specs.declared.Request.the-variants.{Xres, LineReset, ReadIdcode, ReadDrw, WriteTar, WriteDrw, WriteSetup}
+use Rattle.flow.proofs.Demand.{run-demand3-holds}
+use Rattle.image.specs.Image.{Image, imageOf}
+use Rattle.parts.specs.declared.Geometry.{Geometry}
+
+-- more entries behind
+abbrev behind : Lists → Lists → Lists
+behind x l = record { line = l .line ++ x .line; calls = l .calls ++ x .calls }
+
+abbrev metBehind : Lists → Met → Met
+metBehind x m = record { target = m .target; answer = m .answer; lists = behind x (m .lists) }
+
+abbrev runBehind : Lists → Run → Run
+runBehind x r = record { session = r .session; target = r .target; lists = behind x (r .lists); monitor = r .monitor; traffic = r .traffic }
+
+-- less than x is left
+abbrev Into : Lists → Lists → Type 0
+Into x l = (length (l .line) < length (x .line)) ⊎ (length (l .calls) < length (x .calls))
+
+-- an exchange is the same with more behind, or uses what is behind
+data Alike (x : Lists) (m m′ : Met) : Type 0 where
+  same : m′ ≡ metBehind x m → Alike x m m′
+  into : Into x (m′ .lists) → Alike x m m′
+
+-- a transfer that starts no call asks for no outcome
+begin-same : (y : Bool) (w : ℕ) (c c′ : CallOutcome) (b : Target) → y ≡ false → begin y w c b ≡ begin y w c′ b
+begin-same false w c c′ b h = refl
+begin-same true w c c′ b h = let z : _≡_ {A = ℕ} 0 1 = cc in absurd (omega arith)
+
+and-true : (y : Bool) → y && true ≡ false → y ≡ false
+and-true true h = h
+and-true false h = refl
+
+store-same : (w : ℕ) (c c′ : CallOutcome) (pc : Place) (b : Target) → isCall w && isSysreq pc ≡ false → store w c pc b ≡ store w c′ pc b
+store-same w c c′ (inFlash a) b h = refl
+store-same w c c′ (inLocks a) b h = refl
+store-same w c c′ (inParams a) b h = refl
+store-same w c c′ atLevel b h = refl
+store-same w c c′ atSysreq b h = begin-same (isCall w) w c c′ b (and-true (isCall w) h)
+store-same w c c′ atSysarg b h = refl
+store-same w c c′ atTestMode b h = refl
+store-same w c c′ elsewhere b h = refl
+
+carry-same : (g : Geometry) (q : Request) (o : ℕ) (c c′ : CallOutcome) (b : Target) → callsOn g q b ≡ false → carry g q o c b ≡ carry g q o c′ b
+unfolding carry
+carry-same g Xres o c c′ b h = refl
+carry-same g LineReset o c c′ b h = refl
+carry-same g ReadIdcode o c c′ b h = refl
+carry-same g ReadDrw o c c′ b h = refl
+carry-same g (WriteTar a) o c c′ b h = refl
+carry-same g (WriteDrw w) o c c′ b h = store-same w c c′ (place g (b .tar)) b h
+carry-same g (WriteSetup r w) o c c′ b h = refl
+
+module _ (g : Geometry) (q : Request) (ev : LineEvent) (a : Reply) (b : Target) (x : Lists) where
+  -- the line's entry is taken from before x
+  carried : (line : List LineEvent) (calls later : List CallOutcome) → rest (line ++ x .line) ≡ rest line ++ x .line → x .calls ≡ later → (y : Bool) → callsOn g q b ≡ y
+      → Alike x (met true g q ev (record { line = line; calls = calls }) a b) (met true g q ev (behind x (record { line = line; calls = calls })) a b)
+  carried line (o ∷ os) later h k true e = same (rw (e, h))
+  carried line (o ∷ os) later h k false e = same (rw (e, h))
+  carried line [] [] h k true e = same (rw (e, h, k))
+  carried line [] (o ∷ os) h k true e = into (inr (rw (e, k) (le-refl _)))
+  carried line [] later h k false e = same (rw (e, h, carry-same g q (ev .other) (nextOutcome (x .calls)) (nextOutcome []) b e))
+
+  met-alike : (c : Bool) (line : List LineEvent) (calls : List CallOutcome) → rest (line ++ x .line) ≡ rest line ++ x .line
+      → Alike x (met c g q ev (record { line = line; calls = calls }) a b) (met c g q ev (behind x (record { line = line; calls = calls })) a b)
+  met-alike false line calls h = same (rw h)
+  met-alike true line calls h = carried line calls (x .calls) h refl (callsOn g q b) refl
+
+-- either way a line's entry is gone
+met-line : (c : Bool) (g : Geometry) (q : Request) (ev : LineEvent) (l : Lists) (a : Reply) (b : Target) → (met c g q ev l a b) .lists .line ≡ rest (l .line)
+met-line true g q ev l a b = refl
+met-line false g q ev l a b = refl
+
+-- whether a transfer is carried out, and its answer
+abbrev flagOf : Geometry → Request → LineEvent → Target → Bool
+flagOf g q e b = not (killed b) && not (barred g q b) && carriedOut (e .outcome)
+
+abbrev replyOf : Geometry → Request → LineEvent → Target → Reply
+replyOf g q e b = cond (killed b) (silentReply (e .filler)) (replyTo (e .outcome) (barred g q b) (isRead q) (gives q b) (e .filler))
+
+module _ (g : Geometry) where
+  transferred-alike : (q : Request) (line later : List LineEvent) (calls more : List CallOutcome) (b : Target)
+      → Alike (record { line = later; calls = more }) (transferred g q (nextEvent line) (record { line = line; calls = calls }) b)
+      (transferred g q (nextEvent (line ++ later)) (record { line = line ++ later; calls = calls ++ more }) b)
+  unfolding transferred
+  transferred-alike q (e ∷ es) later calls more b =
+      met-alike g q e (replyOf g q e b) b (record { line = later; calls = more }) (flagOf g q e b) (e ∷ es) calls refl
+  transferred-alike q [] [] calls more b =
+      met-alike g q (nextEvent []) (replyOf g q (nextEvent []) b) b (record { line = []; calls = more }) (flagOf g q (nextEvent []) b) [] calls refl
+  transferred-alike q [] (e ∷ es) calls more b =
+      into (inl (rw (met-line (flagOf g q e b) g q e (record { line = e ∷ es; calls = calls ++ more }) (replyOf g q e b) b) (le-refl _)))
+
+module _ (g : Geometry) (x : Lists) where
+  meet-alike : (d : Decoded) (l : Lists) (b : Target) → Alike x (meetOn g d l b) (meetOn g d (behind x l) b)
+  meet-alike (known Xres) l b = same refl
+  meet-alike (known LineReset) l b = same refl
+  meet-alike (known ReadIdcode) l b = transferred-alike g ReadIdcode (l .line) (x .line) (l .calls) (x .calls) b
+  meet-alike (known ReadDrw) l b = transferred-alike g ReadDrw (l .line) (x .line) (l .calls) (x .calls) b
+  meet-alike (known (WriteTar a)) l b = transferred-alike g (WriteTar a) (l .line) (x .line) (l .calls) (x .calls) b
+  meet-alike (known (WriteDrw w)) l b = transferred-alike g (WriteDrw w) (l .line) (x .line) (l .calls) (x .calls) b
+  meet-alike (known (WriteSetup r w)) l b = transferred-alike g (WriteSetup r w) (l .line) (x .line) (l .calls) (x .calls) b
+  meet-alike unknown l b = by (l .line) (x .line) refl
+    where
+      by : (line later : List LineEvent) → x .line ≡ later
+          → Alike x (meetOn g unknown (record { line = line; calls = l .calls }) b) (meetOn g unknown (behind x (record { line = line; calls = l .calls })) b)
+      by (e ∷ es) later h = same refl
+      by [] [] h = same (rw h)
+      by [] (e ∷ es) h = into (inl (rw h (le-refl _)))
+
+-- ---- the lists lose entries from their fronts: there are always such used entries
+
+record Front {A : Type 0} (l left : List A) : Type 0 where
+  pub front : List A
+  pub is : l ≡ front ++ left
+
+whole : {A : Type 0} (l : List A) → Front l l
+whole l = record { front = []; is = refl }
+
+first : {A : Type 0} (l : List A) → Front l (rest l)
+first [] = record { front = []; is = refl }
+first (x ∷ l) = record { front = x ∷ []; is = refl }
+
+perhaps : (y : Bool) (l : List CallOutcome) → Front l (cond y (rest l) l)
+perhaps true l = first l
+perhaps false l = whole l
+
+used : {l l′ : Lists} → Front (l .line) (l′ .line) → Front (l .calls) (l′ .calls) → Used l l′
+used a b = record { line = a .front; calls = b .front; lineIs = a .is; callsIs = b .is }
+
+then : {l l′ l″ : Lists} → Used l l′ → Used l′ l″ → Used l l″
+then {l″ = l″} u v = record {
+  line = u .line ++ v .line;
+  calls = u .calls ++ v .calls;
+  lineIs = u .lineIs ∙ ap (λ (x : List LineEvent). u .line ++ x) (v .lineIs) ∙ sym (append-assoc (u .line) (v .line) (l″ .line));
+  callsIs = u .callsIs ∙ ap (λ (x : List CallOutcome). u .calls ++ x) (v .callsIs) ∙ sym (append-assoc (u .calls) (v .calls) (l″ .calls));
+}
+
+met-used : (c : Bool) (g : Geometry) (q : Request) (ev : LineEvent) (l : Lists) (a : Reply) (b : Target) → Used l ((met c g q ev l a b) .lists)
+met-used true g q ev l a b = used (first (l .line)) (perhaps (callsOn g q b) (l .calls))
+met-used false g q ev l a b = used (first (l .line)) (whole (l .calls))
+
+transferred-used : (g : Geometry) (q : Request) (l : Lists) (b : Target) → Used l ((transferred g q (nextEvent (l .line)) l b) .lists)
+unfolding transferred
+transferred-used g q l b = met-used (flagOf g q (nextEvent (l .line)) b) g q (nextEvent (l .line)) l (replyOf g q (nextEvent (l .line)) b) b
+
+meet-used : (g : Geometry) (d : Decoded) (l : Lists) (b : Target) → Used l ((meetOn g d l b) .lists)
+meet-used g (known Xres) l b = used (whole (l .line)) (whole (l .calls))
+meet-used g (known LineReset) l b = used (whole (l .line)) (whole (l .calls))
+meet-used g (known ReadIdcode) l b = transferred-used g ReadIdcode l b
+meet-used g (known ReadDrw) l b = transferred-used g ReadDrw l b
+meet-used g (known (WriteTar a)) l b = transferred-used g (WriteTar a) l b
+meet-used g (known (WriteDrw w)) l b = transferred-used g (WriteDrw w) l b
+meet-used g (known (WriteSetup r w)) l b = transferred-used g (WriteSetup r w) l b
+meet-used g unknown l b = used (first (l .line)) (whole (l .calls))
+
+advance-used : (i : Image) (r : Run) → Used (r .lists) ((advance i r) .lists)
+unfolding advance meet
+advance-used i r = by (r .session)
+  where
+    by : (s : Session) → Used (r .lists) ((advanceBy i s r) .lists)
+    by (running y n w p a k h) = meet-used (i .geometry) (decode (packetOf ((moveAt i y n) .request))) (r .lists) (r .target)
+    by (reported n s h) = used (whole (r .lists .line)) (whole (r .lists .calls))
+
+pub after-used : (i : Image) (n : ℕ) (r : Run) → Used (r .lists) ((runAfter i n r) .lists)
+unfolding runAfter
+after-used i zero r = used (whole (r .lists .line)) (whole (r .lists .calls))
+after-used i (suc n) r = then (advance-used i r) (after-used i n (advance i r))
+
+fewer-events : {l l′ : Lists} → Used l l′ → length (l′ .line) ≤ length (l .line)
+fewer-events {l′ = l′} u = rw (u .lineIs, length-append (u .line) (l′ .line)) (omega arith)
+
+fewer-calls : {l l′ : Lists} → Used l l′ → length (l′ .calls) ≤ length (l .calls)
+fewer-calls {l′ = l′} u = rw (u .callsIs, length-append (u .calls) (l′ .calls)) (omega arith)
+
+module _ (i : Image) where
+  -- a step is the same with more behind, or uses what is behind
+  data AlikeRun (x : Lists) (r r′ : Run) : Type 0 where
+    sameRun : r′ ≡ runBehind x r → AlikeRun x r r′
+    intoRun : Into x (r′ .lists) → AlikeRun x r r′
+
+  advance-alike : (x : Lists) (r : Run) → AlikeRun x (advance i r) (advance i (runBehind x r))
+  unfolding advance meet
+  advance-alike x r = by (r .session)
+    where
+      by : (s : Session) → AlikeRun x (advanceBy i s r) (advanceBy i s (runBehind x r))
+      by (reported n s h) = sameRun refl
+      by (running y n w p a k h) = met-run (meet-alike (i .geometry) x (decode (packetOf ((moveAt i y n) .request))) (r .lists) (r .target))
+        where
+          met-run : Alike x (meetOn (i .geometry) (decode (packetOf ((moveAt i y n) .request))) (r .lists) (r .target))
+              (meetOn (i .geometry) (decode (packetOf ((moveAt i y n) .request))) (behind x (r .lists)) (r .target))
+              → AlikeRun x (advanceBy i (running y n w p a k h) r) (advanceBy i (running y n w p a k h) (runBehind x r))
+          met-run (same e) = sameRun (rw e)
+          met-run (into z) = intoRun z
+
+  -- what is not used does not matter
+  prefix : (n : ℕ) (x : Lists) (r : Run) → (runAfter i n (runBehind x r)) .lists ≡ x → runAfter i n (runBehind x r) ≡ runBehind x (runAfter i n r)
+  unfolding runAfter
+  prefix zero x r h = refl
+  prefix (suc n) x r h = by (λ r′. prefix n x r′) (advance-alike x r)
+    where
+      by : ((r′ : Run) → (runAfter i n (runBehind x r′)) .lists ≡ x → runAfter i n (runBehind x r′) ≡ runBehind x (runAfter i n r′)) → AlikeRun x (advance i r) (advance i (runBehind x r))
+          → runAfter i n (advance i (runBehind x r)) ≡ runBehind x (runAfter i n (advance i r))
+      by rec (sameRun e) = rw e (rec (advance i r) (ap (λ (z : Run). (runAfter i n z) .lists) (sym e) ∙ h))
+      by rec (intoRun (inl z)) = absurd (omega (arith, fewer-events (after-used i n (advance i (runBehind x r))), ap (λ (l : Lists). length (l .line)) h))
+      by rec (intoRun (inr z)) = absurd (omega (arith, fewer-calls (after-used i n (advance i (runBehind x r))), ap (λ (l : Lists). length (l .calls)) h))
+
+parted : (l x : Lists) (line : List LineEvent) (calls : List CallOutcome) → l .line ≡ line ++ x .line → l .calls ≡ calls ++ x .calls
+    → l ≡ behind x (record { line = line; calls = calls })
+parted l x line calls h k = rw (h, k)
+
+pub undisturbed-holds : UndisturbedHolds
+undisturbed-holds g h bytes p b s l n u calm =
+    let i = imageOf g h bytes in
+    let used : Lists = record { line = u .line; calls = u .calls } in
+    let left : Lists = (runAfter i n (started b l)) .lists in
+    let split : started b l ≡ runBehind left (started b used) = ap (started b) (parted l left (u .line) (u .calls) (u .lineIs) (u .callsIs)) in
+    let e : runAfter i n (started b l) ≡ runBehind left (runAfter i n (started b used)) =
+    ap (runAfter i n) split ∙ prefix i n left (started b used) (sym (ap (λ (r : Run). (runAfter i n r) .lists) split)) in
+    let d = run-demand3-holds g h bytes p b s used n in
+    rw e (record { clean = d .provoked calm; done = λ right x t z is. d .calm calm right x t z is })
