@@ -8,10 +8,11 @@ use lib.Dec.{eqb}
 use lib.ListN.{length}
 use Rattle.bench_board.specs.Board.{Buffers, targetOf}
 use Rattle.bench_board.specs.declared.Registers.{Registers}
-use Rattle.dry.specs.Playing.{partOne, noLists, nothing, meets, Turns, Started, reportIn, DoneAsPlanned}
+use Rattle.dry.specs.Playing.{noLists, nothing, meets, Turns, Started, reportIn, DoneAsPlanned}
 use Rattle.dry.specs.declared.Turn.{Turn}
 use Rattle.dry.proofs.Meets.{same-met}
 use Rattle.flow.specs.Claim.{Passes, Startable, calmEnd, callsEnd, entryOf}
+use Rattle.flow.specs.Examples.{partOne}
 use Rattle.flow.specs.Exchange.{Met, meet}
 use Rattle.flow.specs.Plan.{plan, loops, mostTraffic}
 use Rattle.flow.specs.Target.{Target, Lists}

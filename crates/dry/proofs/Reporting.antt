@@ -12,11 +12,12 @@ use lib.ListN.{length, drop, drop-of-length-le}
 use Rattle.bench_board.specs.Board.{Buffers, lent}
 use Rattle.bench_board.specs.declared.Registers.{Registers}
 use Rattle.dry.specs.Runs.{room, readNumber, ranBy, ranOn}
-use Rattle.dry.specs.Playing.{partOne, openFor, Playable, Started, DoneAsPlanned}
+use Rattle.dry.specs.Playing.{openFor, Playable, Started, DoneAsPlanned}
 use Rattle.dry.specs.declared.Ran.{Ran}
 use Rattle.dry.specs.declared.Ran.the-variants.{Done, Refused}
 use Rattle.dry.proofs.Taking.{TakenWell, GoodReading, reading-good}
 use Rattle.flow.specs.Claim.{Passes, Startable}
+use Rattle.flow.specs.Examples.{partOne}
 use Rattle.flow.specs.Plan.{plan}
 use Rattle.flow.specs.declared.Entry.the-variants.{FromOpen}
 use Rattle.hex.specs.Texts.{hexReading}

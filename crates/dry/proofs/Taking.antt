@@ -8,7 +8,7 @@ use borrow.Author.Tests.{eqb-true, eqb-false}
 use lib.Dec.{eqb, leb, lit≤}
 use lib.ListN.{length, getD, take, drop}
 use Rattle.dry.specs.Runs.{room}
-use Rattle.dry.specs.Playing.{partOne}
+use Rattle.flow.specs.Examples.{partOne}
 use Rattle.hex.specs.Records.{Record, BadRecord, DataRecord, ExtendedAddress, EndRecord, highFirst, typed, recordOf, ofSpelt, ofBody, lineRecord}
 use Rattle.hex.specs.Texts.{upperAfter, eventOf, events, contentOf, hexReading}
 use Rattle.image.specs.Checks.{imageFault}

@@ -12,6 +12,7 @@ use Rattle.bench_board.specs.declared.Registers.{Registers}
 use Rattle.bench_board.specs.declared.Running.the-variants.{Idle}
 use Rattle.dry.specs.declared.Turn.{Turn}
 use Rattle.flow.specs.Claim.{Passes, Startable, RightPart}
+use Rattle.flow.specs.Examples.{partOne}
 use Rattle.flow.specs.Exchange.{Met, meet}
 use Rattle.flow.specs.Plan.{plan}
 use Rattle.flow.specs.Target.{Lists}
@@ -20,7 +21,6 @@ use Rattle.flow.specs.declared.Packet.{Packet}
 use Rattle.image.specs.Checks.{metadataAt}
 use Rattle.image.specs.Image.{imageOf}
 use Rattle.image.specs.declared.Header.{Header}
-use Rattle.parts.specs.Parts.{part1}
 use Rattle.parts.specs.declared.Geometry.{Geometry}
 use Rattle.session.specs.Calls.{standing}
 use Rattle.session.specs.Given.{startOf, stepWith}
@@ -28,10 +28,6 @@ use Rattle.session.specs.declared.Outcome.{Outcome}
 use Rattle.session.specs.declared.Outcome.the-variants.{Refused, Ask, Reported}
 use Rattle.session.specs.declared.Report.{Report}
 use Rattle.session.specs.declared.Session.{Session}
-
--- 'part 1's text'
-abbrev pub partOne : Geometry
-partOne = record { part = part1; macros = 1 }
 
 -- 'without mishap': both free lists are at their end
 abbrev pub noLists : Lists

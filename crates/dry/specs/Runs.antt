@@ -5,9 +5,9 @@ use mathlib.Core.List.{List, [], _∷_, _++_}
 use mathlib.Core.Path.{_≡_}
 use Prim.Native.Nat.{ℕ}
 use lib.Dec.{eqb}
-use Rattle.dry.specs.Playing.{partOne}
 use Rattle.dry.specs.declared.Ran.{Ran}
 use Rattle.dry.specs.declared.Ran.the-variants.{Done, Refused}
+use Rattle.flow.specs.Examples.{partOne}
 use Rattle.flow.specs.Plan.{plan}
 use Rattle.flow.specs.declared.Entry.the-variants.{FromOpen}
 use Rattle.hex.specs.Texts.{hexReading}

@@ -12,6 +12,7 @@ use Rattle.parts.specs.Parts.{part1, part3}
 use Rattle.parts.specs.declared.Geometry.{Geometry}
 use Rattle.wire.specs.Examples.{Example, _gives_}
 
+-- part 1 and M 1, as P11 and the dry run have them
 abbrev pub partOne : Geometry
 partOne = record { part = part1; macros = 1 }
 

@@ -1,13 +1,15 @@
 -- Document 01's count, and the counts of a list of moves. Assumes nothing.
 use mathlib.Core.List.{List, [], _∷_}
 use Prim.Native.Nat.{ℕ, suc, _+_, _*_, _/_}
+use Rattle.flow.specs.Packets.{packetOf}
 use Rattle.flow.specs.declared.Entry.{Entry}
 use Rattle.flow.specs.declared.Entry.the-variants.{FromOpen, FromProtected}
 use Rattle.flow.specs.declared.Move.{Move}
+use Rattle.flow.specs.declared.Packet.{Packet}
+use Rattle.flow.specs.declared.Packet.the-variants.{Xres, LineReset, Read, Write}
 use Rattle.flow.specs.declared.Purpose.{Purpose}
 use Rattle.flow.specs.declared.Purpose.the-variants.{Sent, Idcode, TestBit, Poll, Status, Keep, EntryLevel, Reopened, Same, StoredLevel, LastSum}
 use Rattle.flow.specs.declared.Request.{Request}
-use Rattle.flow.specs.declared.Request.the-variants.{Xres, LineReset, ReadIdcode, ReadDrw, WriteTar, WriteDrw, WriteSetup}
 use Rattle.parts.specs.Sizes.{rowBytes, macrosOf, rowsOf, locksIn, imoOf}
 use Rattle.parts.specs.declared.Geometry.{Geometry}
 
@@ -20,15 +22,15 @@ pub record Traffic : Type 0 where
 abbrev pub noTraffic : Traffic
 noTraffic = record { transfers = 0; xresets = 0; lineResets = 0 }
 
--- one request more
+-- one packet more that is handed out
+abbrev pub countingPacket : Packet → Traffic → Traffic
+countingPacket Xres t = record { transfers = t .transfers; xresets = suc (t .xresets); lineResets = t .lineResets }
+countingPacket LineReset t = record { transfers = t .transfers; xresets = t .xresets; lineResets = suc (t .lineResets) }
+countingPacket (Read b) t = record { transfers = suc (t .transfers); xresets = t .xresets; lineResets = t .lineResets }
+countingPacket (Write b w p) t = record { transfers = suc (t .transfers); xresets = t .xresets; lineResets = t .lineResets }
+
 abbrev pub counting : Request → Traffic → Traffic
-counting Xres t = record { transfers = t .transfers; xresets = suc (t .xresets); lineResets = t .lineResets }
-counting LineReset t = record { transfers = t .transfers; xresets = t .xresets; lineResets = suc (t .lineResets) }
-counting ReadIdcode t = record { transfers = suc (t .transfers); xresets = t .xresets; lineResets = t .lineResets }
-counting ReadDrw t = record { transfers = suc (t .transfers); xresets = t .xresets; lineResets = t .lineResets }
-counting (WriteTar w) t = record { transfers = suc (t .transfers); xresets = t .xresets; lineResets = t .lineResets }
-counting (WriteDrw w) t = record { transfers = suc (t .transfers); xresets = t .xresets; lineResets = t .lineResets }
-counting (WriteSetup r w) t = record { transfers = suc (t .transfers); xresets = t .xresets; lineResets = t .lineResets }
+counting q t = countingPacket (packetOf q) t
 
 -- the requests of a list of moves, and its loops: the polls
 unfoldable pub trafficIn : List Move → Traffic

@@ -13,6 +13,7 @@ use Rattle.flow.specs.declared.Entry.the-variants.{FromOpen}
 use Rattle.flow.specs.declared.Move.{Move}
 use Rattle.image.specs.Image.{Image}
 
+-- where a session stands in the flow; the `Session` of crate session is its fields with the image's header (`standOf` there).
 -- at: the index of the standing move; waits, polls, attempts: those running; kept: the IDs, then the first sum; transfers: the
 -- reads and writes answered. 'A report carries number (0 done), the flow step then running .. and transfers'
 pub data Session : Type 0 where

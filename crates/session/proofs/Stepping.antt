@@ -25,7 +25,7 @@ use Rattle.parts.specs.Sizes.{imageSize}
 use Rattle.parts.specs.declared.Geometry.{Geometry}
 use Rattle.parts.specs.declared.Lookup.{Lookup}
 use Rattle.parts.specs.declared.Lookup.the-variants.{Found, Refused as NotFound}
-use Rattle.session.specs.Calls.{answer, sent, handing, standing}
+use Rattle.session.specs.Calls.{answer, handing, standing}
 use Rattle.session.specs.Given.{answers, refusing, outcomeAt, giving, stepOn, stepFor, stepWith}
 use Rattle.session.specs.Possible.{possibleIn}
 use Rattle.session.specs.Sessions.{standOf, resumed}
@@ -56,17 +56,8 @@ fits g (WriteSetup r w) l b = transfer-fits g (WriteSetup r w) (nextEvent (l .li
 
 -- ---- what stands, handed out
 
-sent-counts : (q : Request) (t : Traffic) → sent (packetOf q) t ≡ counting q t
-sent-counts Xres t = refl
-sent-counts LineReset t = refl
-sent-counts ReadIdcode t = refl
-sent-counts ReadDrw t = refl
-sent-counts (WriteTar w) t = refl
-sent-counts (WriteDrw w) t = refl
-sent-counts (WriteSetup r w) t = refl
-
 pub handing-stands : (i : Image) (x : Flow.Session) (t : Traffic) → handing (outcomeAt i x) t ≡ handedOutBy i x t
-handing-stands i (running y n w p a k h) t = sent-counts ((moveAt i y n) .request) t
+handing-stands i (running y n w p a k h) t = refl
 handing-stands i (reported x s h) t = refl
 
 pub standing-new : (i : Image) (o : Outcome) (x : Flow.Session) → standing o (outcomeAt i x) ≡ outcomeAt i x

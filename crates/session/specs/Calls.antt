@@ -5,12 +5,11 @@ use mathlib.Core.Path.{_≡_}
 use Prim.Native.Nat.{ℕ, suc}
 use Rattle.flow.specs.Exchange.{Decoded, known, unknown, decode, Met, meet}
 use Rattle.flow.specs.Monitor.{Monitor, linkError, watch}
-use Rattle.flow.specs.Plan.{Traffic, noTraffic}
+use Rattle.flow.specs.Plan.{Traffic, noTraffic, countingPacket}
 use Rattle.flow.specs.Run.{started}
 use Rattle.flow.specs.Target.{Target, Lists}
 use Rattle.flow.specs.declared.Answer.{Answer}
 use Rattle.flow.specs.declared.Packet.{Packet}
-use Rattle.flow.specs.declared.Packet.the-variants.{Xres, LineReset, Read, Write}
 use Rattle.parts.specs.declared.Geometry.{Geometry}
 use Rattle.session.specs.Given.{stepWith}
 use Rattle.session.specs.declared.Given.{Given}
@@ -19,16 +18,10 @@ use Rattle.session.specs.declared.Outcome.the-variants.{Refused, Ask, Re
 use Rattle.session.specs.declared.Report.{Report}
 use Rattle.session.specs.declared.Session.{Session}
 
--- one packet more that was handed out
-abbrev pub sent : Packet → Traffic → Traffic
-sent Xres t = record { transfers = t .transfers; xresets = suc (t .xresets); lineResets = t .lineResets }
-sent LineReset t = record { transfers = t .transfers; xresets = t .xresets; lineResets = suc (t .lineResets) }
-sent (Read b) t = record { transfers = suc (t .transfers); xresets = t .xresets; lineResets = t .lineResets }
-sent (Write b w p) t = record { transfers = suc (t .transfers); xresets = t .xresets; lineResets = t .lineResets }
-
+-- what a call hands out, counted
 abbrev pub handing : Outcome → Traffic → Traffic
 handing (Refused n) t = t
-handing (Ask p) t = sent p t
+handing (Ask p) t = countingPacket p t
 handing (Reported r) t = t
 
 -- a refused step hands out nothing: what stood still stands
