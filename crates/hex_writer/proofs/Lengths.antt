@@ -141,9 +141,9 @@ module _ {g : Geometry} {h : Header} {bytes : List ℕ} (z : Sized g h bytes) wh
 
   all-apart : Apart (sectionBytes h bytes) ((flashSize g - 1) / 65536) (drop 1 (sectionsOf g))
   all-apart =
-      let f = z .sound .flashSmall in
-      let l = z .sound .locksSmall in
-      let b = z .sound .locks in (
+      let f = z .sizes .flash-most in
+      let l = z .sizes .locks-most in
+      let b = z .sizes .locks-some in (
         omega arith,
         size-at 1 (omega arith),
         omega arith,
@@ -170,5 +170,5 @@ module _ {g : Geometry} {h : Header} {bytes : List ℕ} (z : Sized g h bytes) wh
         arith,
         text-room [] g h bytes,
         text-lines g,
-        first-lines (sectionBytes h bytes) (getD (sectionsOf g) 0 noSection) (drop 1 (sectionsOf g)) (z .sound .flash) (size-at 0 (omega arith)) refl all-apart,
+        first-lines (sectionBytes h bytes) (getD (sectionsOf g) 0 noSection) (drop 1 (sectionsOf g)) (z .sizes .flash-some) (size-at 0 (omega arith)) refl all-apart,
       )

@@ -14,7 +14,7 @@ use Rattle.hex_writer.specs.Claims.{Typed}
 use Rattle.hex_writer.specs.Sized.{Sized}
 use Rattle.hex_writer.proofs.Lengths.{size-at}
 use Rattle.hex_writer.proofs.ReadBack.{AllFitRecords, fits-append, cut-fits, text-says}
-use Rattle.hex_writer.proofs.Entries.{sound}
+use Rattle.hex.proofs.Sizes as table
 use Rattle.image.proofs.Sections.{headerWith}
 use Rattle.image.specs.Checks.{imageFault}
 use Rattle.image.specs.Sections.{sectionsOf, sectionBytes, headerBytes, headerOf}
@@ -67,15 +67,15 @@ three-parts l e =
 
 module _ {g : Geometry} {h : Header} {bytes : List ℕ} (found : lookupOf (h .part) (h .macros) ≡ Found g) (t : Typed h bytes) (exact : length bytes ≡ imageSize g) where
   pub sized : Sized g h bytes
-  sized = record { sound = sound (h .part) (h .macros) g found; metadata = t .metadata; exact = exact }
+  sized = record { sizes = table.sized (h .part) (h .macros) g found; metadata = t .metadata; exact = exact }
 
   abbrev f : Section → List ℕ
   f = sectionBytes h bytes
 
   filled : Filled f (sectionsOf g)
   filled =
-      let a = sized .sound .flash in
-      let b = sized .sound .locks in (
+      let a = sized .sizes .flash-some in
+      let b = sized .sizes .locks-some in (
         a,
         size-at sized 0 (omega arith),
         (
@@ -98,8 +98,8 @@ module _ {g : Geometry} {h : Header} {bytes : List ℕ} (found : lookupOf (h .pa
 
   aligned : Aligned f (sectionsOf g)
   aligned =
-      let a = sized .sound .flashSmall in
-      let b = sized .sound .locksSmall in (
+      let a = sized .sizes .flash-most in
+      let b = sized .sizes .locks-most in (
         omega arith,
         omega arith,
         in-image (flashSize g) 0,

@@ -5,9 +5,10 @@ use Prim.Native.Nat.{ℕ, zero, suc, _+_, _*_, _≤_, _<_}
 use native.Mathlib.Omega.{arith}
 use lib.ListN.{length, getD, drop, length-append, drop-of-length-le}
 use lib.Seq.{sets, drop-cons}
+use Rattle.hex.specs.Steps.{TableSizes}
 use Rattle.hex.specs.Written.{extendedLine, endLine, linesFrom, writtenText, textOf, uppersIn, textLength}
 use Rattle.hex_writer.specs.Lines.{positionAfter}
-use Rattle.hex_writer.specs.Sized.{Sound, Sized, Laid}
+use Rattle.hex_writer.specs.Sized.{Sized, Laid}
 use Rattle.hex_writer.specs.declared.Position.{Position}
 use Rattle.hex_writer.proofs.Lines as lines
 use Rattle.image.specs.Sections.{sectionsOf, noSection, sectionBytes, headerBytes}
@@ -34,10 +35,10 @@ pub pieces-none : (f : Section → List ℕ) (ss : List Section) (k : ℕ) → l
 unfolding pieces
 pieces-none f ss k h = ap (pieces f) (drop-of-length-le ss {i = k} h)
 
-pub small-at : (g : Geometry) → Sound g → (k : ℕ) → k < 5 → getD (sectionsOf g) k noSection .offset + getD (sectionsOf g) k noSection .size ≤ 33554432
-small-at g z zero i = omega (arith, z .flashSmall)
+pub small-at : (g : Geometry) → TableSizes g → (k : ℕ) → k < 5 → getD (sectionsOf g) k noSection .offset + getD (sectionsOf g) k noSection .size ≤ 33554432
+small-at g z zero i = omega (arith, z .flash-most)
 small-at g z (suc zero) i = omega arith
-small-at g z (suc (suc zero)) i = omega (arith, z .flashSmall, z .locksSmall)
+small-at g z (suc (suc zero)) i = omega (arith, z .flash-most, z .locks-most)
 small-at g z (suc (suc (suc zero))) i = omega arith
 small-at g z (suc (suc (suc (suc zero)))) i = omega arith
 small-at g z (suc (suc (suc (suc (suc k))))) i = absurd (omega arith)
@@ -48,11 +49,11 @@ module _ {g : Geometry} {h : Header} {bytes : List ℕ} (z : Sized g h bytes) wh
 
   pub laid-at : (k : ℕ) → k < 5 → Laid h bytes (getD (sectionsOf g) k noSection)
   unfolding imageSize
-  laid-at zero i = record { some = z .sound .flash; small = small-at g (z .sound) 0 i; high = omega (arith, z .sound .flashSmall); inside = omega (arith, z .exact) }
-  laid-at (suc zero) i = record { some = omega arith; small = small-at g (z .sound) 1 i; high = omega arith; inside = omega (arith, header-size) }
-  laid-at (suc (suc zero)) i = record { some = z .sound .locks; small = small-at g (z .sound) 2 i; high = omega (arith, z .sound .locksSmall); inside = omega (arith, z .exact) }
-  laid-at (suc (suc (suc zero))) i = record { some = omega arith; small = small-at g (z .sound) 3 i; high = omega arith; inside = omega (arith, header-size) }
-  laid-at (suc (suc (suc (suc zero)))) i = record { some = omega arith; small = small-at g (z .sound) 4 i; high = omega arith; inside = omega (arith, header-size) }
+  laid-at zero i = record { some = z .sizes .flash-some; small = small-at g (z .sizes) 0 i; high = omega (arith, z .sizes .flash-most); inside = omega (arith, z .exact) }
+  laid-at (suc zero) i = record { some = omega arith; small = small-at g (z .sizes) 1 i; high = omega arith; inside = omega (arith, header-size) }
+  laid-at (suc (suc zero)) i = record { some = z .sizes .locks-some; small = small-at g (z .sizes) 2 i; high = omega (arith, z .sizes .locks-most); inside = omega (arith, z .exact) }
+  laid-at (suc (suc (suc zero))) i = record { some = omega arith; small = small-at g (z .sizes) 3 i; high = omega arith; inside = omega (arith, header-size) }
+  laid-at (suc (suc (suc (suc zero)))) i = record { some = omega arith; small = small-at g (z .sizes) 4 i; high = omega arith; inside = omega (arith, header-size) }
   laid-at (suc (suc (suc (suc (suc k))))) i = absurd (omega arith)
 
 -- how far the loop over the sections has come
@@ -107,22 +108,22 @@ overall-none f ss k h = ap (overall f) (drop-of-length-le ss {i = k} h)
 
 -- how far the measuring has come
 pub record Measuring (g : Geometry) (sum k : ℕ) : Type 0 where
-  pub sound : Sound g
+  pub sizes : TableSizes g
   pub within : k ≤ 5
   pub small : sum ≤ 13 + 100000000 * k
   pub whole : textLength g ≡ sum + overall linesLength (drop k (sectionsOf g))
 
-pub measure-start : (g : Geometry) → Sound g → Measuring g 13 0
-measure-start g z = record { sound = z; within = omega arith; small = omega arith; whole = text-lines g }
+pub measure-start : (g : Geometry) → TableSizes g → Measuring g 13 0
+measure-start g z = record { sizes = z; within = omega arith; small = omega arith; whole = text-lines g }
 
 module _ {g : Geometry} {sum k : ℕ} (v : Measuring g sum k) where
   module _ (some : k < 5) (s : Section) (is : s ≡ getD (sectionsOf g) k noSection) where
     pub measure-small : s .size ≤ 33554432
-    measure-small = omega (arith, small-at g (v .sound) k some, ap (λ (x : Section). x .size) is)
+    measure-small = omega (arith, small-at g (v .sizes) k some, ap (λ (x : Section). x .size) is)
 
     pub measure-turn : (n : ℕ) → n ≡ linesLength s → n ≤ 100000000 → Measuring g (sum + n) (k + 1)
     measure-turn n e l = record {
-      sound = v .sound;
+      sizes = v .sizes;
       within = omega arith;
       small = omega (arith, v .small);
       whole = omega (arith, v .whole, overall-turn linesLength (sectionsOf g) k noSection some, e ∙ ap linesLength is);

@@ -3,22 +3,16 @@ use mathlib.Core.Path.{_≡_}
 use Prim.Native.Nat.{ℕ, _+_, _≤_, _<_}
 use mathlib.Core.List.{List}
 use lib.ListN.{length}
+use Rattle.hex.specs.Steps.{TableSizes}
 use Rattle.image.specs.Sections.{locationBytes}
 use Rattle.image.specs.declared.Header.{Header}
 use Rattle.image.specs.declared.Section.{Section}
-use Rattle.parts.specs.Sizes.{flashSize, lockTotal, imageSize}
+use Rattle.parts.specs.Sizes.{imageSize}
 use Rattle.parts.specs.declared.Geometry.{Geometry}
-
--- sizes of the part table: neither flash nor protection is empty or large
-pub record Sound (g : Geometry) : Type 0 where
-  pub flash : 0 < flashSize g
-  pub flashSmall : flashSize g ≤ 16777216
-  pub locks : 0 < lockTotal g
-  pub locksSmall : lockTotal g ≤ 65536
 
 -- an image of a geometry's sizes
 pub record Sized (g : Geometry) (h : Header) (bytes : List ℕ) : Type 0 where
-  pub sound : Sound g
+  pub sizes : TableSizes g
   pub metadata : length (h .metadata) ≡ 12
   pub exact : length bytes ≡ imageSize g
 

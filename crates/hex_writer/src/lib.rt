@@ -6,9 +6,10 @@ ghost use lib.ListN.{length};
 ghost use lib.Seq.{sets};
 ghost use Rattle.image.specs.Words.{total};
 ghost use Rattle.text.specs.Digits.{capital as capitalOf, pairsOf};
+ghost use Rattle.hex.specs.Steps.{TableSizes};
 ghost use Rattle.hex.specs.Written.{lineText, dataLine, extendedLine, endLine, newUpper, linesFrom, textOf, textLength};
 ghost use Rattle.hex_writer.specs.Lines.{capitalsFrom, onePiece, positionAfter};
-ghost use Rattle.hex_writer.specs.Sized.{Sound, Sized, Laid};
+ghost use Rattle.hex_writer.specs.Sized.{Sized, Laid};
 ghost use Rattle.hex_writer.specs.Writing.{writeOf, textAfter};
 ghost use Rattle.image.specs.Sections.{sectionsOf, sectionBytes};
 ghost use Rattle.parts.specs.Parts.{lookupOf};
@@ -221,7 +222,7 @@ fn lines_length(size: usize) -> usize
 
 // The length of an image's text.
 fn text_length(g: Geometry) -> usize
-    requires { ⌜ Sound g ⌝ }
+    requires { ⌜ TableSizes g ⌝ }
     ensures { λ r. ⌜ r ≡ textLength g ⌝ }
 {
     let mut sum: usize = 13;

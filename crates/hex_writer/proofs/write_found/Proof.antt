@@ -6,7 +6,7 @@ use borrow.Author.Needs.{needs, length-unmapped}
 use Rattle.hex_writer.specs.Sized.{Sized}
 use Rattle.hex_writer.proofs.Answers.{wrong-size, no-room, faulty, done}
 use Rattle.hex_writer.proofs.Lengths.{text-length}
-use Rattle.hex_writer.proofs.Entries.{sound}
+use Rattle.hex.proofs.Sizes.{sized}
 use Rattle.hex_writer.proofs.write_found.Statement.{statement}
 use Rattle.hex_writer.proofs.write_found.Tie as tie
 
@@ -35,7 +35,7 @@ put-text-requires c κs =
     let b = c .before .before .before .before .before in
     let s = b .before .before .before .before in
     let z : Sized (s .args .g) (s .args .h) (s .args .bytes .now) = record {
-      sound = sound (s .args .h .part) (s .args .h .macros) (s .args .g) (s .pre);
+      sizes = sized (s .args .h .part) (s .args .h .macros) (s .args .g) (s .pre);
       metadata = length-unmapped ℕ (s .args .h .metadata) 12 (s .good .1 .1 .0 .1 .1 .1 .1 .1 .0 .1 .0 .1);
       exact = b .if1 .left ∙ b .before .image-size .ensures;
     } in
@@ -47,7 +47,7 @@ returns-4 c =
     let s = b .before .before .before .before in
     let n = c .before .before .before .before .before .before .before .text-length .ensures in
     let z : Sized (s .args .g) (s .args .h) (s .args .bytes .now) = record {
-      sound = sound (s .args .h .part) (s .args .h .macros) (s .args .g) (s .pre);
+      sizes = sized (s .args .h .part) (s .args .h .macros) (s .args .g) (s .pre);
       metadata = length-unmapped ℕ (s .args .h .metadata) 12 (s .good .1 .1 .0 .1 .1 .1 .1 .1 .0 .1 .0 .1);
       exact = b .if1 .left ∙ b .before .image-size .ensures;
     } in
@@ -64,7 +64,7 @@ write-found-spec =
     (λ c κs. search needs)
     (λ c κs. search needs)
     returns
-    (λ c κs. sound (c .before .before .before .before .args .h .part) (c .before .before .before .before .args .h .macros) _ (c .before .before .before .before .pre))
+    (λ c κs. sized (c .before .before .before .before .args .h .part) (c .before .before .before .before .args .h .macros) _ (c .before .before .before .before .pre))
     (λ c κs. search needs)
     returns-2
     (λ c κs. search needs)
