@@ -1,4 +1,4 @@
-//! Finds libcore_c.a: in HALZUQEEN_LIB, or where `rt staticlib core_c` writes it.
+//! Finds libcore_c.a, and with the feature `bench` libbench_c.a: in HALZUQEEN_LIB, or where `rt staticlib` writes them.
 
 use std::env;
 use std::path::PathBuf;

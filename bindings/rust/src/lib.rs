@@ -13,6 +13,8 @@
 //! ```
 #![no_std]
 
+#[cfg(feature = "bench")]
+pub mod bench;
 pub mod raw;
 
 /// A refusal's number, 1 to 15 (document 01, 'Who brings a number about').

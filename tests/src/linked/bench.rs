@@ -6,7 +6,7 @@ use crate::image::Header;
 use crate::rng::Rng;
 use crate::session::Outcome;
 use crate::wire::{request_byte, Answer, Register, Request};
-use halzuqeen::raw;
+use halzuqeen::{bench, raw};
 
 const READS: [u8; 2] = [Register::IdCode.read_byte(), Register::Drw.read_byte()];
 const WRITES: [u8; 5] = [
@@ -46,8 +46,8 @@ impl<F: Fate> Fate for Taken<'_, F> {
     }
 }
 
-fn event_bytes(event: &LineEvent, elsewhere: u32) -> [u8; raw::BENCH_EVENT] {
-    let mut bytes = [0; raw::BENCH_EVENT];
+fn event_bytes(event: &LineEvent, elsewhere: u32) -> [u8; bench::EVENT] {
+    let mut bytes = [0; bench::EVENT];
     bytes[0] = match event.line {
         Line::Ok => 0,
         Line::Wait => 1,
@@ -63,8 +63,8 @@ fn event_bytes(event: &LineEvent, elsewhere: u32) -> [u8; raw::BENCH_EVENT] {
     bytes
 }
 
-fn call_bytes(call: &CallOutcome) -> [u8; raw::BENCH_CALL] {
-    let mut bytes = [0; raw::BENCH_CALL];
+fn call_bytes(call: &CallOutcome) -> [u8; bench::CALL] {
+    let mut bytes = [0; bench::CALL];
     bytes[..4].copy_from_slice(&call.busy.to_le_bytes());
     bytes[4] = call.success.into();
     bytes[5..9].copy_from_slice(&call.status.to_le_bytes());
@@ -73,8 +73,8 @@ fn call_bytes(call: &CallOutcome) -> [u8; raw::BENCH_CALL] {
 }
 
 /// All of our board but flash, locks, latch and PARAMS, as the bench board has it.
-fn board_bytes(board: &Board) -> [u8; raw::BENCH_BOARD] {
-    let mut bytes = [0; raw::BENCH_BOARD];
+fn board_bytes(board: &Board) -> [u8; bench::BOARD] {
+    let mut bytes = [0; bench::BOARD];
     let ids = board.ids;
     let words = [(0, ids.idcode), (8, board.privileged), (14, board.sysarg), (18, board.sysreq)];
     for (at, word) in words.into_iter().chain([(22, board.test_mode), (26, board.tar), (30, board.posted)]) {
@@ -91,7 +91,7 @@ fn board_bytes(board: &Board) -> [u8; raw::BENCH_BOARD] {
 }
 
 /// An answer's eight bytes, with what was taken from the lists.
-fn answer_bytes(answer: Answer, used: u8) -> [u8; raw::BENCH_ANSWER] {
+fn answer_bytes(answer: Answer, used: u8) -> [u8; bench::ANSWER] {
     let raw::Answer { reset_done, ack, word, parity } = abi_answer(answer);
     let [a, b, c, d] = word.to_le_bytes();
     [reset_done, ack, parity, used, a, b, c, d]
@@ -105,7 +105,7 @@ pub struct Pair {
     pub ours: Board,
     part: u8,
     macros: u8,
-    board: [u8; raw::BENCH_BOARD],
+    board: [u8; bench::BOARD],
     flash: Vec<u8>,
     locks: Vec<u8>,
     latch: Vec<u8>,
@@ -169,18 +169,18 @@ impl Pair {
         (answer, taken.event, taken.call)
     }
 
-    fn meet_theirs(&mut self, request: Request, event: &[u8], call: &[u8]) -> [u8; raw::BENCH_ANSWER] {
-        let mut answer = [super::UNWRITTEN; raw::BENCH_ANSWER];
-        let bench = raw::Bench {
+    fn meet_theirs(&mut self, request: Request, event: &[u8], call: &[u8]) -> [u8; bench::ANSWER] {
+        let mut answer = [super::UNWRITTEN; bench::ANSWER];
+        let bench = bench::Bench {
             board: &mut self.board,
             flash: &mut self.flash,
             locks: &mut self.locks,
             latch: &mut self.latch,
             params: &mut self.params,
         };
-        let befalls = raw::Befalls { event, call, left: [&self.left[0], &self.left[1], &self.left[2]] };
+        let befalls = bench::Befalls { event, call, left: [&self.left[0], &self.left[1], &self.left[2]] };
         let request = outcome_bytes(Outcome::Request(request));
-        assert_eq!(raw::bench_meet(self.part, self.macros, bench, befalls, &request, &mut answer), 0);
+        assert_eq!(bench::meet(self.part, self.macros, bench, befalls, &request, &mut answer), 0);
         answer
     }
 

@@ -9,7 +9,7 @@ use crate::parts::{KILL, SIZES};
 use crate::rng::Rng;
 use crate::session::Outcome;
 use crate::texts::sample_image;
-use halzuqeen::raw;
+use halzuqeen::{bench, raw};
 
 /// What a buffer holds that a refused call must leave.
 const LEFT: u8 = 0x5A;
@@ -105,8 +105,7 @@ fn parts() -> u64 {
 }
 
 /// What the bench board is lent with fixed sizes: board, event, call, request, answer.
-const BENCH: [usize; 5] =
-    [raw::BENCH_BOARD, raw::BENCH_EVENT, raw::BENCH_CALL, raw::OUTCOME, raw::BENCH_ANSWER];
+const BENCH: [usize; 5] = [bench::BOARD, bench::EVENT, bench::CALL, raw::OUTCOME, bench::ANSWER];
 
 /// The bench board meets a request; refused, it writes nothing.
 fn meet(part: u8, macros: u8, lent: &mut [Vec<u8>; 5]) -> u32 {
@@ -114,9 +113,9 @@ fn meet(part: u8, macros: u8, lent: &mut [Vec<u8>; 5]) -> u32 {
     let [board, event, call, request, answer] = lent;
     let (mut flash, mut locks, mut latch, mut params) = ([LEFT; 256], [LEFT; 64], [LEFT; 64], [0x5A5A; 18]);
     let bench =
-        raw::Bench { board, flash: &mut flash, locks: &mut locks, latch: &mut latch, params: &mut params };
-    let befalls = raw::Befalls { event, call, left: [&[], &[], &[]] };
-    let number = raw::bench_meet(part, macros, bench, befalls, request, answer);
+        bench::Bench { board, flash: &mut flash, locks: &mut locks, latch: &mut latch, params: &mut params };
+    let befalls = bench::Befalls { event, call, left: [&[], &[], &[]] };
+    let number = bench::meet(part, macros, bench, befalls, request, answer);
     if number != 0 {
         assert!(flash.iter().chain(&locks).chain(&latch).all(|&byte| byte == LEFT) && params == [0x5A5A; 18]);
         assert_eq!(*lent, before);
