@@ -25,5 +25,5 @@ list-examples = record {
   answer = λ g bytes s p e. record { state = _; steps = answer p e none; session = refl; board = refl };
   refusal = refused;
   later = λ g bytes s a r e. record { state = _; steps = later a r e none; session = refl; board = refl };
-  sent = λ b w p. refl;
+  counted = λ b w p. refl;
 }

@@ -3,12 +3,12 @@ use mathlib.Core.List.{List}
 use mathlib.Core.Path.{_≡_}
 use Prim.Native.Nat.{ℕ}
 use Rattle.flow.specs.Exchange.{meet}
-use Rattle.flow.specs.Plan.{noTraffic}
+use Rattle.flow.specs.Plan.{noTraffic, countingPacket}
 use Rattle.flow.specs.declared.Answer.{Answer}
 use Rattle.flow.specs.declared.Packet.{Packet}
 use Rattle.flow.specs.declared.Packet.the-variants.{Xres, LineReset, Read, Write}
 use Rattle.parts.specs.declared.Geometry.{Geometry}
-use Rattle.session.specs.Calls.{State, Steps, sent}
+use Rattle.session.specs.Calls.{State, Steps}
 use Rattle.session.specs.Given.{stepWith}
 use Rattle.session.specs.declared.Outcome.the-variants.{Refused, Ask, Reported}
 use Rattle.session.specs.declared.Report.{Report}
@@ -34,5 +34,5 @@ pub record ListExamples : Type 0 where
   pub later : (g : Geometry) (bytes : List ℕ) (s : State) (a : Answer) (r : Report) → s .stands ≡ Reported r
       → Reached g bytes 0 s (λ t. t .session ≡ (stepWith (s .session) bytes a) .session) (λ t. t .target ≡ s .target)
   -- 'the reads and writes handed out, repeats included, resets not', and the resets
-  pub sent : (byte word parityBit : ℕ)
-      → sent (Write byte word parityBit) (sent (Read byte) (sent LineReset (sent Xres noTraffic))) ≡ record { transfers = 2; xresets = 1; lineResets = 1 }
+  pub counted : (byte word parityBit : ℕ)
+      → countingPacket (Write byte word parityBit) (countingPacket (Read byte) (countingPacket LineReset (countingPacket Xres noTraffic))) ≡ record { transfers = 2; xresets = 1; lineResets = 1 }
