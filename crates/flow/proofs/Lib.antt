@@ -29,3 +29,4 @@ pub mod Examples
 pub mod Mishaps
 pub mod BoardExamples
 pub mod Starts
+pub mod Judgements

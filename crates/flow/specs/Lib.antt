@@ -16,3 +16,4 @@ pub mod Examples
 pub mod Mishaps
 pub mod BoardExamples
 pub mod Starts
+pub mod Judgements

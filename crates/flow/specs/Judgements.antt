@@ -1,0 +1,70 @@
+-- What each word is judged by, by example: a word that passes beside one that just does not. Assumes nothing.
+use mathlib.Core.List.{[], _∷_}
+use mathlib.Core.Path.{_≡_}
+use Prim.Native.Nat.{ℕ}
+use Rattle.flow.specs.Examples.{onePart}
+use Rattle.flow.specs.Judge.{Judged, go, pollAgain, enter, report, judge}
+use Rattle.flow.specs.declared.Entry.the-variants.{FromOpen, FromProtected}
+use Rattle.flow.specs.declared.Purpose.the-variants.{Idcode, TestBit, Poll, Status, EntryLevel, Reopened, Same, StoredLevel, LastSum}
+use Rattle.image.specs.Image.{Image}
+use Rattle.parts.specs.Parts.{part2}
+
+-- images of part 1 with this sum and level, and one of part 2
+abbrev pub imageWith : (sum level : ℕ) → Image
+imageWith s l = record {
+  geometry = onePart;
+  header = record { part = 1; macros = 1; sum = s; metadata = 0 ∷ 2 ∷ 0x0A ∷ 0x23 ∷ 0x45 ∷ 0x9A ∷ []; level = l };
+  flash = [];
+  protection = [];
+}
+
+abbrev pub ofPart2 : Image
+ofPart2 = record {
+  geometry = record { part = part2; macros = 1 };
+  header = record { part = 2; macros = 1; sum = 0; metadata = 0 ∷ 2 ∷ 0x04 ∷ 0x23 ∷ 0x45 ∷ 0x93 ∷ []; level = 1 };
+  flash = [];
+  protection = [];
+}
+
+abbrev pub openImage : Image
+openImage = imageWith 0 1
+
+pub record JudgeExamples : Type 0 where
+  -- 'IDCODE 0x0BB11477' (16)
+  pub idcode : judge openImage Idcode 0 7 0x0BB11477 ≡ go 0 7
+  pub otherIdcode : judge openImage Idcode 0 7 0x0BC11477 ≡ report 16
+  -- 'Read it, bit 31 set' (17)
+  pub testBit : judge openImage TestBit 0 7 0x80000000 ≡ go 0 7
+  pub noTestBit : judge openImage TestBit 0 7 0x7FFFFFFF ≡ report 17
+  -- 'until bits 31 and 28 are 0'; 'at most 10,000 polls' (18)
+  pub free : judge openImage Poll 9999 7 0x6FFFFFFF ≡ go 0 7
+  pub again : judge openImage Poll 9998 7 0x10000000 ≡ pollAgain 9999 7
+  pub never : judge openImage Poll 9999 7 0x80000000 ≡ report 18
+  -- 'success is top digit 0xA' (19)
+  pub success : judge openImage Status 0 7 0xAFFFFFFF ≡ go 0 7
+  pub failure : judge openImage Status 0 7 0x2A000000 ≡ report 19
+  -- 'Bits 0 to 7 of SYSARG are low, 8 to 15 high ..; SYSREQ bits 0 to 7 family, 12 to 15 level in effect': all other bits are free
+  pub fromOpen : judge openImage EntryLevel 0 0xFFFF0AFF 0xFFFF1F9A ≡ enter FromOpen 0 0xFFFF0AFF
+  pub fromProtected : judge openImage EntryLevel 0 0xA0450A23 0x209A ≡ enter FromProtected 0 0xA0450A23
+  -- '21 level not OPEN or PROTECTED'; all four bits count; 'not OPEN after reopening'
+  pub kill : judge openImage EntryLevel 0 0xA0450A23 0x409A ≡ report 21
+  pub nine : judge openImage EntryLevel 0 0xA0450A23 0x909A ≡ report 21
+  pub reopened : judge openImage Reopened 0 0xA0450A23 0x109A ≡ go 0 0xA0450A23
+  pub notReopened : judge openImage Reopened 0 0xA0450A23 0x209A ≡ report 21
+  -- '20 is judged before 21': high, family, and 'low must fit the part', not the image
+  pub high : judge openImage EntryLevel 0 0xA0450B23 0x909A ≡ report 20
+  pub family : judge openImage EntryLevel 0 0xA0450A23 0x909B ≡ report 20
+  pub lowFits : judge ofPart2 EntryLevel 0 0xA045047F 0x1093 ≡ enter FromOpen 0 0xA045047F
+  pub lowFitsNot : judge ofPart2 EntryLevel 0 0xA0450480 0x1093 ≡ report 20
+  -- 'comparing each as read' (22, 23)
+  pub same : judge openImage (Same 0x04030201 22) 0 7 0x04030201 ≡ go 0 7
+  pub notSame : judge openImage (Same 0x04030201 22) 0 7 0x84030201 ≡ report 22
+  -- 'top byte of the word .., its low four bits, with 0 and 1 exchanged' (24)
+  pub stored : judge openImage StoredLevel 0 7 0xF0FFFFFF ≡ go 0 7
+  pub storedVirgin : judge openImage StoredLevel 0 7 0x01000000 ≡ report 24
+  pub storedEight : judge openImage StoredLevel 0 7 0x08000000 ≡ report 24
+  pub storedKill : judge (imageWith 0 4) StoredLevel 0 7 0x04000000 ≡ go 0 7
+  pub storedTwelve : judge (imageWith 0 4) StoredLevel 0 7 0x0C000000 ≡ report 24
+  -- '(this sum - that sum) mod 65536 equals the image's sum' (25), of 28 bits each
+  pub sum : judge (imageWith 1 1) LastSum 0 0xAFFFFFFF 0xA0000000 ≡ report 0
+  pub otherSum : judge (imageWith 2 1) LastSum 0 0xAFFFFFFF 0xA0000000 ≡ report 25
