@@ -1,10 +1,10 @@
 -- The examples of what each word is judged by hold. Assumes nothing.
 use mathlib.Core.Path.{refl}
-use Rattle.flow.specs.Judge.{free, testBitSet, succeeded, idsFit, storedIn, sumsFit, judge}
+use Rattle.flow.specs.Judge.{free, testBitSet, succeeded, idsFit, levelShown, sumsFit, judge}
 use Rattle.flow.specs.Judgements.{JudgeExamples}
 
 pub judge-examples : JudgeExamples
-unfolding judge free testBitSet succeeded idsFit storedIn sumsFit
+unfolding judge free testBitSet succeeded idsFit levelShown sumsFit
 judge-examples = record {
   idcode = refl;
   otherIdcode = refl;

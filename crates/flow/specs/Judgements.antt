@@ -2,7 +2,7 @@
 use mathlib.Core.List.{[], _∷_}
 use mathlib.Core.Path.{_≡_}
 use Prim.Native.Nat.{ℕ}
-use Rattle.flow.specs.Examples.{onePart}
+use Rattle.flow.specs.Examples.{partOne}
 use Rattle.flow.specs.Judge.{Judged, go, pollAgain, enter, report, judge}
 use Rattle.flow.specs.declared.Entry.the-variants.{FromOpen, FromProtected}
 use Rattle.flow.specs.declared.Purpose.the-variants.{Idcode, TestBit, Poll, Status, EntryLevel, Reopened, Same, StoredLevel, LastSum}
@@ -12,7 +12,7 @@ use Rattle.parts.specs.Parts.{part2}
 -- images of part 1 with this sum and level, and one of part 2
 abbrev pub imageWith : (sum level : ℕ) → Image
 imageWith s l = record {
-  geometry = onePart;
+  geometry = partOne;
   header = record { part = 1; macros = 1; sum = s; metadata = 0 ∷ 2 ∷ 0x0A ∷ 0x23 ∷ 0x45 ∷ 0x9A ∷ []; level = l };
   flash = [];
   protection = [];

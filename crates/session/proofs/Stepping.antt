@@ -9,8 +9,7 @@ use lib.Dec.{eqb}
 use lib.ListN.{length}
 use Rattle.flow.specs.Exchange.{known, meetOn, transferred, met, killed, barred, carriedOut}
 use Rattle.flow.specs.Monitor.{isReset}
-use Rattle.flow.specs.Packets.{packetOf}
-use Rattle.flow.specs.Plan.{Traffic, counting}
+use Rattle.flow.specs.Plan.{Traffic}
 use Rattle.flow.specs.Run.{handedOutBy}
 use Rattle.flow.specs.Session.{running, reported, moveAt, stepOf}
 use Rattle.flow.specs.Session as Flow
