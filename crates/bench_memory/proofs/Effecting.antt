@@ -2,7 +2,7 @@
 use mathlib.Core.Bool.{Bool, true, false, _&&_, cond}
 use mathlib.Core.List.{List}
 use mathlib.Core.Path.{_≡_, refl}
-use Prim.Native.Nat.{ℕ, _+_, _*_, _/_, _%_}
+use Prim.Native.Nat.{ℕ, _+_, _*_, _/_, _%_, _<_}
 use native.Mathlib.Omega.{arith}
 use borrow.Author.Tests.{ne-eqb}
 use lib.Dec.{eqb}
@@ -30,26 +30,34 @@ module _ (g : Geometry) (v a st : ℕ) where
       low true = omega arith
       low false = omega arith
 
+-- one of two small levels
+pub either-small : (z : Bool) (l s r : ℕ) → r ≡ cond z l s → l < 16 → s < 16 → r < 16
+either-small true l s r e p q = omega (arith, e, p)
+either-small false l s r e p q = omega (arith, e, q)
+
 -- a successful call's effect, by its number
 module _ (g : Geometry) (v a st : ℕ) (ps : List ℕ) (c : ℕ) where
-  pub erasing : c ≡ 0x0A → Effects g v a st ps c (record { act = Erase; stored = st })
+  twice : st % 16 % 16 ≡ st % 16
+  twice = omega arith
+
+  pub erasing : c ≡ 0x0A → Effects g v a st ps c (record { act = Erase; stored = st % 16 })
   unfolding effectOf
-  erasing e x b p = (rw e, refl)
+  erasing e x b p = (rw (e, twice), refl)
 
   pub filling : c ≡ 4 → (n : ℕ)
       → take n (bytesIn (drop 2 ps)) ≡ take (getD (listAt a ps) 1 0 + 1) (bytesIn (drop 2 (listAt a ps)))
-      → Effects g v a st ps c (record { act = FillLatch n; stored = st })
+      → Effects g v a st ps c (record { act = FillLatch n; stored = st % 16 })
   unfolding effectOf
-  filling e n f x b p = (rw (e, p, f), refl)
+  filling e n f x b p = (rw (e, p, f, twice), refl)
 
   pub programming : c ≡ 6 → (w : ℕ) → w ≡ getD (listAt a ps) 0 0
-      → Effects g v a st ps c (record { act = ProgramRow (w / 65536 * rowBytes g); stored = st })
+      → Effects g v a st ps c (record { act = ProgramRow (w / 65536 * rowBytes g); stored = st % 16 })
   unfolding effectOf
-  programming e w f x b p = (rw (e, p, f), refl)
+  programming e w f x b p = (rw (e, p, f, twice), refl)
 
   pub protecting : c ≡ 0x0D → (t : Effect) → Protects g v a st t → Effects g v a st ps c t
   protecting e t f x b p = rw e (f ps x b p)
 
-  pub idling : ¬ (c ≡ 0x0A) → ¬ (c ≡ 4) → ¬ (c ≡ 6) → ¬ (c ≡ 0x0D) → Effects g v a st ps c (record { act = Keep; stored = st })
+  pub idling : ¬ (c ≡ 0x0A) → ¬ (c ≡ 4) → ¬ (c ≡ 6) → ¬ (c ≡ 0x0D) → Effects g v a st ps c (record { act = Keep; stored = st % 16 })
   unfolding effectOf
-  idling n1 n2 n3 n4 x b p = (rw (ne-eqb _ _ n1, ne-eqb _ _ n2, ne-eqb _ _ n3, ne-eqb _ _ n4), refl)
+  idling n1 n2 n3 n4 x b p = (rw (ne-eqb _ _ n1, ne-eqb _ _ n2, ne-eqb _ _ n3, ne-eqb _ _ n4, twice), refl)

@@ -84,7 +84,7 @@ fn reopens(effect: u8, sent: u8) -> bool
 
 // Call 0x0D: the macro's locks, and on macro 0 the level; with PROTECTED in effect and OPEN sent it erases.
 fn protect(g: Geometry, effect: u8, sysarg: u32, stored: u8) -> Effect
-    ensures { λ e. ⌜ Protects g effect sysarg stored e ⌝ }
+    ensures { λ e. ⌜ Protects g effect sysarg stored e ⌝ ∗ ⌜ e .stored < 16 ⌝ }
 {
     let l = level_sent(sysarg);
     let m = macro_sent(sysarg);
@@ -104,26 +104,26 @@ fn protect(g: Geometry, effect: u8, sysarg: u32, stored: u8) -> Effect
 
 // What a successful call does to the memory.
 pub fn effect_of(g: Geometry, effect: u8, sysarg: u32, stored: u8, params: &[u32], c: u8) -> Effect
-    ensures { λ e. ⌜ Effects g effect sysarg stored (now (params .entry)) c e ⌝ }
+    ensures { λ e. ⌜ Effects g effect sysarg stored (now (params .entry)) c e ⌝ ∗ ⌜ e .stored < 16 ⌝ }
 {
     let p = g.part;
     if c == 0x0A {
         return Effect {
             act: Act::Erase,
-            stored: stored,
+            stored: stored % 16,
         };
     }
     if c == 4 {
         return Effect {
             act: Act::FillLatch(latch_count(sysarg, params)),
-            stored: stored,
+            stored: stored % 16,
         };
     }
     if c == 6 {
         let row = (list_word(sysarg, params, 0) / 65536) as usize;
         return Effect {
             act: Act::ProgramRow(row * (p.row_bytes as usize)),
-            stored: stored,
+            stored: stored % 16,
         };
     }
     if c == 0x0D {
@@ -131,6 +131,6 @@ pub fn effect_of(g: Geometry, effect: u8, sysarg: u32, stored: u8, params: &[u32
     }
     Effect {
         act: Act::Keep,
-        stored: stored,
+        stored: stored % 16,
     }
 }

@@ -9,7 +9,7 @@ returns c =
     let e = c .before .before .before in
     let a = e .before .before .before .before .args in
     rw (c .end .ensures)
-    (succeeding (a .g) (a .r) (a .flash .now) (a .params .now) (a .c) _ _ (e .effect-of .result) (e .effect-of .ensures) (c .before .before .sysarg-after .ensures) (c .before .sysreq-after .ensures))
+    (succeeding (a .g) (a .r) (a .flash .now) (a .params .now) (a .c) _ _ (e .effect-of .result) (e .effect-of .ensures .0) (c .before .before .sysarg-after .ensures) (c .before .sysreq-after .ensures))
 
 pub succeed-spec : {M : Type 1} → statement M
 succeed-spec =

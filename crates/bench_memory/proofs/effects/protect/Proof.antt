@@ -1,10 +1,11 @@
 -- By whether 0x0D opens a PROTECTED board. Assumes nothing.
 use mathlib.Core.Path.{sym, _∙_}
-use Prim.Native.Nat.{_/_, _≤_}
+use Prim.Native.Nat.{_/_, _%_, _≤_}
 use native.Mathlib.Nat.{mul-le-mul}
 use native.Mathlib.Omega.{arith}
-use Rattle.bench_memory.proofs.Effecting.{reopened, protected}
+use Rattle.bench_memory.proofs.Effecting.{reopened, protected, either-small}
 use borrow.Author.Needs.{needs}
+use lib.Dec.{eqb}
 use Rattle.bench_memory.proofs.effects.protect.Statement.{statement}
 use Rattle.bench_memory.proofs.effects.protect.Tie as tie
 
@@ -12,7 +13,7 @@ returns : tie.Need-returns
 returns c =
     let p = c .before .before .before .before in
     let a = p .before .before .args in
-    reopened (a .g) (a .effect) (a .sysarg) (a .stored) (rw (← p .before .level-sent .ensures .0) (sym (c .before .reopens .ensures) ∙ c .if1 .taken))
+    (reopened (a .g) (a .effect) (a .sysarg) (a .stored) (rw (← p .before .level-sent .ensures .0) (sym (c .before .reopens .ensures) ∙ c .if1 .taken)), omega arith)
 
 mul-t13 : tie.Need-mul-t13
 mul-t13 c =
@@ -26,8 +27,10 @@ returns-2 c =
     let p = c .before .before .before .before .before in
     let a = p .before .before .args in
     let l = p .before .level-sent .ensures .0 in
-    let m = p .macro-sent .ensures in
-    rw m (protected (a .g) (a .effect) (a .sysarg) (a .stored) (rw (← l) (sym (c .before .before .reopens .ensures) ∙ c .before .if1 .left)) _ (c .level-after .ensures ∙ rw (m, l)))
+    let m = p .macro-sent .ensures in (
+      rw m (protected (a .g) (a .effect) (a .sysarg) (a .stored) (rw (← l) (sym (c .before .before .reopens .ensures) ∙ c .before .if1 .left)) (c .level-after .result) (c .level-after .ensures ∙ rw (m, l))),
+      either-small (eqb (p .macro-sent .result) 0) _ (a .stored % 16) _ (c .level-after .ensures) (p .before .level-sent .ensures .1) (omega arith),
+    )
 
 pub protect-spec : {M : Type 1} → statement M
 protect-spec =
