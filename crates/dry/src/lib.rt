@@ -1,15 +1,17 @@
 // The dry run of part 1's text on a board that is OPEN, without mishap (document 01, 'The dry run program').
-ghost use mathlib.Core.List.{_++_};
 ghost use mathlib.Core.Path.{_≡_};
 ghost use Prim.Native.Nat.{_+_, _≤_};
 ghost use lib.ListN.{length, take, drop};
 ghost use Rattle.bench_board.specs.Board.{lent};
-ghost use Rattle.dry.specs.Runs.{ranBy, ranOn, Spells, LineOf};
+ghost use Rattle.dry.specs.Runs.{ranBy, ranOn, LineOf};
 ghost use Rattle.dry.specs.Playing.{calmEvent, calmOutcome, openFor, Turns, Playable, Started, reportIn, DoneAsPlanned};
 ghost use Rattle.flow.specs.Claim.{Passes};
 ghost use Rattle.flow.specs.Examples.{partOne};
 ghost use Rattle.io.specs.Counts.{Counts};
 ghost use Rattle.session.specs.Calls.{standing};
+
+mod lines;
+
 use bench_board::CallOutcome;
 use bench_board::LineEvent;
 use bench_board::Registers;
@@ -271,42 +273,6 @@ pub fn run(text: &[u8]) -> Ran
     ran_by(report_for(header, &image))
 }
 
-// Puts bytes into a line, from `at` on, and gives the place after them.
-fn put(line: &mut [u8], at: usize, bytes: &[u8]) -> usize
-    requires { ⌜ (at + length (now bytes) ≤ length (now line)) × (length (now line) ≡ 32) ⌝ }
-    ensures { λ r. ⌜ r ≡ at + length (now (bytes .entry)) ⌝ }
-    ensures { λ r. ⌜ take r (now (line .exit)) ≡ take at (now (line .entry)) ++ now (bytes .entry) ⌝ }
-    ensures { λ r. ⌜ drop r (now (line .exit)) ≡ drop r (now (line .entry)) ⌝ }
-{
-    let n = bytes.len();
-    text::store(line, at, bytes, 0, n);
-    at + n
-}
-
-// Puts a word, a number's digits and a line feed at the start of a line, and gives the place after them.
-fn spell_line(word: &[u8], n: u64, line: &mut [u8]) -> usize
-    requires { ⌜ (length (now word) ≤ 8) × (length (now line) ≡ 32) ⌝ }
-    ensures { λ r. ⌜ Counts r (now (line .exit)) × Spells (now (word .entry)) n (take r (now (line .exit))) ⌝ }
-    ensures { λ r. ⌜ drop r (now (line .exit)) ≡ drop r (now (line .entry)) ⌝ }
-{
-    let mut number = [0u8; 20];
-    let k = io::decimal(n, &mut number);
-    let first = put(line, 0, word);
-    let second = put(line, first, &number[..k]);
-    put(line, second, b"\n")
-}
-
-// Puts the line of a dry run at the start of `line`, and gives its length.
-fn ran_line(ran: Ran, line: &mut [u8; 32]) -> usize
-    ensures { λ r. ⌜ Counts r (now (line .exit)) × LineOf ran (take r (now (line .exit))) ⌝ }
-    ensures { λ r. ⌜ drop r (now (line .exit)) ≡ drop r (now (line .entry)) ⌝ }
-{
-    match ran {
-        Ran::Done(n) => spell_line(b"done ", n as u64, line),
-        Ran::Refused(n) => spell_line(b"refused ", n as u64, line),
-    }
-}
-
 // The dry run of a text's first 64 KiB.
 fn run_cut(text: &[u8]) -> Ran
     ensures { λ r. ⌜ r ≡ ranOn (take 65536 (now (text .entry))) ⌝ }
@@ -322,5 +288,5 @@ pub fn line_of(text: &[u8], line: &mut [u8; 32]) -> usize
     ensures { λ r. ⌜ Counts r (now (line .exit)) × LineOf (ranOn (take 65536 (now (text .entry)))) (take r (now (line .exit))) ⌝ }
     ensures { λ r. ⌜ drop r (now (line .exit)) ≡ drop r (now (line .entry)) ⌝ }
 {
-    ran_line(run_cut(text), line)
+    lines::ran_line(run_cut(text), line)
 }

@@ -1,6 +1,6 @@
 use borrow.Author.Needs.{needs}
-use Rattle.dry.proofs.ran_line.Statement.{statement}
-use Rattle.dry.proofs.ran_line.Tie as tie
+use Rattle.dry.proofs.lines.ran_line.Statement.{statement}
+use Rattle.dry.proofs.lines.ran_line.Tie as tie
 
 enum-known-ran : tie.Need-enum-known-ran
 enum-known-ran c = search needs

@@ -5,8 +5,8 @@ use lib.ListN.{length, take}
 use lib.Seq.{length-take-le}
 use Rattle.dry.proofs.Lining.{few-places, spelled, rest-kept}
 use borrow.Author.Needs.{needs}
-use Rattle.dry.proofs.spell_line.Statement.{statement}
-use Rattle.dry.proofs.spell_line.Tie as tie
+use Rattle.dry.proofs.lines.spell_line.Statement.{statement}
+use Rattle.dry.proofs.lines.spell_line.Tie as tie
 
 decimal-requires : tie.Need-decimal-requires
 decimal-requires c κs = search needs

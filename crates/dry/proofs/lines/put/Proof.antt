@@ -1,8 +1,8 @@
 use mathlib.Core.Path.{refl}
 use Rattle.dry.proofs.Lining.{put-on, put-rest}
 use borrow.Author.Needs.{needs}
-use Rattle.dry.proofs.put.Statement.{statement}
-use Rattle.dry.proofs.put.Tie as tie
+use Rattle.dry.proofs.lines.put.Statement.{statement}
+use Rattle.dry.proofs.lines.put.Tie as tie
 
 store-requires : tie.Need-store-requires
 store-requires c κs = search needs
