@@ -63,9 +63,9 @@ static void befall(uint8_t *event, uint8_t *call)
 {
     unsigned long waits = setting("WAITS"), slip = setting("SLIP");
     if (slip != 0 && transfers + 1 >= slip)
-        event[HALZUQEEN_BENCH_EVENT_FATE] = 4;
+        event[HALZUQEEN_BENCH_EVENT_OUTCOME] = 4;
     else if (waits != 0 && (transfers + 1) % waits == 0)
-        event[HALZUQEEN_BENCH_EVENT_FATE] = 1;
+        event[HALZUQEEN_BENCH_EVENT_OUTCOME] = 1;
     event[HALZUQEEN_BENCH_EVENT_ACK] = 7;
     put_word(event + HALZUQEEN_BENCH_EVENT_WORD, 0xFFFFFFFF);
     put_word(call + HALZUQEEN_BENCH_CALL_BUSY_READS, setting("BUSY"));

@@ -2,7 +2,7 @@
 use mathlib.Core.Bool.{Bool, true, false, cond}
 use mathlib.Core.List.{List, [], _∷_}
 use mathlib.Core.Path.{_≡_}
-use Prim.Native.Nat.{ℕ, _%_}
+use Prim.Native.Nat.{ℕ}
 use Rattle.bench_board.specs.Board.{Buffers, Left, residueOf, siliconOf, callOutcomeOf, transferOutcomeOf, lineEventOf, targetOf}
 use Rattle.bench_memory.specs.declared.Act.{Act}
 use Rattle.bench_memory.specs.declared.Act.the-variants.{Keep}

@@ -5,7 +5,6 @@ ghost use lib.Dec.{eqb};
 ghost use Rattle.bench_board.specs.Board.{lineEventOf, transferOutcomeOf};
 ghost use Rattle.bench_board.specs.Meets.{Makes, Decides, Carries, Gives, Calls, Replies};
 ghost use Rattle.flow.specs.Exchange.{carriedOut, transferred};
-ghost use Rattle.flow.specs.Packets.{isRead};
 ghost use Rattle.flow.specs.Target.{setTar};
 use crate::CallOutcome;
 use crate::Decision;
@@ -69,20 +68,6 @@ fn given_word(r: Registers, q: Request) -> u32
     }
 }
 
-fn is_read(q: Request) -> bool
-    ensures { λ t. ⌜ t ≡ isRead q ⌝ }
-{
-    match q {
-        Request::Xres => false,
-        Request::LineReset => false,
-        Request::ReadIdcode => true,
-        Request::ReadDrw => true,
-        Request::WriteTar(_) => false,
-        Request::WriteDrw(_) => false,
-        Request::WriteSetup(_, _) => false,
-    }
-}
-
 // Whether a request carried out starts a call.
 fn starts_call(q: Request, spot: Spot) -> bool
     ensures { λ t. ⌜ Calls q spot t ⌝ }
@@ -107,7 +92,7 @@ fn answer(r: Registers, q: Request, e: LineEvent, barred: bool) -> Reply
     if r.effect == 4 {
         return bench_lines::silent_reply(filler);
     }
-    bench_lines::reply_to(outcome, barred, is_read(q), given_word(r, q), filler)
+    bench_lines::reply_to(outcome, barred, flow::is_read(q), given_word(r, q), filler)
 }
 
 // Whether a transfer is carried out: the board is not KILLed, the place not shut, and the line lets it through.

@@ -1,12 +1,11 @@
 -- A board that is handed an OK and a success meets a packet as one whose lists are at their end. Assumes nothing.
 use mathlib.Core.Bool.{Bool, true, false, _&&_, not, cond}
-use mathlib.Core.List.{List, [], _∷_}
-use mathlib.Core.Path.{_≡_, refl, ap, _∙_}
+use mathlib.Core.List.{List, []}
+use mathlib.Core.Path.{_≡_, refl, ap}
 use Rattle.bench_board.specs.Meets.{listsOf}
 use Rattle.dry.specs.Playing.{noLists, nothing, calmEvent, calmOutcome}
-use Rattle.flow.specs.Exchange.{Met, Decoded, known, unknown, decode, killed, barred, met, callsOn, silentReply, replyTo, gives, transferred, meetOn, meet}
-use Rattle.flow.specs.Packets.{isRead}
-use Rattle.flow.specs.Target.{Target, Lists, clean, nextEvent}
+use Rattle.flow.specs.Exchange.{Met, Decoded, known, unknown, decode, killed, barred, met, callsOn, transferred, meetOn, meet}
+use Rattle.flow.specs.Target.{Target, Lists, nextEvent}
 use Rattle.flow.specs.declared.Packet.{Packet}
 use Rattle.flow.specs.declared.Reply.{Reply}
 use Rattle.flow.specs.declared.Request.{Request}

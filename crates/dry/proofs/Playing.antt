@@ -1,6 +1,6 @@
 -- A run of turns is a list of steps, and demand 3 says how it ends. Assumes nothing.
-use mathlib.Core.Bool.{Bool, true, false, false≢true, _&&_, cond}
-use mathlib.Core.List.{List, []}
+use mathlib.Core.Bool.{Bool, true, false, false≢true, _&&_}
+use mathlib.Core.List.{List}
 use mathlib.Core.Path.{_≡_, refl, sym, ap, subst, _∙_}
 use Prim.Native.Nat.{ℕ, suc, _+_, _≤_, _<_}
 use native.Mathlib.Omega.{arith}
@@ -11,12 +11,11 @@ use Rattle.bench_board.specs.declared.Registers.{Registers}
 use Rattle.dry.specs.Playing.{noLists, nothing, meets, Turns, Started, reportIn, DoneAsPlanned}
 use Rattle.dry.specs.declared.Turn.{Turn}
 use Rattle.dry.proofs.Meets.{same-met}
-use Rattle.flow.specs.Claim.{Passes, Startable, calmEnd, callsEnd, entryOf}
+use Rattle.flow.specs.Claim.{calmEnd, callsEnd, entryOf}
 use Rattle.flow.specs.Examples.{partOne}
 use Rattle.flow.specs.Exchange.{Met, meet}
 use Rattle.flow.specs.Plan.{plan, loops, mostTraffic}
 use Rattle.flow.specs.Target.{Target, Lists}
-use Rattle.flow.specs.declared.Answer.{Answer}
 use Rattle.flow.specs.declared.Entry.the-variants.{FromOpen}
 use Rattle.flow.specs.declared.Packet.{Packet}
 use Rattle.flow.specs.declared.Packet.the-variants.{Xres}

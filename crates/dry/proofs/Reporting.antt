@@ -1,25 +1,21 @@
 -- From a text that was read to a board and a session that may play. Assumes nothing.
-use mathlib.Core.Bool.{Bool, true, false, false≢true, _&&_, cond}
-use mathlib.Core.List.{List, [], _∷_, _++_, append-nil}
+use mathlib.Core.Bool.{true, false, false≢true, _&&_}
+use mathlib.Core.List.{List, _++_, append-nil}
 use mathlib.Core.Logic.{inl}
 use mathlib.Core.Path.{_≡_, refl, sym, ap, subst, _∙_}
-use Prim.Native.Nat.{ℕ, _≤_, _<_}
-use native.Mathlib.Nat.{le-refl}
+use Prim.Native.Nat.{ℕ, _≤_}
 use native.Mathlib.Omega.{arith}
-use borrow.Author.Tests.{eq-eqb, ne-eqb}
+use borrow.Author.Tests.{ne-eqb}
 use lib.Dec.{eqb, lit≤}
 use lib.ListN.{length, drop, drop-of-length-le}
-use Rattle.bench_board.specs.Board.{Buffers, lent}
+use Rattle.bench_board.specs.Board.{Buffers}
 use Rattle.bench_board.specs.declared.Registers.{Registers}
-use Rattle.dry.specs.Runs.{room, readNumber, ranBy, ranOn}
+use Rattle.dry.specs.Runs.{readNumber, ranBy, ranOn}
 use Rattle.dry.specs.Playing.{openFor, Playable, Started, DoneAsPlanned}
-use Rattle.dry.specs.declared.Ran.{Ran}
-use Rattle.dry.specs.declared.Ran.the-variants.{Done, Refused}
+use Rattle.dry.specs.declared.Ran.the-variants.{Refused}
 use Rattle.dry.proofs.Taking.{TakenWell, GoodReading, reading-good}
-use Rattle.flow.specs.Claim.{Passes, Startable}
+use Rattle.flow.specs.Claim.{Passes}
 use Rattle.flow.specs.Examples.{partOne}
-use Rattle.flow.specs.Plan.{plan}
-use Rattle.flow.specs.declared.Entry.the-variants.{FromOpen}
 use Rattle.hex.specs.Texts.{hexReading}
 use Rattle.image.proofs.Refusals.{Passed, all-passed}
 use Rattle.image.specs.Checks.{metadataAt, imageFault}

@@ -1,14 +1,14 @@
 -- A turn on what the board and the session promise. Assumes nothing.
 use mathlib.Core.List.{List}
-use mathlib.Core.Path.{_≡_, refl, sym, ap, subst, _∙_}
+use mathlib.Core.Path.{_≡_, ap, _∙_}
 use Prim.Native.Nat.{ℕ}
-use Rattle.bench_board.specs.Board.{Buffers, Left, targetOf}
+use Rattle.bench_board.specs.Board.{Buffers, targetOf}
 use Rattle.bench_board.specs.Meets.{listsOf, metOf}
 use Rattle.bench_board.specs.declared.CallOutcome.{CallOutcome}
 use Rattle.bench_board.specs.declared.LineEvent.{LineEvent}
 use Rattle.bench_board.specs.declared.Met as Code
 use Rattle.bench_board.specs.declared.Registers.{Registers}
-use Rattle.dry.specs.Playing.{noLists, nothing, calmEvent, calmOutcome, meets, Turns}
+use Rattle.dry.specs.Playing.{nothing, calmEvent, calmOutcome, meets, Turns}
 use Rattle.dry.proofs.Meets.{handed, same-met}
 use Rattle.flow.specs.Exchange.{Met, meet}
 use Rattle.flow.specs.declared.Packet.{Packet}

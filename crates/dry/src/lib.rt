@@ -1,11 +1,10 @@
 // The dry run of part 1's text on a board that is OPEN, without mishap (document 01, 'The dry run program').
 ghost use mathlib.Core.Path.{_≡_};
-ghost use Prim.Native.Nat.{_+_, _≤_};
+ghost use Prim.Native.Nat.{_+_};
 ghost use lib.ListN.{length, take, drop};
 ghost use Rattle.bench_board.specs.Board.{lent};
 ghost use Rattle.dry.specs.Runs.{ranBy, ranOn, LineOf};
 ghost use Rattle.dry.specs.Playing.{calmEvent, calmOutcome, openFor, Turns, Playable, Started, reportIn, DoneAsPlanned};
-ghost use Rattle.flow.specs.Claim.{Passes};
 ghost use Rattle.flow.specs.Examples.{partOne};
 ghost use Rattle.io.specs.Counts.{Counts};
 ghost use Rattle.session.specs.Calls.{standing};

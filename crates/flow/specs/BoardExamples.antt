@@ -2,13 +2,13 @@
 use mathlib.Core.Bool.{Bool, true, false}
 use mathlib.Core.List.{List, [], _∷_}
 use mathlib.Core.Path.{_≡_}
-use Prim.Native.Nat.{ℕ, _+_, _-_, _*_}
+use Prim.Native.Nat.{ℕ, _+_, _-_}
 use Rattle.flow.specs.Calls.{finish}
 use Rattle.flow.specs.Examples.{partOne}
 use Rattle.flow.specs.Exchange.{Met, meet, decode, known, unknown}
 use Rattle.flow.specs.Mishaps.{answer, okayWith, SYSREQ, SYSARG}
 use Rattle.flow.specs.Packets.{packetOf}
-use Rattle.flow.specs.Target.{Memory, Residue, CallOutcome, Running, idle, busy, Target, TransferOutcome, clean, waits, faults, wrongParity, silent, LineEvent, Lists}
+use Rattle.flow.specs.Target.{Memory, Residue, CallOutcome, Running, idle, busy, Target, TransferOutcome, clean, waits, faults, wrongParity, silent, Lists}
 use Rattle.flow.specs.declared.Answer.{Answer}
 use Rattle.flow.specs.declared.Answer.the-variants.{ResetDone}
 use Rattle.flow.specs.declared.Packet.the-variants as Packets

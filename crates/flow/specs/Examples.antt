@@ -1,5 +1,5 @@
 -- P5, P6 and P7 of document 01, which pin the key words; all twelve stand in one table in the crate examples. Assumes nothing.
-use mathlib.Core.List.{List, [], _∷_}
+use mathlib.Core.List.{List, []}
 use Prim.Native.Nat.{ℕ}
 use lib.ListN.{getD}
 use Rattle.flow.specs.Sequence.{privileged, programRow, endMove}

@@ -3,7 +3,7 @@ use mathlib.Core.List.{[], _∷_}
 use mathlib.Core.Path.{_≡_}
 use Prim.Native.Nat.{ℕ}
 use Rattle.flow.specs.Examples.{partOne}
-use Rattle.flow.specs.Judge.{Judged, go, pollAgain, enter, report, judge}
+use Rattle.flow.specs.Judge.{go, pollAgain, enter, report, judge}
 use Rattle.flow.specs.declared.Entry.the-variants.{FromOpen, FromProtected}
 use Rattle.flow.specs.declared.Purpose.the-variants.{Idcode, TestBit, Poll, Status, EntryLevel, Reopened, Same, StoredLevel, LastSum}
 use Rattle.image.specs.Image.{Image}

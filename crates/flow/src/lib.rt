@@ -1,6 +1,6 @@
 // The programming sequence as moves, and what goes over the wire for each (document 01, 'Flow' and 'Wire').
 ghost use mathlib.Core.Path.{_≡_};
-ghost use Rattle.flow.specs.Packets.{packetOf};
+ghost use Rattle.flow.specs.Packets.{packetOf, isRead};
 use wire::Access;
 use wire::Register;
 
@@ -89,5 +89,20 @@ pub fn packet_of(q: Request) -> Packet
         Request::WriteTar(w) => write_packet(Register::Tar, w),
         Request::WriteDrw(w) => write_packet(Register::Drw, w),
         Request::WriteSetup(r, w) => write_packet(r, w),
+    }
+}
+
+// Whether a request reads a word.
+pub fn is_read(q: Request) -> bool
+    ensures { λ r. ⌜ r ≡ isRead q ⌝ }
+{
+    match q {
+        Request::Xres => false,
+        Request::LineReset => false,
+        Request::ReadIdcode => true,
+        Request::ReadDrw => true,
+        Request::WriteTar(_) => false,
+        Request::WriteDrw(_) => false,
+        Request::WriteSetup(_, _) => false,
     }
 }

@@ -1,7 +1,7 @@
 // Intel hex text: reading (document 01, 'Hex text').
 ghost use mathlib.Core.Path.{_≡_};
 ghost use Prim.Native.Nat.{_+_, _*_, _≤_, _<_};
-ghost use lib.ListN.{length, getD};
+ghost use lib.ListN.{length};
 ghost use Rattle.hex.specs.Steps.{FrameAt, foundIn, FoundAt, dataTurn, endTurn, TurnAt, TableSizes, advancedOf, ScannedAs};
 ghost use Rattle.hex.specs.Texts.{contentOf, hexReading};
 ghost use Rattle.image.specs.Sections.{sectionsOf};

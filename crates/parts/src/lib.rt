@@ -2,7 +2,7 @@
 ghost use mathlib.Core.Bool.{true};
 ghost use mathlib.Core.Path.{_≡_};
 ghost use Prim.Native.Nat.{_<_, _^_};
-ghost use Rattle.parts.specs.Parts.{lookupOf, offers, inRange, lowFits, idFits, partTable};
+ghost use Rattle.parts.specs.Parts.{lookupOf, offers, inRange, lowFits, idFits};
 ghost use Rattle.parts.specs.Sizes.{rowsOf, flashSize, lockTotal, imageSize};
 ghost use Rattle.parts.specs.Levels.{levelOf, isLevel};
 

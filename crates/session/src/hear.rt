@@ -107,20 +107,6 @@ fn is_attempt(q: Request) -> bool
     }
 }
 
-fn is_read(q: Request) -> bool
-    ensures { λ r. ⌜ r ≡ isRead q ⌝ }
-{
-    match q {
-        Request::Xres => false,
-        Request::LineReset => false,
-        Request::ReadIdcode => true,
-        Request::ReadDrw => true,
-        Request::WriteTar(_) => false,
-        Request::WriteDrw(_) => false,
-        Request::WriteSetup(_, _) => false,
-    }
-}
-
 pub(crate) fn is_reset(q: Request) -> bool
     ensures { λ r. ⌜ r ≡ isReset q ⌝ }
 {
@@ -143,7 +129,7 @@ fn on_okay(g: Geometry, h: Header, y: Entry, p: Progress, m: Move, r: Reply) -> 
     let q = m.request;
     let u = m.purpose;
     let attempts = attempts_after(q, p);
-    if is_read(q) {
+    if flow::is_read(q) {
         if r.parity == wire::parity_of(r.word) {
             return on_word(g, h, y, p, u, attempts, r.word);
         }

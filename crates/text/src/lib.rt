@@ -1,8 +1,7 @@
 // What the text formats share: digit pairs, line ends, the sections that are due, and the answer of reading (document 01, 'Hex text').
 ghost use mathlib.Core.Path.{_≡_};
-ghost use mathlib.Core.List.{_++_};
 ghost use Prim.Native.Nat.{_+_, _*_, _≤_};
-ghost use lib.ListN.{length, take, drop, replicate};
+ghost use lib.ListN.{length, take, drop};
 ghost use lib.Dec.{eqb};
 ghost use lib.Seq.{sets};
 ghost use Rattle.image.specs.Image.{noHeader};

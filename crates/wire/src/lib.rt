@@ -1,8 +1,8 @@
 // SWD packets: the request byte, the data parity bit and the reading of an acknowledgement (document 01, 'Wire').
 ghost use mathlib.Core.Bool.{true};
 ghost use mathlib.Core.Path.{_≡_};
-ghost use Prim.Native.Nat.{_+_, _*_, _%_, _/_, _<_};
-ghost use Rattle.wire.specs.Wire.{parity, apndp, address, rnw, fromBits, fourBits, requestByte, ackOf, isAck};
+ghost use Prim.Native.Nat.{_+_, _*_, _%_, _<_};
+ghost use Rattle.wire.specs.Wire.{parity, apndp, address, fromBits, fourBits, requestByte, ackOf, isAck};
 
 // A register of the debug or access port (004, Table 3-2).
 pub enum Register {

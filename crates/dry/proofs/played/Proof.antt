@@ -1,6 +1,5 @@
 -- The board and the session keep what demand 3 speaks of, and it says how they end. Assumes nothing.
 use Prim.Native.Nat.{_-_}
-use mathlib.Core.Path.{_≡_, refl, sym}
 use native.Mathlib.Omega.{arith}
 use borrow.Author.Needs.{needs}
 use Rattle.bench_board.specs.Board.{lent}

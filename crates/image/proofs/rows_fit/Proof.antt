@@ -1,5 +1,4 @@
 -- All rows of the flash. Assumes nothing.
-use native.Mathlib.Omega.{arith}
 use borrow.Author.Needs.{needs}
 use Rattle.parts.specs.Sizes.{flashSize}
 use Rattle.image.proofs.rows_fit.Statement.{statement}

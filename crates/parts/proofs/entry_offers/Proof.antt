@@ -1,5 +1,4 @@
 -- The tests in the order of `offers`. Assumes nothing.
-use borrow.Author.Needs.{needs}
 use borrow.Author.Tests.{eq-eqb, ne-eqb, le-leb, lt-leb}
 use Rattle.parts.proofs.entry_offers.Statement.{statement}
 use Rattle.parts.proofs.entry_offers.Tie as tie

@@ -1,5 +1,4 @@
 -- Each arm's number decides the tests of `levelOf` and `isLevel`. Assumes nothing.
-use mathlib.Core.Logic.{inl, inr}
 use borrow.Author.Tests.{ne-eqb}
 use Rattle.parts.proofs.read_level.Statement.{statement}
 use Rattle.parts.proofs.read_level.Tie as tie

@@ -1,5 +1,4 @@
 -- The register's bits and RnW, by the direction. Assumes nothing.
-use mathlib.Core.Path.{_≡_, _∙_, ap}
 use native.Mathlib.Omega.{arith}
 use borrow.Author.Needs.{needs}
 use Rattle.wire.proofs.Laws.{four-read, four-write, register-lt}

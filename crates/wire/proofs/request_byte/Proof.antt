@@ -1,5 +1,4 @@
 -- The four bits and their parity, packed. Assumes nothing.
-use mathlib.Core.Path.{_∙_}
 use borrow.Author.Needs.{needs}
 use Rattle.wire.proofs.Laws.{packed}
 use Rattle.wire.proofs.request_byte.Statement.{statement}
