@@ -61,6 +61,30 @@ fn first_line(text: &[u8]) -> Option<(&[u8], &[u8])> {
     (count < NONE && text[0] == b':').then_some((&text[1..end], &text[after..]))
 }
 
+/// A record but for its data; `head_sum` has the record's sum byte in it.
+struct Head<'a> {
+    kind: u8,
+    count: usize,
+    address: u32,
+    digits: &'a [u8],
+    head_sum: u8,
+}
+
+#[inline(always)]
+fn head(line: &[u8]) -> Option<Head<'_>> {
+    let mut bytes = [0; 4];
+    let (sum, fits) = decode(line, &mut bytes);
+    let (digits, last) = line[8..].split_at(line.len() - 10);
+    let sum_byte = pair(last);
+    (fits && sum_byte < NONE).then(|| Head {
+        kind: bytes[3],
+        count: bytes[0].into(),
+        address: u32::from(bytes[1]) << 8 | u32::from(bytes[2]),
+        digits,
+        head_sum: sum.wrapping_add(sum_byte as u8),
+    })
+}
+
 fn taken(sizes: &Sizes, mut text: &[u8], image: &mut [u8], header: &mut Header) -> Option<()> {
     let (flash, protection) = image.split_at_mut(sizes.flash());
     let (mut sum, mut level) = ([0; 2], [0; 1]);
@@ -68,16 +92,9 @@ fn taken(sizes: &Sizes, mut text: &[u8], image: &mut [u8], header: &mut Header) 
     let (mut section, mut filled, mut upper) = (0, 0, 0u32);
     loop {
         let (line, rest) = first_line(text)?;
-        let mut head = [0; 4];
-        let (head_sum, head_fits) = decode(line, &mut head);
-        let (digits, last) = line[8..].split_at(line.len() - 10);
-        let (address, count) = (u32::from(head[1]) << 8 | u32::from(head[2]), usize::from(head[0]));
-        let sum_byte = pair(last);
-        let closes = |sum: u8| head_fits && head_sum.wrapping_add(sum).wrapping_add(sum_byte as u8) == 0;
-        if sum_byte >= NONE {
-            return None;
-        }
-        match head[3] {
+        let Head { kind, count, address, digits, head_sum } = head(line)?;
+        let closes = |sum: u8| head_sum.wrapping_add(sum) == 0;
+        match kind {
             0 if count > 0 && section < 5 => {
                 let due = upper << 16 | address;
                 let bytes = sections[section].get_mut(filled..filled + count)?;
@@ -86,10 +103,8 @@ fn taken(sizes: &Sizes, mut text: &[u8], image: &mut [u8], header: &mut Header) 
                 if !(fits && placed && closes(data_sum)) {
                     return None;
                 }
-                filled += count;
-                if filled == sections[section].len() {
-                    (section, filled) = (section + 1, 0);
-                }
+                let whole = filled + count == sections[section].len();
+                (section, filled) = if whole { (section + 1, 0) } else { (section, filled + count) };
             }
             4 if count == 2 && address == 0 => {
                 let mut half = [0; 2];

@@ -43,13 +43,7 @@ pub fn texts(core: &impl Core, seed: u64, rounds: usize) -> TextTally {
         if round % 50 == 0 {
             base = base_text(&mut rng);
         }
-        let (mut part, mut macros, mut text) = (base.0, base.1, base.2.clone());
-        if rng.chance(5) {
-            text = random_text(&mut rng, &text);
-        }
-        for _ in 0..rng.below(3) {
-            damage(&mut rng, &mut text);
-        }
+        let (mut part, mut macros, text) = (base.0, base.1, damaged(&mut rng, &base.2));
         let mut room = Sizes::of(part, macros).unwrap().image() + SPARE;
         if rng.chance(50) {
             (part, macros) = (rng.below(5) as u32, rng.below(4) as u32);
@@ -74,6 +68,15 @@ pub fn texts(core: &impl Core, seed: u64, rounds: usize) -> TextTally {
         }
     }
     tally
+}
+
+/// The text, or a random one, with some damage.
+fn damaged(rng: &mut Rng, text: &[u8]) -> Vec<u8> {
+    let mut text = if rng.chance(5) { random_text(rng, text) } else { text.to_vec() };
+    for _ in 0..rng.below(3) {
+        damage(rng, &mut text);
+    }
+    text
 }
 
 /// Both writers on this record and image, at times with a field changed or too little room, and starting.

@@ -42,10 +42,15 @@ fn read_and_write(rng: &mut Rng, part: u32, macros: u32) -> u64 {
     calls
 }
 
+const RESET_DONE: raw::Answer = raw::Answer { reset_done: 1, ack: 0, word: 0, parity: 0 };
+
 fn start_and_step(rng: &mut Rng, part: u32, macros: u32) -> u64 {
     let (header, image) = sample_image(rng, part, macros);
-    let (record, mut calls) = (header_bytes(&header), 0);
-    let done = raw::Answer { reset_done: 1, ack: 0, word: 0, parity: 0 };
+    buffers_of_other_sizes(&header, &image) + leaves(&header, &image) + impossible_marks(&header, &image)
+}
+
+fn buffers_of_other_sizes(header: &Header, image: &[u8]) -> u64 {
+    let (record, mut calls) = (header_bytes(header), 0);
     let sizes = [raw::RECORD, raw::SESSION, raw::OUTCOME];
     for (which, right) in sizes.into_iter().enumerate() {
         for size in other_sizes(right) {
@@ -54,33 +59,41 @@ fn start_and_step(rng: &mut Rng, part: u32, macros: u32) -> u64 {
             let mut lent = record.to_vec();
             lent.resize(given[0], LEFT);
             let (mut session, mut outcome) = (vec![LEFT; given[1]], vec![LEFT; given[2]]);
-            assert_eq!(raw::start(&lent, &image, 1, &mut session, &mut outcome), 12);
+            assert_eq!(raw::start(&lent, image, 1, &mut session, &mut outcome), 12);
             assert!(session.iter().chain(&outcome).all(|&b| b == LEFT));
             if which > 0 {
-                let mut session = started(&header).to_vec();
+                let mut session = started(header).to_vec();
                 session.resize(given[1], LEFT);
                 let before = session.clone();
-                assert_eq!(raw::step(&mut session, &image, done, &mut outcome), 12);
+                assert_eq!(raw::step(&mut session, image, RESET_DONE, &mut outcome), 12);
                 assert!(session == before && outcome.iter().all(|&b| b == LEFT));
             }
             calls += 2;
         }
     }
-    // Any byte but 0 is leave for KILL.
-    let killing = Header { level: KILL, ..header };
+    calls
+}
+
+/// Any byte but 0 is leave for KILL.
+fn leaves(header: &Header, image: &[u8]) -> u64 {
+    let killing = Header { level: KILL, ..*header };
     for leave in 0..=255 {
         let (mut session, mut outcome) = ([LEFT; raw::SESSION], [LEFT; raw::OUTCOME]);
-        let number = raw::start(&header_bytes(&killing), &image, leave, &mut session, &mut outcome);
+        let number = raw::start(&header_bytes(&killing), image, leave, &mut session, &mut outcome);
         assert_eq!(number, if leave == 0 { 15 } else { 0 });
         assert_eq!(session, if leave == 0 { [0; raw::SESSION] } else { started(&killing) });
-        calls += 1;
     }
-    // Entry or finished over 1: 13, said by the outcome too.
+    256
+}
+
+/// Entry or finished over 1: 13, said by the outcome too.
+fn impossible_marks(header: &Header, image: &[u8]) -> u64 {
+    let mut calls = 0;
     for (at, mark) in (17..19).flat_map(|at| (2..=255).map(move |mark| (at, mark))) {
-        let (mut session, mut outcome) = (started(&header), [LEFT; raw::OUTCOME]);
+        let (mut session, mut outcome) = (started(header), [LEFT; raw::OUTCOME]);
         session[at] = mark;
         let before = session;
-        assert_eq!(raw::step(&mut session, &image, done, &mut outcome), 13);
+        assert_eq!(raw::step(&mut session, image, RESET_DONE, &mut outcome), 13);
         assert_eq!((session, outcome), (before, outcome_bytes(Outcome::Refused(13))));
         calls += 1;
     }

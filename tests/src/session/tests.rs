@@ -57,6 +57,27 @@ fn forged_place(rng: &mut Rng) -> Place {
     }
 }
 
+/// A session with counters about their limits.
+fn forged(rng: &mut Rng, header: Header) -> Session {
+    let most = most_transfers(&header.sizes().unwrap());
+    let place = forged_place(rng);
+    let transfers = match place {
+        Place::Reported(report) if !rng.chance(4) => report.transfers,
+        _ => *rng.pick(&[0, 1, 1_000, most - 1, most, most + 1]),
+    };
+    Session {
+        header,
+        place,
+        transfer: rng.below(4) as u8,
+        waits: *rng.pick(&[0, 1, 15, 16, 17]),
+        attempts: *rng.pick(&[0, 28, 29, 30]),
+        polls: *rng.pick(&[0, 1, 9_998, 9_999, 10_000]),
+        reopened: rng.bit(),
+        kept: rng.word(),
+        transfers,
+    }
+}
+
 /// "Every ... session ... is taken", and 13 is closed under steps for those that nobody gave.
 #[test]
 fn forged_sessions() {
@@ -65,25 +86,9 @@ fn forged_sessions() {
     let (mut possible, mut impossible) = (0, 0);
     for _ in 0..60_000 {
         let (header, image) = rng.pick(&images).clone();
-        let most = most_transfers(&header.sizes().unwrap());
-        let place = forged_place(&mut rng);
-        let transfers = match place {
-            Place::Reported(report) if !rng.chance(4) => report.transfers,
-            _ => *rng.pick(&[0, 1, 1_000, most - 1, most, most + 1]),
-        };
-        let mut session = Session {
-            header,
-            place,
-            transfer: rng.below(4) as u8,
-            waits: *rng.pick(&[0, 1, 15, 16, 17]),
-            attempts: *rng.pick(&[0, 28, 29, 30]),
-            polls: *rng.pick(&[0, 1, 9_998, 9_999, 10_000]),
-            reopened: rng.bit(),
-            kept: rng.word(),
-            transfers,
-        };
+        let mut session = forged(&mut rng, header);
         let first = session.possible().is_some();
-        if let Place::Reported(report) = place {
+        if let Place::Reported(report) = session.place {
             assert!(!first || report.transfers == session.transfers);
         }
         (possible, impossible) = (possible + u32::from(first), impossible + u32::from(!first));
