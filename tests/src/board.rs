@@ -6,7 +6,7 @@ mod lists;
 mod port;
 
 pub use ids::Ids;
-pub use lists::{CallOutcome, Fate, Line, LineEvent, Lists, Running};
+pub use lists::{CallOutcome, FreeLists, Line, LineEvent, Lists, Running};
 
 use crate::flow::{exchanged, BIT_31, LOW_28};
 use crate::image::Header;
@@ -127,18 +127,18 @@ impl Board {
     }
 
     /// The board meets a request and answers.
-    pub fn answer(&mut self, request: Request, fate: &mut impl Fate) -> Answer {
+    pub fn answer(&mut self, request: Request, lists: &mut impl FreeLists) -> Answer {
         match request {
             Request::Xres => {
                 self.xres();
                 Answer::ResetDone
             }
             Request::LineReset => Answer::ResetDone,
-            Request::Read { byte } => self.transfer(byte, None, fate),
+            Request::Read { byte } => self.transfer(byte, None, lists),
             Request::Write { byte, word, parity: bit } if bit == parity(word) => {
-                self.transfer(byte, Some(word), fate)
+                self.transfer(byte, Some(word), lists)
             }
-            Request::Write { .. } => self.lost(&fate.line()),
+            Request::Write { .. } => self.lost(&lists.line()),
         }
     }
 
@@ -151,8 +151,8 @@ impl Board {
         self.sysreq = 0;
     }
 
-    fn transfer(&mut self, byte: u8, word: Option<u32>, fate: &mut impl Fate) -> Answer {
-        let event = fate.line();
+    fn transfer(&mut self, byte: u8, word: Option<u32>, lists: &mut impl FreeLists) -> Answer {
+        let event = lists.line();
         let port = decode(byte);
         let reads = word.is_none();
         let fits = match port {
@@ -168,14 +168,14 @@ impl Board {
             Line::Fault => Self::free(4, &event),
             Line::SilentLost => Self::free(event.silence, &event),
             Line::SilentCarriedOut => {
-                self.carry_out(port, word, &event, fate);
+                self.carry_out(port, word, &event, lists);
                 Self::free(event.silence, &event)
             }
             Line::WrongParity if reads => {
-                self.carry_out(port, word, &event, fate);
+                self.carry_out(port, word, &event, lists);
                 Answer::Wire { ack: 1, word: event.word, parity: !parity(event.word) }
             }
-            Line::Ok | Line::WrongParity => match self.carry_out(port, word, &event, fate) {
+            Line::Ok | Line::WrongParity => match self.carry_out(port, word, &event, lists) {
                 Some(word) => Answer::Wire { ack: 1, word, parity: parity(word) },
                 None => Self::free(1, &event),
             },
@@ -216,7 +216,7 @@ impl Board {
         port: Port,
         word: Option<u32>,
         event: &LineEvent,
-        fate: &mut impl Fate,
+        lists: &mut impl FreeLists,
     ) -> Option<u32> {
         match (port, word) {
             (Port::ReadIdCode, _) => Some(self.ids.idcode),
@@ -230,7 +230,7 @@ impl Board {
                 None
             }
             (Port::WriteDrw, Some(word)) => {
-                self.store(word, fate);
+                self.store(word, lists);
                 None
             }
             (Port::OtherRead, _) => Some(event.elsewhere),
@@ -270,12 +270,12 @@ impl Board {
         self.sysreq
     }
 
-    fn store(&mut self, word: u32, fate: &mut impl Fate) {
+    fn store(&mut self, word: u32, lists: &mut impl FreeLists) {
         match self.place(self.tar) {
             Place::SysReq => {
                 self.sysreq = word;
                 if word & BIT_31 != 0 {
-                    self.running = Some(Running { command: word & !BIT_31, outcome: fate.call() });
+                    self.running = Some(Running { command: word & !BIT_31, outcome: lists.call() });
                 }
             }
             Place::SysArg => self.sysarg = word,

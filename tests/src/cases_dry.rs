@@ -5,7 +5,7 @@ use crate::board::Board;
 use crate::hex;
 use crate::image::{header_for, Header};
 use crate::parts::OPEN;
-use crate::play::{play, Hitches};
+use crate::play::{play, RandomLists};
 use crate::rng::Rng;
 use crate::texts::{self, Choice, Line};
 
@@ -39,7 +39,7 @@ pub fn outcome(case: &Case) -> String {
     let line = match number {
         0 => {
             let board = Board::blank(&header, OPEN);
-            let report = play(&header, &image, &board, &Hitches::calm(1)).report;
+            let report = play(&header, &image, &board, &RandomLists::calm(1)).report;
             assert_eq!(report.number, 0, "{}", case.name);
             format!("done {}", report.transfers)
         }

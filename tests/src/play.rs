@@ -1,6 +1,6 @@
 //! Whole sessions against a board, with demand 3's claims asserted on the way.
 
-use crate::board::{Board, CallOutcome, Fate, Line, LineEvent};
+use crate::board::{Board, CallOutcome, FreeLists, Line, LineEvent};
 use crate::claims::Claims;
 use crate::flow::{self, Report};
 use crate::fnv::Fnv;
@@ -13,7 +13,7 @@ use std::collections::HashMap;
 
 /// The lists of one random run: a plan of events by place, and chances for the rest.
 #[derive(Clone, Debug)]
-pub struct Hitches {
+pub struct RandomLists {
     pub rng: Rng,
     /// By the transfer's place in the run.
     pub line: HashMap<u64, LineEvent>,
@@ -31,9 +31,9 @@ pub struct Hitches {
     waits_left: u32,
 }
 
-impl Hitches {
-    pub fn calm(seed: u64) -> Hitches {
-        Hitches {
+impl RandomLists {
+    pub fn calm(seed: u64) -> RandomLists {
+        RandomLists {
             rng: Rng(seed),
             line: HashMap::new(),
             calls: HashMap::new(),
@@ -71,7 +71,7 @@ impl Hitches {
     }
 }
 
-impl Fate for Hitches {
+impl FreeLists for RandomLists {
     fn line(&mut self) -> LineEvent {
         self.transfer += 1;
         let mut line = Line::Ok;
@@ -82,7 +82,7 @@ impl Fate for Hitches {
             self.waits_left = self.rng.below(self.most_waits as usize) as u32;
             line = Line::Wait;
         }
-        let free = Hitches::event(&mut self.rng, line);
+        let free = RandomLists::event(&mut self.rng, line);
         self.line.get(&(self.transfer - 1)).copied().unwrap_or(free)
     }
 
@@ -172,18 +172,18 @@ fn after_report(session: &mut Session, image: &[u8], report: Report) {
 }
 
 /// Plays a session on a plain board and asserts demand 3. The board starts OPEN or PROTECTED.
-pub fn play(header: &Header, image: &[u8], board: &Board, fate: &Hitches) -> Played {
+pub fn play(header: &Header, image: &[u8], board: &Board, lists: &RandomLists) -> Played {
     let mut claims = Claims::new(header, board);
-    let (mut met, mut lists) = (board.clone(), fate.clone());
-    let mut rng = Rng(fate.rng.0 ^ 0x5EED);
+    let (mut met, mut left) = (board.clone(), lists.clone());
+    let mut rng = Rng(lists.rng.0 ^ 0x5EED);
     let (report, requests) = step_through(header, image, Some((&mut rng, 5_000)), |request| {
         claims.handed_out(request);
-        let answer = met.answer(request, &mut lists);
+        let answer = met.answer(request, &mut left);
         claims.answered(request, answer, &met);
         answer
     });
     claims.reported(report, header, image, &met);
-    assert_same_as_flow(header, image, board, fate, report, requests);
+    assert_same_as_flow(header, image, board, lists, report, requests);
     Played { report, requests, monitor: claims.monitor, board: met }
 }
 
@@ -192,15 +192,15 @@ fn assert_same_as_flow(
     header: &Header,
     image: &[u8],
     board: &Board,
-    fate: &Hitches,
+    lists: &RandomLists,
     report: Report,
     requests: u64,
 ) {
-    let (mut board, mut lists) = (board.clone(), fate.clone());
+    let (mut board, mut left) = (board.clone(), lists.clone());
     let mut sum = Fnv::default();
     let plain = flow::run(header, image, |request| {
         hash_request(&mut sum, request);
-        board.answer(request, &mut lists)
+        board.answer(request, &mut left)
     });
     assert_eq!((plain, sum.value()), (report, requests));
 }

@@ -6,7 +6,7 @@ use reference::cross::random_run;
 use reference::flow::Report;
 use reference::image::{header_for, Header};
 use reference::parts::{Sizes, IDCODE, KILL, OPEN, PROTECTED, SIZES};
-use reference::play::{play, Hitches, Played};
+use reference::play::{play, RandomLists, Played};
 use reference::rng::Rng;
 use reference::session::{start, Outcome, Session};
 use reference::texts::sample_image;
@@ -32,7 +32,7 @@ fn calm_sessions_take_the_plan() {
         for stored in [OPEN, PROTECTED] {
             let (header, image) = sample_image(&mut rng, part, macros);
             let board = Board::any(&mut rng, &header, stored);
-            let played = play(&header, &image, &board, &Hitches::calm(rng.draw()));
+            let played = play(&header, &image, &board, &RandomLists::calm(rng.draw()));
             let transfers = plan(&sizes(&header), entry(stored)) as u32;
             assert_eq!(played.report, Report { number: 0, step: 9, transfers });
         }
@@ -44,7 +44,7 @@ fn calm_sessions_take_the_plan() {
 fn dry_run() {
     let image = vec![0; 16_416];
     let header = header_for(1, 1, 0x0A, 0x0A, OPEN, &image);
-    let played = play(&header, &image, &Board::blank(&header, OPEN), &Hitches::calm(0));
+    let played = play(&header, &image, &Board::blank(&header, OPEN), &RandomLists::calm(0));
     assert_eq!(played.report, Report { number: 0, step: 9, transfers: 27_279 });
 }
 
@@ -65,19 +65,19 @@ fn demand_3_on_random_runs() {
 }
 
 /// A right board of part 1, OPEN, with given lists.
-fn small(lists: Hitches) -> Played {
+fn small(lists: RandomLists) -> Played {
     let (header, image) = sample_image(&mut Rng(13), 1, 1);
     play(&header, &image, &Board::blank(&header, OPEN), &lists)
 }
 
-fn with_line(places: std::ops::Range<u64>, line: Line) -> Hitches {
-    let mut lists = Hitches::calm(1);
+fn with_line(places: std::ops::Range<u64>, line: Line) -> RandomLists {
+    let mut lists = RandomLists::calm(1);
     lists.line.extend(places.map(|place| (place, LineEvent::of(line))));
     lists
 }
 
-fn with_call(place: u64, outcome: CallOutcome) -> Hitches {
-    let mut lists = Hitches::calm(1);
+fn with_call(place: u64, outcome: CallOutcome) -> RandomLists {
+    let mut lists = RandomLists::calm(1);
     lists.calls.insert(place, outcome);
     lists
 }
@@ -139,7 +139,7 @@ fn wrong_parts() {
     let run = |change: fn(&mut Ids)| {
         let mut board = Board::blank(&header, PROTECTED);
         change(&mut board.ids);
-        let report = play(&header, &image, &board, &Hitches::calm(3)).report;
+        let report = play(&header, &image, &board, &RandomLists::calm(3)).report;
         (report.number, report.step, report.transfers)
     };
     assert_eq!(run(|ids| ids.idcode = 0x0BC1_1477), (16, 1, 1));
@@ -189,6 +189,6 @@ fn killing() {
     header.level = KILL;
     let mut board = Board::blank(&header, OPEN);
     board.in_effect = KILL;
-    let played = play(&header, &image, &board, &Hitches::calm(0));
+    let played = play(&header, &image, &board, &RandomLists::calm(0));
     assert_eq!((played.report.number, played.board.stored), (0, KILL));
 }

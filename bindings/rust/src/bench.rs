@@ -49,7 +49,7 @@ pub struct Bench<'a> {
 }
 
 /// What becomes of a transfer and of a call, and what a failed call leaves in flash, locks and latch.
-pub struct Befalls<'a> {
+pub struct Outcomes<'a> {
     pub event: &'a [u8],
     pub call: &'a [u8],
     pub left: [&'a [u8]; 3],
@@ -60,7 +60,7 @@ pub fn meet(
     part: u8,
     macros: u8,
     bench: Bench,
-    Befalls { event, call, left: [flash, locks, latch] }: Befalls,
+    Outcomes { event, call, left: [flash, locks, latch] }: Outcomes,
     request: &[u8],
     answer: &mut [u8],
 ) -> u32 {

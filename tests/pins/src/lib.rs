@@ -30,7 +30,7 @@ fn board() -> Board {
     board
 }
 
-/// The line's list: calm, or with the one hitch that the environment asks for.
+/// The line's list: calm, or with the one disturbance that the environment asks for.
 fn lists() -> Lists {
     let mut lists = Lists::default();
     if let Some(at) = number("SLIP") {

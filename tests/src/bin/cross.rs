@@ -104,7 +104,7 @@ fn check_boards(seed: u64, sizes: &Sizes) {
         "boards: the bench board is as ours in {} sessions, {met} packets, and at {single} single packets",
         sum.sessions
     );
-    println!("  {} sessions with hitches in both lists", sum.hitched);
+    println!("  {} sessions with disturbances in both lists", sum.disturbed);
     show("sessions", &sum.numbers, [0, 16, 18, 19, 20, 21, 26, 27, 28, 29, 30]);
     let line: Vec<String> = sum.reached.iter().map(|(name, count)| format!("{name} {count}")).collect();
     println!("  packets: {}", line.join("; "));

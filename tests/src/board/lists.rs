@@ -66,7 +66,7 @@ pub struct Running {
 }
 
 /// The two free lists.
-pub trait Fate {
+pub trait FreeLists {
     fn line(&mut self) -> LineEvent;
     fn call(&mut self) -> CallOutcome;
 }
@@ -80,7 +80,7 @@ pub struct Lists {
     pub calls_used: usize,
 }
 
-impl Fate for Lists {
+impl FreeLists for Lists {
     fn line(&mut self) -> LineEvent {
         self.line_used += 1;
         self.line.get(self.line_used - 1).copied().unwrap_or(LineEvent::OK)

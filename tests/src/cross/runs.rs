@@ -1,11 +1,11 @@
-//! Boards with hitches of every kind, and answers tampered with.
+//! Boards with disturbances of every kind, and answers tampered with.
 
 use crate::board::{Board, CallOutcome, Ids, Line};
 use crate::claims::entry_of;
 use crate::counts::{loops, plan};
 use crate::image::Header;
 use crate::parts::{LOCKS, OPEN, PROTECTED, TEST_MODE};
-use crate::play::Hitches;
+use crate::play::RandomLists;
 use crate::rng::Rng;
 use crate::texts::sample_image;
 use crate::wire::{parity, Answer, Request};
@@ -15,7 +15,7 @@ pub struct Run {
     pub header: Header,
     pub image: Vec<u8>,
     pub board: Board,
-    pub lists: Hitches,
+    pub lists: RandomLists,
     pub tampered: Option<Tampered>,
     /// One answer in so many is anything at all; 0 for none.
     pub wild_one_in: usize,
@@ -29,7 +29,7 @@ pub struct Tampered {
     pub turned: u32,
 }
 
-/// A run with hitches of every kind on a plain board.
+/// A run with disturbances of every kind on a plain board.
 pub fn random_run(rng: &mut Rng, part: u32, macros: u32) -> Run {
     let (header, image) = sample_image(rng, part, macros);
     let stored = *rng.pick(&[OPEN, PROTECTED]);
@@ -38,16 +38,16 @@ pub fn random_run(rng: &mut Rng, part: u32, macros: u32) -> Run {
     if part != 2 {
         board.ids.low = rng.byte();
     }
-    let lists = Hitches::calm(rng.draw());
+    let lists = RandomLists::calm(rng.draw());
     let mut run = Run { header, image, board, lists, tampered: None, wild_one_in: 0 };
     for _ in 0..1 + rng.below(2) {
-        run.hitch(rng);
+        run.disturb(rng);
     }
     run
 }
 
 impl Run {
-    fn hitch(&mut self, rng: &mut Rng) {
+    fn disturb(&mut self, rng: &mut Rng) {
         let sizes = self.header.sizes().unwrap();
         let entry = entry_of(&self.board);
         let (transfers, calls) = (plan(&sizes, entry), loops(&sizes, entry));
@@ -60,15 +60,15 @@ impl Run {
             1 => (self.lists.busy_one_in, self.lists.most_busy) = (1 + rng.below(5), 1 + rng.below(40)),
             2 | 3 => {
                 let (at, line) = (place(rng, transfers), *rng.pick(&all[1..]));
-                self.lists.line.insert(at, Hitches::event(rng, line));
+                self.lists.line.insert(at, RandomLists::event(rng, line));
             }
             4 => {
                 let (at, run) = (place(rng, transfers), 10 + rng.below(14) as u64);
-                self.lists.line.extend((at..at + run).map(|at| (at, Hitches::event(rng, Line::Wait))));
+                self.lists.line.extend((at..at + run).map(|at| (at, RandomLists::event(rng, Line::Wait))));
             }
             5 => {
                 let at = place(rng, calls);
-                self.lists.calls.insert(at, Hitches::failure(rng));
+                self.lists.calls.insert(at, RandomLists::failure(rng));
             }
             6 => {
                 let (at, busy) = (place(rng, calls), 19_990 + rng.below(20) as u32);
@@ -77,7 +77,7 @@ impl Run {
             7 => {
                 for at in 0..25 + rng.below(8) as u64 {
                     let line = *rng.pick(&all);
-                    self.lists.line.insert(at, Hitches::event(rng, line));
+                    self.lists.line.insert(at, RandomLists::event(rng, line));
                 }
             }
             _ => self.other_part(rng),
@@ -103,7 +103,7 @@ impl Run {
     /// Answers that no plain board gives: on a calm board of the image's IDs, a Read's word changed or
     /// now and then anything.
     pub fn unplain(&mut self, rng: &mut Rng) {
-        self.lists = Hitches::calm(rng.draw());
+        self.lists = RandomLists::calm(rng.draw());
         self.board.ids = Ids::of(&self.header);
         if rng.chance(6) {
             self.wild_one_in = 10 + rng.below(10_000);
@@ -141,7 +141,7 @@ impl Run {
 /// Answers requests from a run's board and lists, tampering as the run says.
 pub(super) struct Transport {
     pub(super) board: Board,
-    lists: Hitches,
+    lists: RandomLists,
     tampered: Option<Tampered>,
     wild: Option<(usize, Rng)>,
     address: u32,

@@ -1,7 +1,7 @@
 //! The proved bench board through its C ABI, beside ours: both meet each request with the same entries.
 
 use super::{abi_answer, outcome_bytes};
-use crate::board::{Board, CallOutcome, Fate, Line, LineEvent, Place};
+use crate::board::{Board, CallOutcome, FreeLists, Line, LineEvent, Place};
 use crate::image::Header;
 use crate::rng::Rng;
 use crate::session::Outcome;
@@ -29,20 +29,20 @@ pub fn is_of_other_register(request: Request) -> bool {
 
 /// Lists that remember what was taken from them for one request.
 struct Taken<'a, F> {
-    fate: &'a mut F,
+    lists: &'a mut F,
     event: Option<LineEvent>,
     call: Option<CallOutcome>,
 }
 
-impl<F: Fate> Fate for Taken<'_, F> {
+impl<F: FreeLists> FreeLists for Taken<'_, F> {
     fn line(&mut self) -> LineEvent {
         assert!(self.event.is_none(), "two entries for one transfer");
-        *self.event.insert(self.fate.line())
+        *self.event.insert(self.lists.line())
     }
 
     fn call(&mut self) -> CallOutcome {
         assert!(self.call.is_none(), "two entries for one call");
-        *self.call.insert(self.fate.call())
+        *self.call.insert(self.lists.call())
     }
 }
 
@@ -147,9 +147,9 @@ impl Pair {
     }
 
     /// Both boards meet a request.
-    pub fn meet(&mut self, request: Request, fate: &mut impl Fate) -> Met {
+    pub fn meet(&mut self, request: Request, lists: &mut impl FreeLists) -> Met {
         let free_bits = self.free_bits();
-        let mut taken = Taken { fate, event: None, call: None };
+        let mut taken = Taken { lists, event: None, call: None };
         let answer = self.ours.answer(request, &mut taken);
         if let Some(call) = &taken.call {
             self.leave(call);
@@ -178,9 +178,9 @@ impl Pair {
             latch: &mut self.latch,
             params: &mut self.params,
         };
-        let befalls = bench::Befalls { event, call, left: [&self.left[0], &self.left[1], &self.left[2]] };
+        let entries = bench::Outcomes { event, call, left: [&self.left[0], &self.left[1], &self.left[2]] };
         let request = outcome_bytes(Outcome::Request(request));
-        assert_eq!(bench::meet(self.part, self.macros, bench, befalls, &request, &mut answer), 0);
+        assert_eq!(bench::meet(self.part, self.macros, bench, entries, &request, &mut answer), 0);
         answer
     }
 

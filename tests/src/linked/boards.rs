@@ -1,4 +1,4 @@
-//! The proved bench board held to ours, packet by packet: whole sessions with hitches in both free lists,
+//! The proved bench board held to ours, packet by packet: whole sessions with disturbances in both free lists,
 //! and single packets that no session sends.
 
 mod packets;
@@ -6,12 +6,12 @@ mod seen;
 
 use super::bench::{Met, Pair};
 use super::Linked;
-use crate::board::{Board, Fate, Ids, Line, Running};
+use crate::board::{Board, FreeLists, Ids, Line, Running};
 use crate::claims::entry_of;
 use crate::counts::{loops, plan};
 use crate::cross::{random_run, Core, Counts, Run};
 use crate::parts::{KILL, OPEN, PROTECTED, SIZES};
-use crate::play::Hitches;
+use crate::play::RandomLists;
 use crate::rng::Rng;
 use crate::session::Outcome;
 use crate::texts::sample_image;
@@ -24,8 +24,8 @@ use std::collections::BTreeMap;
 #[derive(Clone, Default, Debug)]
 pub struct Boards {
     pub sessions: u64,
-    /// Sessions that met a hitch of each of the two lists.
-    pub hitched: u64,
+    /// Sessions that met a disturbance of each of the two lists.
+    pub disturbed: u64,
     /// By report.
     pub numbers: Counts,
     /// By part, M, stored level at the start, level of the image.
@@ -40,7 +40,7 @@ pub struct Boards {
 impl Boards {
     pub fn add(&mut self, other: &Boards) {
         self.sessions += other.sessions;
-        self.hitched += other.hitched;
+        self.disturbed += other.disturbed;
         (0..2).for_each(|which| self.packets[which] += other.packets[which]);
         add(&mut self.numbers, &other.numbers);
         add(&mut self.kinds, &other.kinds);
@@ -62,7 +62,7 @@ impl Boards {
                 assert!(self.kinds.contains_key(&kind), "never reached: {kind:?}");
             }
         }
-        assert!(2 * self.hitched > self.sessions);
+        assert!(2 * self.disturbed > self.sessions);
     }
 }
 
@@ -94,9 +94,9 @@ impl Tally {
         }
     }
 
-    fn meet(&mut self, pair: &mut Pair, request: Request, fate: &mut impl Fate) -> Met {
+    fn meet(&mut self, pair: &mut Pair, request: Request, lists: &mut impl FreeLists) -> Met {
         let before = Before::of(&pair.ours);
-        let (answer, event, call) = pair.meet(request, fate);
+        let (answer, event, call) = pair.meet(request, lists);
         self.see(&Seen { before, request, answer, event, call, board: &pair.ours });
         (answer, event, call)
     }
@@ -111,20 +111,20 @@ impl Tally {
 
 /// WAITs and busy calls at rates from one in 8 to one in 4,096 and one in 1 to one in 128, on the right
 /// part; half of the time with a failed call or another event besides.
-fn hitch(rng: &mut Rng, run: &mut Run) {
+fn disturb(rng: &mut Rng, run: &mut Run) {
     let (sizes, entry) = (run.header.sizes().expect("a part of the table"), entry_of(&run.board));
     let (transfers, calls) = (plan(&sizes, entry), loops(&sizes, entry));
     run.board.ids = Ids::of(&run.header);
-    run.lists = Hitches::calm(rng.draw());
+    run.lists = RandomLists::calm(rng.draw());
     let lists = &mut run.lists;
     (lists.wait_one_in, lists.most_waits) = (8 << rng.below(10), 1 + rng.below(14) as u32);
     (lists.busy_one_in, lists.most_busy) = (1 << rng.below(8), 1 << rng.below(7));
     if rng.chance(4) {
-        lists.calls.insert(rng.below(calls as usize) as u64, Hitches::failure(rng));
+        lists.calls.insert(rng.below(calls as usize) as u64, RandomLists::failure(rng));
     }
     if rng.chance(4) {
         let line = *rng.pick(&[Line::Fault, Line::SilentCarriedOut, Line::SilentLost, Line::WrongParity]);
-        lists.line.insert(rng.below(transfers as usize) as u64, Hitches::event(rng, line));
+        lists.line.insert(rng.below(transfers as usize) as u64, RandomLists::event(rng, line));
     }
 }
 
@@ -132,7 +132,7 @@ fn hitch(rng: &mut Rng, run: &mut Run) {
 fn session(rng: &mut Rng, tally: &mut Tally, part: u32, macros: u32) {
     let mut run = random_run(rng, part, macros);
     if !rng.chance(4) {
-        hitch(rng, &mut run);
+        disturb(rng, &mut run);
     }
     if rng.chance(16) {
         run.board.stored = rng.byte() & 0xF;
@@ -141,20 +141,20 @@ fn session(rng: &mut Rng, tally: &mut Tally, part: u32, macros: u32) {
     *tally.sum.kinds.entry((part, macros, board.stored, header.level)).or_default() += 1;
     let mut pair = Pair::of(&header, board);
     let (mut session, mut outcome) = Linked.start(&header, &image, true);
-    let mut hitched = [false; 2];
+    let mut disturbed = [false; 2];
     while let Outcome::Request(request) = outcome {
         assert!(!is_open_read(&pair.ours, request));
         let (answer, event, call) = tally.meet(&mut pair, request, &mut lists);
         outcome = Linked.step(&mut session, &image, answer);
-        hitched[0] |= event.is_some_and(|event| event.line != Line::Ok);
-        hitched[1] |= call.is_some_and(|call| call.busy > 0 || !call.success);
+        disturbed[0] |= event.is_some_and(|event| event.line != Line::Ok);
+        disturbed[1] |= call.is_some_and(|call| call.busy > 0 || !call.success);
         tally.sum.packets[0] += 1;
     }
     let Outcome::Report(report) = outcome else { panic!("{outcome:?}") };
     pair.assert_memory_alike();
     *tally.sum.numbers.entry(report.number).or_default() += 1;
     tally.sum.sessions += 1;
-    tally.sum.hitched += u64::from(hitched == [true; 2]);
+    tally.sum.disturbed += u64::from(disturbed == [true; 2]);
     single_packets(rng, tally, &mut pair, 60);
 }
 

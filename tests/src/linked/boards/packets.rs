@@ -1,11 +1,11 @@
 //! Single packets of every kind, also such as no session sends, kept off what the papers leave open.
 
-use crate::board::{Board, CallOutcome, Fate, Line, LineEvent, Place};
+use crate::board::{Board, CallOutcome, FreeLists, Line, LineEvent, Place};
 use crate::flow::{
     BIT_31, CHECKSUM, ERASE_ALL, LOAD_LATCH, PROGRAM_ROW, SET_IMO, SILICON_ID, WRITE_PROTECTION,
 };
 use crate::parts::{LOCKS, LOCKS_STEP, PARAMS, TEST_MODE};
-use crate::play::Hitches;
+use crate::play::RandomLists;
 use crate::rng::Rng;
 use crate::wire::{parity, request_byte, Register, Request};
 use std::collections::VecDeque;
@@ -20,7 +20,7 @@ pub struct Entries {
     pub call: CallOutcome,
 }
 
-impl Fate for Entries {
+impl FreeLists for Entries {
     fn line(&mut self) -> LineEvent {
         self.event
     }
@@ -32,13 +32,13 @@ impl Fate for Entries {
 
 /// A call that succeeds or fails, and what it leaves if it fails or XRES drops it.
 pub fn any_call(rng: &mut Rng) -> CallOutcome {
-    CallOutcome { busy: rng.below(4) as u32, success: !rng.chance(3), ..Hitches::failure(rng) }
+    CallOutcome { busy: rng.below(4) as u32, success: !rng.chance(3), ..RandomLists::failure(rng) }
 }
 
 fn any_entries(rng: &mut Rng) -> Entries {
     let lines = [Line::Wait, Line::Fault, Line::SilentCarriedOut, Line::SilentLost, Line::WrongParity];
     let line = if rng.chance(4) { *rng.pick(&lines) } else { Line::Ok };
-    Entries { event: Hitches::event(rng, line), call: any_call(rng) }
+    Entries { event: RandomLists::event(rng, line), call: any_call(rng) }
 }
 
 /// What is still to be sent of a Write, a Read or a call; other packets come between.
