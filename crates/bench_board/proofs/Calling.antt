@@ -11,7 +11,7 @@ use Rattle.bench_board.specs.Board.{Buffers, Left, runningOf, siliconOf,
 use Rattle.bench_board.specs.declared.Running.{Running}
 use Rattle.bench_board.specs.declared.Running.the-variants.{Idle, Busy}
 use Rattle.bench_board.specs.declared.CallOutcome.{CallOutcome}
-use Rattle.bench_board.specs.declared.Next.{Next}
+use Rattle.bench_board.specs.declared.Change.{Change}
 use Rattle.bench_board.specs.declared.Registers.{Registers}
 use Rattle.bench_board.specs.declared.Silicon.{Silicon}
 use Rattle.bench_memory.specs.Acts.{buffersAfter, Effects}
@@ -81,12 +81,12 @@ succeeding g r fs ps c arg req e f a q o x b h k =
 abbrev droppedFor : Geometry → Left → Registers → Buffers → Running → Target
 droppedFor g x r b k = setReset (dropped g (runningOf x k) (targetOf x r b))
 
-pub reset-idle : (r : Registers) (m : Next) → r .running ≡ Idle → Alters (record { registers = r; act = Keep }) m setReset → Resets r m
+pub reset-idle : (r : Registers) (m : Change) → r .running ≡ Idle → Alters (record { registers = r; act = Keep }) m setReset → Resets r m
 unfolding reset
 reset-idle r m e a g x b =
     ap (λ (t : Act). targetOf x (m .registers) (buffersAfter x t b)) (a .0) ∙ a .1 x b ∙ ap (λ (k : Running). droppedFor g x r b k) (sym e)
 
-pub reset-busy : (r : Registers) (o : CallOutcome) (c : ℕ) (n m : Next) → r .running ≡ Busy o c → Fails o c r n → Alters n m setReset → Resets r m
+pub reset-busy : (r : Registers) (o : CallOutcome) (c : ℕ) (n m : Change) → r .running ≡ Busy o c → Fails o c r n → Alters n m setReset → Resets r m
 unfolding reset
 reset-busy r o c n m e f a g x b =
     ap (λ (t : Act). targetOf x (m .registers) (buffersAfter x t b)) (a .0)

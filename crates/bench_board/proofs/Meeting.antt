@@ -9,14 +9,13 @@ use Rattle.bench_board.specs.Meets.{keeping, Makes, MakesIn, Resets, Car
 use Rattle.bench_board.specs.declared.CallOutcome.{CallOutcome}
 use Rattle.bench_board.specs.declared.Decision.{Decision}
 use Rattle.bench_board.specs.declared.LineEvent.{LineEvent}
-use Rattle.bench_board.specs.declared.Next.{Next}
+use Rattle.bench_board.specs.declared.Change.{Change}
 use Rattle.bench_board.specs.declared.Registers.{Registers}
-use Rattle.bench_map.specs.Spots.{placeOf}
-use Rattle.bench_map.specs.declared.Spot.{Spot}
+use Rattle.flow.specs.declared.Place.{Place}
 use Rattle.bench_memory.specs.Acts.{buffersAfter}
 use Rattle.flow.specs.Exchange.{Decoded, known, unknown, decode, fetch, store, carry, guarded, overDrw, carriedOut, gives, killed, silentReply, replyTo, barred, met, transferred, meetOn, meet}
 use Rattle.flow.specs.Exchange as Flow
-use Rattle.flow.specs.Map.{Place, place}
+use Rattle.flow.specs.Map.{place}
 use Rattle.flow.specs.Packets.{isRead}
 use Rattle.flow.specs.Target.{Target, setTar}
 use Rattle.flow.specs.declared.Answer.the-variants.{ResetDone, Transferred}
@@ -27,8 +26,8 @@ use Rattle.flow.specs.declared.Request.the-variants.{Xres, LineReset, ReadIdcod
 use Rattle.parts.specs.declared.Geometry.{Geometry}
 
 -- a request carried out
-module _ (g : Geometry) (fs ks ps : List ℕ) (q : Request) (other : ℕ) (o : CallOutcome) (p : Spot) (r : Registers) where
-  abbrev Out : Next → Type 0
+module _ (g : Geometry) (fs ks ps : List ℕ) (q : Request) (other : ℕ) (o : CallOutcome) (p : Place) (r : Registers) where
+  abbrev Out : Change → Type 0
   Out n = Carries g fs ks ps q other o p r n
 
   -- the request as it is known
@@ -38,18 +37,18 @@ module _ (g : Geometry) (fs ks ps : List ℕ) (q : Request) (other : ℕ) (o : C
   pub carry-none : (k : Request) → q ≡ k → ((x : Left) (b : Buffers) → targetOf x r b ≡ done x b k) → Out (keeping r)
   carry-none k e f w x b hf hk hp = f x b ∙ sym (ap (λ (t : Request). done x b t) e)
 
-  pub carry-read : (n : Next) → q ≡ ReadDrw → MakesIn fs ks ps r n (λ x t. fetch g other (placeOf p) t) → Out n
+  pub carry-read : (n : Change) → q ≡ ReadDrw → MakesIn fs ks ps r n (λ x t. fetch g other p t) → Out n
   unfolding carry
   carry-read n e m w x b hf hk hp =
       m x b hf hk hp
       ∙ ap (λ (s : Place). fetch g other s (targetOf x r b)) w
       ∙ sym (ap (λ (t : Request). done x b t) e)
 
-  pub carry-tar : (n : Next) (a : ℕ) → q ≡ WriteTar a → Makes r n (λ x t. setTar a t) → Out n
+  pub carry-tar : (n : Change) (a : ℕ) → q ≡ WriteTar a → Makes r n (λ x t. setTar a t) → Out n
   unfolding carry
   carry-tar n a e m w x b hf hk hp = m x b ∙ sym (ap (λ (t : Request). done x b t) e)
 
-  pub carry-write : (n : Next) (v : ℕ) → q ≡ WriteDrw v → Makes r n (λ x t. store v (callOutcomeOf x o) (placeOf p) t) → Out n
+  pub carry-write : (n : Change) (v : ℕ) → q ≡ WriteDrw v → Makes r n (λ x t. store v (callOutcomeOf x o) p t) → Out n
   unfolding carry
   carry-write n v e m w x b hf hk hp =
       m x b
@@ -71,8 +70,8 @@ module _ (g : Geometry) (other : ℕ) (o : CallOutcome) (r : Registers) (x : Lef
   none-idcode = refl
 
 -- a transfer
-module _ (g : Geometry) (fs ks ps : List ℕ) (q : Request) (e : LineEvent) (o : CallOutcome) (p : Spot) (r : Registers) (bars : Bool) (a : Reply)
-    (at : placeOf p ≡ place g (r .tar)) (shut : bars ≡ (eqb (r .effect) 2 && overDrw q && guarded (placeOf p))) (said : Replies q e bars r a) where
+module _ (g : Geometry) (fs ks ps : List ℕ) (q : Request) (e : LineEvent) (o : CallOutcome) (p : Place) (r : Registers) (bars : Bool) (a : Reply)
+    (at : p ≡ place g (r .tar)) (shut : bars ≡ (eqb (r .effect) 2 && overDrw q && guarded p)) (said : Replies q e bars r a) where
   abbrev through : Bool
   through = not (eqb (r .effect) 4) && not bars && carriedOut (transferOutcomeOf (e .outcome))
 
@@ -104,8 +103,8 @@ module _ (g : Geometry) (fs ks ps : List ℕ) (q : Request) (e : LineEvent) (o :
   saidBy x b =
       let t = targetOf x r b in cond (killed t) (silentReply (e .filler)) (replyTo (transferOutcomeOf (e .outcome)) bars (isRead q) (gives q t) (e .filler))
 
-  pub carried-out : (n : Next) (s : Bool) → through ≡ true → Carries g fs ks ps q (e .other) o p r n → Calls q p s
-      → Decides fs ks ps r e o (record { next = n; answer = Transferred a; «line_used» = true; «call_used» = s }) (λ l t. transferred g q (lineEventOf e) l t)
+  pub carried-out : (n : Change) (s : Bool) → through ≡ true → Carries g fs ks ps q (e .other) o p r n → Calls q p s
+      → Decides fs ks ps r e o (record { change = n; answer = Transferred a; «line_used» = true; «call_used» = s }) (λ l t. transferred g q (lineEventOf e) l t)
   carried-out n s h m k x b hf hk hp =
       ap (λ (t : Target). told x t a s) (m at x b hf hk hp)
       ∙ ap (λ (y : Reply). told x (carry g q (e .other) (callOutcomeOf x o) (targetOf x r b)) y s) (said x b)
@@ -114,7 +113,7 @@ module _ (g : Geometry) (fs ks ps : List ℕ) (q : Request) (e : LineEvent) (o :
       ∙ sym (met-so x b)
 
   pub left-out : through ≡ false
-      → Decides fs ks ps r e o (record { next = keeping r; answer = Transferred a; «line_used» = true; «call_used» = false }) (λ l t. transferred g q (lineEventOf e) l t)
+      → Decides fs ks ps r e o (record { change = keeping r; answer = Transferred a; «line_used» = true; «call_used» = false }) (λ l t. transferred g q (lineEventOf e) l t)
   left-out h x b hf hk hp =
       ap (λ (y : Reply). told x (targetOf x r b) y false) (said x b)
       ∙ sym (ap (λ (z : Bool). metThrough x b z) h)
@@ -137,10 +136,10 @@ module _ (g : Geometry) (fs ks ps : List ℕ) (q : Request) (e : LineEvent) (o :
   abbrev resetMet : (x : Left) → Target → Flow.Met
   resetMet x t = record { target = t; answer = ResetDone; lists = listsOf x e o }
 
-  abbrev resetBy : Next → Decision
-  resetBy n = record { next = n; answer = ResetDone; «line_used» = false; «call_used» = false }
+  abbrev resetBy : Change → Decision
+  resetBy n = record { change = n; answer = ResetDone; «line_used» = false; «call_used» = false }
 
-  pub meet-xres : (n : Next) → q ≡ Xres → Resets r n → Decides fs ks ps r e o (resetBy n) (λ l t. meetOn g (known q) l t)
+  pub meet-xres : (n : Change) → q ≡ Xres → Resets r n → Decides fs ks ps r e o (resetBy n) (λ l t. meetOn g (known q) l t)
   meet-xres n h m =
       meet-as (resetBy n) Xres h (λ x b hf hk hp. ap (λ (t : Target). resetMet x t) (m g x b))
 
@@ -155,16 +154,16 @@ module _ (g : Geometry) (fs ks ps : List ℕ) (p : Packet) (e : LineEvent) (o : 
 -- a packet that is no request
 pub meet-unknown : (g : Geometry) (fs ks ps : List ℕ) (p : Packet) (e : LineEvent) (o : CallOutcome) (r : Registers) (a : Reply) → unknown ≡ decode p
     → a ≡ silentReply (e .filler)
-    → Decides fs ks ps r e o (record { next = keeping r; answer = Transferred a; «line_used» = true; «call_used» = false }) (λ l t. meet g p l t)
+    → Decides fs ks ps r e o (record { change = keeping r; answer = Transferred a; «line_used» = true; «call_used» = false }) (λ l t. meet g p l t)
 meet-unknown g fs ks ps p e o r a k h =
-    decoded-as g fs ks ps p e o r (record { next = keeping r; answer = Transferred a; «line_used» = true; «call_used» = false }) unknown k
+    decoded-as g fs ks ps p e o r (record { change = keeping r; answer = Transferred a; «line_used» = true; «call_used» = false }) unknown k
     (λ x b hf hk hp. rw h)
 
 -- once the act is performed
 pub performed : (g : Geometry) (x : Left) (e : LineEvent) (o : CallOutcome) (p : Packet) (r : Registers) (d : Decision) (b b′ : Buffers)
-    → Decides (b .flash) (b .locks) (b .params) r e o d (λ l t. meet g p l t) → b′ ≡ buffersAfter x (d .next .act) b
-    → metOf x e o (record { registers = d .next .registers; answer = d .answer; «line_used» = d .«line_used»; «call_used» = d .«call_used» }) b′
+    → Decides (b .flash) (b .locks) (b .params) r e o d (λ l t. meet g p l t) → b′ ≡ buffersAfter x (d .change .act) b
+    → metOf x e o (record { registers = d .change .registers; answer = d .answer; «line_used» = d .«line_used»; «call_used» = d .«call_used» }) b′
     ≡ meet g p (listsOf x e o) (targetOf x r b)
 performed g x e o p r d b b′ m h =
-    ap (λ (c : Buffers). metOf x e o (record { registers = d .next .registers; answer = d .answer; «line_used» = d .«line_used»; «call_used» = d .«call_used» }) c) h
+    ap (λ (c : Buffers). metOf x e o (record { registers = d .change .registers; answer = d .answer; «line_used» = d .«line_used»; «call_used» = d .«call_used» }) c) h
     ∙ m x b refl refl refl

@@ -8,13 +8,12 @@ use lib.ListN.{getD}
 use Rattle.bench_board.specs.Board.{residueOf, callOutcomeOf, runningOf, targetOf}
 use Rattle.bench_board.specs.Meets.{keeping, asking, Makes, MakesOf, MakesIn, Alters}
 use Rattle.bench_board.specs.declared.CallOutcome.{CallOutcome}
-use Rattle.bench_board.specs.declared.Next.{Next}
+use Rattle.bench_board.specs.declared.Change.{Change}
 use Rattle.bench_board.specs.declared.Registers.{Registers}
 use Rattle.bench_board.specs.declared.Running.{Running}
 use Rattle.bench_board.specs.declared.Running.the-variants.{Idle, Busy}
-use Rattle.bench_map.specs.Spots.{placeOf}
-use Rattle.bench_map.specs.declared.Spot.{Spot}
-use Rattle.bench_map.specs.declared.Spot.the-variants.{InFlash, InLocks, InParams, AtLevel, AtSysreq, AtSysarg, AtTestMode, Elsewhere}
+use Rattle.flow.specs.declared.Place.{Place}
+use Rattle.flow.specs.declared.Place.the-variants.{InFlash, InLocks, InParams, AtLevel, AtSysreq, AtSysarg, AtTestMode, Elsewhere}
 use Rattle.bench_memory.specs.Acts.{buffersAfter}
 use Rattle.bench_memory.specs.declared.Act.{Act}
 use Rattle.bench_memory.specs.declared.Act.the-variants.{PutWord}
@@ -30,7 +29,7 @@ leftOf n o = record { «busy_reads» = n; succeeds = o .succeeds; sysarg = o .sy
 
 -- a read of SYSREQ with a call under way
 module _ (g : Geometry) (fs ps : List ℕ) (r : Registers) (other : ℕ) (o : CallOutcome) (c : ℕ) where
-  pub ended-there : (n m : Next) → o .«busy_reads» ≡ 0 → MakesOf fs ps r n (λ x t. finish g (o .succeeds) (residueOf x o) c t)
+  pub ended-there : (n m : Change) → o .«busy_reads» ≡ 0 → MakesOf fs ps r n (λ x t. finish g (o .succeeds) (residueOf x o) c t)
       → Alters n m (λ t. setPosted (n .registers .sysreq) t) → MakesOf fs ps r m (λ x t. tick g other (runningOf x (Busy o c)) t)
   ended-there n m e f a x b hf hp =
       ap (λ (t : Act). targetOf x (m .registers) (buffersAfter x t b)) (a .0)
@@ -45,7 +44,7 @@ module _ (g : Geometry) (fs ps : List ℕ) (r : Registers) (other : ℕ) (o : Ca
       let e : o .«busy_reads» ≡ suc (o .«busy_reads» - 1) = omega arith in
       sym (ap (λ (k : ℕ). tick g other (busy k (o .succeeds) (residueOf x o) c) (targetOf x r b)) e)
 
-module _ (g : Geometry) (fs ps : List ℕ) (r : Registers) (other : ℕ) (n : Next) where
+module _ (g : Geometry) (fs ps : List ℕ) (r : Registers) (other : ℕ) (n : Change) where
   pub tick-idle : r .running ≡ Idle → Makes r n (λ x t. setPosted (r .sysreq) t) → MakesOf fs ps r n (λ x t. tick g other (t .running) t)
   tick-idle e m x b hf hp = m x b ∙ sym (ap (λ (k : Running). tick g other (runningOf x k) (targetOf x r b)) e)
 
@@ -54,32 +53,32 @@ module _ (g : Geometry) (fs ps : List ℕ) (r : Registers) (other : ℕ) (n : Ne
   tick-running o c e m x b hf hp = m x b hf hp ∙ sym (ap (λ (k : Running). tick g other (runningOf x k) (targetOf x r b)) e)
 
 -- the word at TAR, posted
-module _ (g : Geometry) (fs ks ps : List ℕ) (r : Registers) (other : ℕ) (n : Next) (spot : Spot) where
+module _ (g : Geometry) (fs ks ps : List ℕ) (r : Registers) (other : ℕ) (n : Change) (at : Place) where
   abbrev Read : Type 0
-  Read = MakesIn fs ks ps r n (λ x t. fetch g other (placeOf spot) t)
+  Read = MakesIn fs ks ps r n (λ x t. fetch g other at t)
 
-  pub read-flash : (a w : ℕ) → spot ≡ InFlash a → w ≡ wordAt fs a → Makes r n (λ x t. setPosted w t) → Read
+  pub read-flash : (a w : ℕ) → at ≡ InFlash a → w ≡ wordAt fs a → Makes r n (λ x t. setPosted w t) → Read
   read-flash a w e v m x b hf hk hp = m x b ∙ rw (e, v, hf)
 
-  pub read-locks : (a w : ℕ) → spot ≡ InLocks a → w ≡ wordAt ks a → Makes r n (λ x t. setPosted w t) → Read
+  pub read-locks : (a w : ℕ) → at ≡ InLocks a → w ≡ wordAt ks a → Makes r n (λ x t. setPosted w t) → Read
   read-locks a w e v m x b hf hk hp = m x b ∙ rw (e, v, hk)
 
-  pub read-params : (a w : ℕ) → spot ≡ InParams a → w ≡ getD ps a 0 → Makes r n (λ x t. setPosted w t) → Read
+  pub read-params : (a w : ℕ) → at ≡ InParams a → w ≡ getD ps a 0 → Makes r n (λ x t. setPosted w t) → Read
   read-params a w e v m x b hf hk hp = m x b ∙ rw (e, v, hp)
 
-  pub read-level : (w : ℕ) → spot ≡ AtLevel → w ≡ levelWord (r .stored % 16) other → Makes r n (λ x t. setPosted w t) → Read
+  pub read-level : (w : ℕ) → at ≡ AtLevel → w ≡ levelWord (r .stored % 16) other → Makes r n (λ x t. setPosted w t) → Read
   read-level w e v m x b hf hk hp = m x b ∙ rw (e, v)
 
-  pub read-sysreq : spot ≡ AtSysreq → MakesOf fs ps r n (λ x t. tick g other (t .running) t) → Read
+  pub read-sysreq : at ≡ AtSysreq → MakesOf fs ps r n (λ x t. tick g other (t .running) t) → Read
   read-sysreq e m x b hf hk hp = m x b hf hp ∙ rw e
 
-  pub read-sysarg : spot ≡ AtSysarg → Makes r n (λ x t. setPosted (r .sysarg) t) → Read
+  pub read-sysarg : at ≡ AtSysarg → Makes r n (λ x t. setPosted (r .sysarg) t) → Read
   read-sysarg e m x b hf hk hp = m x b ∙ rw e
 
-  pub read-test-mode : spot ≡ AtTestMode → Makes r n (λ x t. setPosted (r .«test_mode») t) → Read
+  pub read-test-mode : at ≡ AtTestMode → Makes r n (λ x t. setPosted (r .«test_mode») t) → Read
   read-test-mode e m x b hf hk hp = m x b ∙ rw e
 
-  pub read-elsewhere : spot ≡ Elsewhere → Makes r n (λ x t. setPosted other t) → Read
+  pub read-elsewhere : at ≡ Elsewhere → Makes r n (λ x t. setPosted other t) → Read
   read-elsewhere e m x b hf hk hp = m x b ∙ rw e
 
 -- a write of SYSREQ
@@ -91,30 +90,30 @@ module _ (r : Registers) (w : ℕ) (o : CallOutcome) where
   sysreq-written h x b = rw (lt-leb 2147483648 w h)
 
 -- a word written at TAR
-module _ (r : Registers) (w : ℕ) (o : CallOutcome) (spot : Spot) where
-  abbrev Written : Next → Type 0
-  Written n = Makes r n (λ x t. store w (callOutcomeOf x o) (placeOf spot) t)
+module _ (r : Registers) (w : ℕ) (o : CallOutcome) (at : Place) where
+  abbrev Written : Change → Type 0
+  Written n = Makes r n (λ x t. store w (callOutcomeOf x o) at t)
 
-  pub write-flash : (a : ℕ) → spot ≡ InFlash a → Written (keeping r)
+  pub write-flash : (a : ℕ) → at ≡ InFlash a → Written (keeping r)
   write-flash a e x b = rw e
 
-  pub write-locks : (a : ℕ) → spot ≡ InLocks a → Written (keeping r)
+  pub write-locks : (a : ℕ) → at ≡ InLocks a → Written (keeping r)
   write-locks a e x b = rw e
 
-  pub write-params : (k : ℕ) → spot ≡ InParams k → Written (record { registers = r; act = PutWord k w })
+  pub write-params : (k : ℕ) → at ≡ InParams k → Written (record { registers = r; act = PutWord k w })
   write-params k e x b = rw e
 
-  pub write-level : spot ≡ AtLevel → Written (keeping r)
+  pub write-level : at ≡ AtLevel → Written (keeping r)
   write-level e x b = rw e
 
-  pub write-sysreq : (n : Next) → spot ≡ AtSysreq → Makes r n (λ x t. begin (isCall w) w (callOutcomeOf x o) t) → Written n
+  pub write-sysreq : (n : Change) → at ≡ AtSysreq → Makes r n (λ x t. begin (isCall w) w (callOutcomeOf x o) t) → Written n
   write-sysreq n e m x b = m x b ∙ rw e
 
-  pub write-sysarg : (n : Next) → spot ≡ AtSysarg → Makes r n (λ x t. setSysarg w t) → Written n
+  pub write-sysarg : (n : Change) → at ≡ AtSysarg → Makes r n (λ x t. setSysarg w t) → Written n
   write-sysarg n e m x b = m x b ∙ rw e
 
-  pub write-test-mode : (n : Next) → spot ≡ AtTestMode → Makes r n (λ x t. setTestMode w t) → Written n
+  pub write-test-mode : (n : Change) → at ≡ AtTestMode → Makes r n (λ x t. setTestMode w t) → Written n
   write-test-mode n e m x b = m x b ∙ rw e
 
-  pub write-elsewhere : spot ≡ Elsewhere → Written (keeping r)
+  pub write-elsewhere : at ≡ Elsewhere → Written (keeping r)
   write-elsewhere e x b = rw e

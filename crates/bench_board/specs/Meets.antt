@@ -10,13 +10,12 @@ use Rattle.bench_board.specs.declared.CallOutcome.{CallOutcome}
 use Rattle.bench_board.specs.declared.Decision.{Decision}
 use Rattle.bench_board.specs.declared.LineEvent.{LineEvent}
 use Rattle.bench_board.specs.declared.Met.{Met}
-use Rattle.bench_board.specs.declared.Next.{Next}
+use Rattle.bench_board.specs.declared.Change.{Change}
 use Rattle.bench_board.specs.declared.Registers.{Registers}
 use Rattle.bench_board.specs.declared.Silicon.{Silicon}
 use Rattle.bench_board.specs.declared.Running.{Running}
 use Rattle.bench_board.specs.declared.Running.the-variants.{Idle}
-use Rattle.bench_map.specs.Spots.{placeOf}
-use Rattle.bench_map.specs.declared.Spot.{Spot}
+use Rattle.flow.specs.declared.Place.{Place}
 use Rattle.bench_memory.specs.Acts.{buffersAfter}
 use Rattle.flow.specs.Calls.{sysargAfter, finish, reset}
 use Rattle.flow.specs.Exchange as Flow
@@ -48,7 +47,7 @@ metOf x e o m b = record {
 -- ---- registers that functions give
 
 -- the memory is left as it is
-abbrev pub keeping : Registers → Next
+abbrev pub keeping : Registers → Change
 keeping r = record { registers = r; act = Keep }
 
 -- another SYSREQ, another posted word, and this under way
@@ -66,7 +65,7 @@ asking w p k r = record {
 }
 
 -- a call's end
-abbrev pub ended : Registers → (stored sysarg sysreq : ℕ) → Act → Next
+abbrev pub ended : Registers → (stored sysarg sysreq : ℕ) → Act → Change
 ended r l a q t = record {
   registers = record {
     silicon = r .silicon;
@@ -85,22 +84,22 @@ ended r l a q t = record {
 -- ---- what inner functions promise: an act is performed later, so they speak of every memory that it may be performed on
 
 -- registers and memory after are the target that f makes of the one before, whatever is lent
-abbrev pub Makes : Registers → Next → (Left → Target → Target) → Type 0
+abbrev pub Makes : Registers → Change → (Left → Target → Target) → Type 0
 Makes r n f = (x : Left) (b : Buffers) → targetOf x (n .registers) (buffersAfter x (n .act) b) ≡ f x (targetOf x r b)
 
 -- the same, if flash and PARAMS are these
-abbrev pub MakesOf : (flash params : List ℕ) → Registers → Next → (Left → Target → Target) → Type 0
+abbrev pub MakesOf : (flash params : List ℕ) → Registers → Change → (Left → Target → Target) → Type 0
 MakesOf fs ps r n f =
     (x : Left) (b : Buffers) → b .flash ≡ fs → b .params ≡ ps → targetOf x (n .registers) (buffersAfter x (n .act) b) ≡ f x (targetOf x r b)
 
 -- the same, if flash, locks and PARAMS are these
-abbrev pub MakesIn : (flash locks params : List ℕ) → Registers → Next → (Left → Target → Target) → Type 0
+abbrev pub MakesIn : (flash locks params : List ℕ) → Registers → Change → (Left → Target → Target) → Type 0
 MakesIn fs ks ps r n f =
     (x : Left) (b : Buffers) → b .flash ≡ fs → b .locks ≡ ks → b .params ≡ ps
     → targetOf x (n .registers) (buffersAfter x (n .act) b) ≡ f x (targetOf x r b)
 
 -- the registers alone alter, as f alters the target
-abbrev pub Alters : Next → Next → (Target → Target) → Type 0
+abbrev pub Alters : Change → Change → (Target → Target) → Type 0
 Alters n m f = (m .act ≡ n .act) × ((x : Left) (b : Buffers) → targetOf x (m .registers) b ≡ f (targetOf x (n .registers) b))
 
 -- ---- calls
@@ -110,30 +109,30 @@ abbrev pub Answers : (c : ℕ) → Silicon → (flash : List ℕ) → (word : �
 Answers c s fs w = (m : Memory) → m .flash ≡ fs → w ≡ sysargAfter c (siliconOf s) m
 
 -- a call that fails; its part does not matter
-abbrev pub Fails : CallOutcome → (c : ℕ) → Registers → Next → Type 0
+abbrev pub Fails : CallOutcome → (c : ℕ) → Registers → Change → Type 0
 Fails o c r n = (g : Geometry) → Makes r n (λ x t. finish g false (residueOf x o) c t)
 
 -- a call that succeeds; what a failure would leave does not matter
-abbrev pub Succeeds : Geometry → (flash params : List ℕ) → (c : ℕ) → Registers → Next → Type 0
+abbrev pub Succeeds : Geometry → (flash params : List ℕ) → (c : ℕ) → Registers → Change → Type 0
 Succeeds g fs ps c r n = (o : CallOutcome) → MakesOf fs ps r n (λ x t. finish g true (residueOf x o) c t)
 
 -- XRES; the part does not matter
-abbrev pub Resets : Registers → Next → Type 0
+abbrev pub Resets : Registers → Change → Type 0
 Resets r n = (g : Geometry) → Makes r n (λ x t. reset g t)
 
 -- ---- transfers
 
 -- a request carried out where TAR points
-abbrev pub Carries : Geometry → (flash locks params : List ℕ) → Request → (other : ℕ) → CallOutcome → Spot → Registers → Next → Type 0
-Carries g fs ks ps q w o p r n = placeOf p ≡ place g (r .tar) → MakesIn fs ks ps r n (λ x t. carry g q w (callOutcomeOf x o) t)
+abbrev pub Carries : Geometry → (flash locks params : List ℕ) → Request → (other : ℕ) → CallOutcome → Place → Registers → Change → Type 0
+Carries g fs ks ps q w o p r n = p ≡ place g (r .tar) → MakesIn fs ks ps r n (λ x t. carry g q w (callOutcomeOf x o) t)
 
 -- the word that a read gives
 abbrev pub Gives : Request → Registers → (word : ℕ) → Type 0
 Gives q r w = (x : Left) (b : Buffers) → w ≡ gives q (targetOf x r b)
 
 -- whether a call takes its entry
-abbrev pub Calls : Request → Spot → Bool → Type 0
-Calls q p s = (g : Geometry) (t : Target) → placeOf p ≡ place g (t .tar) → s ≡ callsOn g q t
+abbrev pub Calls : Request → Place → Bool → Type 0
+Calls q p s = (g : Geometry) (t : Target) → p ≡ place g (t .tar) → s ≡ callsOn g q t
 
 -- the answer to a transfer, barred or not
 abbrev pub Replies : Request → LineEvent → (bars : Bool) → Registers → Reply → Type 0
@@ -147,8 +146,8 @@ Replies q e bars r a =
 abbrev pub metBy : Left → LineEvent → CallOutcome → Decision → Buffers → Flow.Met
 metBy x e o d b =
     metOf x e o
-    (record { registers = d .next .registers; answer = d .answer; «line_used» = d .«line_used»; «call_used» = d .«call_used» })
-    (buffersAfter x (d .next .act) b)
+    (record { registers = d .change .registers; answer = d .answer; «line_used» = d .«line_used»; «call_used» = d .«call_used» })
+    (buffersAfter x (d .change .act) b)
 
 -- a packet is met as f says, if flash, locks and PARAMS are these
 abbrev pub Decides : (flash locks params : List ℕ) → Registers → LineEvent → CallOutcome → Decision → (Lists → Target → Flow.Met) → Type 0

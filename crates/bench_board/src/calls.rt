@@ -8,7 +8,7 @@ ghost use Rattle.bench_board.specs.Meets.{ended, MakesOf, Fails, Succeed
 ghost use Rattle.flow.specs.Calls.{failedArg, sysreqAfter, finish};
 ghost use Rattle.flow.specs.Target.{setReset};
 use crate::CallOutcome;
-use crate::Next;
+use crate::Change;
 use crate::Registers;
 use crate::Running;
 use crate::Silicon;
@@ -16,11 +16,11 @@ use bench_memory::Act;
 use parts::Geometry;
 
 // The registers at a call's end.
-fn end(r: Registers, stored: u8, sysarg: u32, sysreq: u32, act: Act) -> Next
+fn end(r: Registers, stored: u8, sysarg: u32, sysreq: u32, act: Act) -> Change
     ensures { λ n. ⌜ n ≡ ended r stored sysarg sysreq act ⌝ }
 {
     let silicon = r.silicon;
-    Next {
+    Change {
         registers: Registers {
             silicon: silicon,
             stored: stored,
@@ -57,7 +57,7 @@ fn keeps_memory(c: u8) -> bool
 }
 
 // A call that fails.
-fn fail(r: Registers, o: CallOutcome, c: u8) -> Next
+fn fail(r: Registers, o: CallOutcome, c: u8) -> Change
     ensures { λ n. ⌜ Fails o c r n ⌝ }
 {
     let arg = failed_arg(o.sysarg);
@@ -105,7 +105,7 @@ fn sysreq_after(s: Silicon, effect: u8, c: u8) -> u32
 }
 
 // A call that succeeds.
-fn succeed(g: Geometry, r: Registers, flash: &[u8], params: &[u32], c: u8) -> Next
+fn succeed(g: Geometry, r: Registers, flash: &[u8], params: &[u32], c: u8) -> Change
     ensures { λ n. ⌜ Succeeds g (now (flash .entry)) (now (params .entry)) c r n ⌝ }
 {
     let s = r.silicon;
@@ -123,7 +123,7 @@ pub(crate) fn complete(
     params: &[u32],
     o: CallOutcome,
     c: u8,
-) -> Next
+) -> Change
     ensures { λ n. ⌜ MakesOf (now (flash .entry)) (now (params .entry)) r n (λ x t. finish g (o .succeeds) (residueOf x o) c t) ⌝ }
 {
     if o.succeeds {
@@ -133,13 +133,13 @@ pub(crate) fn complete(
 }
 
 // XRES, once nothing is under way: the stored level in effect, SYSREQ cleared.
-fn cleared(n: Next) -> Next
+fn cleared(n: Change) -> Change
     ensures { λ m. ⌜ Alters n m setReset ⌝ }
 {
     let r = n.registers;
     let silicon = r.silicon;
     let act = n.act;
-    Next {
+    Change {
         registers: Registers {
             silicon: silicon,
             stored: r.stored,
@@ -156,12 +156,12 @@ fn cleared(n: Next) -> Next
 }
 
 // XRES.
-pub(crate) fn xres(r: Registers) -> Next
+pub(crate) fn xres(r: Registers) -> Change
     ensures { λ n. ⌜ Resets r n ⌝ }
 {
     let running = r.running;
     match running {
-        Running::Idle => cleared(Next {
+        Running::Idle => cleared(Change {
             registers: r,
             act: Act::Keep,
         }),

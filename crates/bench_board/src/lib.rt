@@ -62,14 +62,14 @@ pub struct Registers {
 }
 
 // The registers after a request, and what it does to the memory.
-struct Next {
+struct Change {
     registers: Registers,
     act: Act,
 }
 
 // How a packet is met, before the memory is written.
 struct Decision {
-    next: Next,
+    change: Change,
     answer: Answer,
     line_used: bool,
     call_used: bool,
@@ -98,13 +98,13 @@ fn meet_request(
 {
     match q {
         Request::Xres => Decision {
-            next: calls::xres(r),
+            change: calls::xres(r),
             answer: Answer::ResetDone,
             line_used: false,
             call_used: false,
         },
         Request::LineReset => Decision {
-            next: words::keep(r),
+            change: words::keep(r),
             answer: Answer::ResetDone,
             line_used: false,
             call_used: false,
@@ -135,7 +135,7 @@ fn decide(
     match d {
         Decoded::Known(q) => meet_request(g, r, flash, locks, params, q, e, o),
         Decoded::Unknown => Decision {
-            next: words::keep(r),
+            change: words::keep(r),
             answer: Answer::Transferred(bench_lines::silent_reply(filler)),
             line_used: true,
             call_used: false,
@@ -161,7 +161,7 @@ pub fn meet(
     ensures { λ m. ⌜ metOf (left (now («left_flash» .entry)) (now («left_locks» .entry)) (now («left_latch» .entry))) e o m (lent (now (flash .exit)) (now (locks .exit)) (now (latch .exit)) (now (params .exit))) ≡ Flow.meet g p (listsOf (left (now («left_flash» .entry)) (now («left_locks» .entry)) (now («left_latch» .entry))) e o) (targetOf (left (now («left_flash» .entry)) (now («left_locks» .entry)) (now («left_latch» .entry))) r (lent (now (flash .entry)) (now (locks .entry)) (now (latch .entry)) (now (params .entry)))) ⌝ }
 {
     let d = decide(g, r, flash, locks, params, p, e, o);
-    let n = d.next;
+    let n = d.change;
     let registers = n.registers;
     let act = n.act;
     let answer = d.answer;

@@ -7,19 +7,19 @@ ghost use Rattle.bench_board.specs.Meets.{Makes, Decides, Carries, Gives
 ghost use Rattle.flow.specs.Exchange.{carriedOut, transferred};
 ghost use Rattle.flow.specs.Target.{setTar};
 use crate::CallOutcome;
+use crate::Change;
 use crate::Decision;
 use crate::LineEvent;
-use crate::Next;
 use crate::Registers;
 use crate::words;
 use bench_lines::TransferOutcome;
-use bench_map::Spot;
 use flow::Answer;
+use flow::Place;
 use flow::Reply;
 use flow::Request;
 use parts::Geometry;
 
-fn write_tar(r: Registers, a: u32) -> Next
+fn write_tar(r: Registers, a: u32) -> Change
     ensures { λ n. ⌜ Makes r n (λ x t. setTar a t) ⌝ }
 {
     let mut s = r;
@@ -37,17 +37,17 @@ fn carry_out(
     q: Request,
     other: u32,
     o: CallOutcome,
-    spot: Spot,
-) -> Next
-    ensures { λ n. ⌜ Carries g (now (flash .entry)) (now (locks .entry)) (now (params .entry)) q other o spot r n ⌝ }
+    at: Place,
+) -> Change
+    ensures { λ n. ⌜ Carries g (now (flash .entry)) (now (locks .entry)) (now (params .entry)) q other o at r n ⌝ }
 {
     match q {
         Request::Xres => words::keep(r),
         Request::LineReset => words::keep(r),
         Request::ReadIdcode => words::keep(r),
-        Request::ReadDrw => words::read_word(g, r, flash, locks, params, other, spot),
+        Request::ReadDrw => words::read_word(g, r, flash, locks, params, other, at),
         Request::WriteTar(a) => write_tar(r, a),
-        Request::WriteDrw(w) => words::write_word(r, w, o, spot),
+        Request::WriteDrw(w) => words::write_word(r, w, o, at),
         Request::WriteSetup(_, _) => words::keep(r),
     }
 }
@@ -69,8 +69,8 @@ fn given_word(r: Registers, q: Request) -> u32
 }
 
 // Whether a request carried out starts a call.
-fn starts_call(q: Request, spot: Spot) -> bool
-    ensures { λ t. ⌜ Calls q spot t ⌝ }
+fn starts_call(q: Request, at: Place) -> bool
+    ensures { λ t. ⌜ Calls q at t ⌝ }
 {
     match q {
         Request::Xres => false,
@@ -78,7 +78,7 @@ fn starts_call(q: Request, spot: Spot) -> bool
         Request::ReadIdcode => false,
         Request::ReadDrw => false,
         Request::WriteTar(_) => false,
-        Request::WriteDrw(w) => bench_map::is_call(w, spot),
+        Request::WriteDrw(w) => bench_map::is_call(w, at),
         Request::WriteSetup(_, _) => false,
     }
 }
@@ -121,22 +121,22 @@ pub(crate) fn transfer(
 ) -> Decision
     ensures { λ d. ⌜ Decides (now (flash .entry)) (now (locks .entry)) (now (params .entry)) r e o d (λ l t. transferred g q (lineEventOf e) l t) ⌝ }
 {
-    let spot = bench_map::spot_of(g, r.tar);
-    let barred = bench_map::bars(r.effect, q, spot);
+    let at = bench_map::place_of(g, r.tar);
+    let barred = bench_map::bars(r.effect, q, at);
     let outcome = e.outcome;
     let reply = answer(r, q, e, barred);
     if goes_through(r.effect, barred, outcome) {
-        let n = carry_out(g, r, flash, locks, params, q, e.other, o, spot);
-        let starts = starts_call(q, spot);
+        let n = carry_out(g, r, flash, locks, params, q, e.other, o, at);
+        let starts = starts_call(q, at);
         return Decision {
-            next: n,
+            change: n,
             answer: Answer::Transferred(reply),
             line_used: true,
             call_used: starts,
         };
     }
     Decision {
-        next: words::keep(r),
+        change: words::keep(r),
         answer: Answer::Transferred(reply),
         line_used: true,
         call_used: false,

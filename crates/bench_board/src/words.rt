@@ -5,30 +5,29 @@ ghost use Prim.Native.Nat.{_%_, _-_, _<_};
 ghost use lib.Dec.{eqb};
 ghost use Rattle.bench_board.specs.Board.{callOutcomeOf, runningOf};
 ghost use Rattle.bench_board.specs.Meets.{keeping, asking, Makes, MakesOf, MakesIn, Alters};
-ghost use Rattle.bench_map.specs.Spots.{placeOf};
 ghost use Rattle.flow.specs.Exchange.{levelWord, tick, fetch, isCall, begin, store};
 ghost use Rattle.flow.specs.Target.{setPosted, setSysarg, setTestMode};
 use crate::CallOutcome;
-use crate::Next;
+use crate::Change;
 use crate::Registers;
 use crate::Running;
 use crate::calls;
-use bench_map::Spot;
 use bench_memory::Act;
+use flow::Place;
 use parts::Geometry;
 
 // The memory is left as it is.
-pub(crate) fn keep(r: Registers) -> Next
+pub(crate) fn keep(r: Registers) -> Change
     ensures { λ n. ⌜ n ≡ keeping r ⌝ }
 {
-    Next {
+    Change {
         registers: r,
         act: Act::Keep,
     }
 }
 
 // A word posted.
-fn post(r: Registers, w: u32) -> Next
+fn post(r: Registers, w: u32) -> Change
     ensures { λ n. ⌜ Makes r n (λ x t. setPosted w t) ⌝ }
 {
     let mut s = r;
@@ -37,13 +36,13 @@ fn post(r: Registers, w: u32) -> Next
 }
 
 // What SYSREQ holds, posted.
-fn post_sysreq(n: Next) -> Next
+fn post_sysreq(n: Change) -> Change
     ensures { λ m. ⌜ Alters n m (λ t. setPosted (n .registers .sysreq) t) ⌝ }
 {
     let mut s = n.registers;
     let act = n.act;
     s.posted = s.sysreq;
-    Next {
+    Change {
         registers: s,
         act: act,
     }
@@ -71,7 +70,7 @@ fn level_word(stored: u8, other: u32) -> u32
 }
 
 // Another SYSREQ, another posted word, and what is under way.
-fn ask(r: Registers, sysreq: u32, posted: u32, running: Running) -> Next
+fn ask(r: Registers, sysreq: u32, posted: u32, running: Running) -> Change
     ensures { λ n. ⌜ n ≡ keeping (asking sysreq posted running r) ⌝ }
 {
     let silicon = r.silicon;
@@ -110,7 +109,7 @@ fn tick_busy(
     other: u32,
     o: CallOutcome,
     c: u8,
-) -> Next
+) -> Change
     ensures { λ n. ⌜ MakesOf (now (flash .entry)) (now (params .entry)) r n (λ x t. tick g other (runningOf x (Running.Busy o c)) t) ⌝ }
 {
     if o.busy_reads == 0 {
@@ -125,7 +124,7 @@ fn tick_busy(
 }
 
 // A read of SYSREQ.
-fn read_sysreq(g: Geometry, r: Registers, flash: &[u8], params: &[u32], other: u32) -> Next
+fn read_sysreq(g: Geometry, r: Registers, flash: &[u8], params: &[u32], other: u32) -> Change
     ensures { λ n. ⌜ MakesOf (now (flash .entry)) (now (params .entry)) r n (λ x t. tick g other (t .running) t) ⌝ }
 {
     let running = r.running;
@@ -143,24 +142,24 @@ pub(crate) fn read_word(
     locks: &[u8],
     params: &[u32],
     other: u32,
-    spot: Spot,
-) -> Next
-    ensures { λ n. ⌜ MakesIn (now (flash .entry)) (now (locks .entry)) (now (params .entry)) r n (λ x t. fetch g other (placeOf spot) t) ⌝ }
+    at: Place,
+) -> Change
+    ensures { λ n. ⌜ MakesIn (now (flash .entry)) (now (locks .entry)) (now (params .entry)) r n (λ x t. fetch g other at t) ⌝ }
 {
-    match spot {
-        Spot::InFlash(a) => post(r, image::word_at(flash, a)),
-        Spot::InLocks(a) => post(r, image::word_at(locks, a)),
-        Spot::InParams(k) => post(r, bench_memory::word_of(params, k)),
-        Spot::AtLevel => post(r, level_word(r.stored, other)),
-        Spot::AtSysreq => read_sysreq(g, r, flash, params, other),
-        Spot::AtSysarg => post(r, r.sysarg),
-        Spot::AtTestMode => post(r, r.test_mode),
-        Spot::Elsewhere => post(r, other),
+    match at {
+        Place::InFlash(a) => post(r, image::word_at(flash, a)),
+        Place::InLocks(a) => post(r, image::word_at(locks, a)),
+        Place::InParams(k) => post(r, bench_memory::word_of(params, k)),
+        Place::AtLevel => post(r, level_word(r.stored, other)),
+        Place::AtSysreq => read_sysreq(g, r, flash, params, other),
+        Place::AtSysarg => post(r, r.sysarg),
+        Place::AtTestMode => post(r, r.test_mode),
+        Place::Elsewhere => post(r, other),
     }
 }
 
 // A write of SYSREQ; bit 31 starts a call.
-fn write_sysreq(r: Registers, w: u32, o: CallOutcome) -> Next
+fn write_sysreq(r: Registers, w: u32, o: CallOutcome) -> Change
     ensures { λ n. ⌜ Makes r n (λ x t. begin (isCall w) w (callOutcomeOf x o) t) ⌝ }
 {
     if 2147483648 <= w {
@@ -170,7 +169,7 @@ fn write_sysreq(r: Registers, w: u32, o: CallOutcome) -> Next
     ask(r, w, r.posted, running)
 }
 
-fn write_sysarg(r: Registers, w: u32) -> Next
+fn write_sysarg(r: Registers, w: u32) -> Change
     ensures { λ n. ⌜ Makes r n (λ x t. setSysarg w t) ⌝ }
 {
     let mut s = r;
@@ -178,7 +177,7 @@ fn write_sysarg(r: Registers, w: u32) -> Next
     keep(s)
 }
 
-fn write_test_mode(r: Registers, w: u32) -> Next
+fn write_test_mode(r: Registers, w: u32) -> Change
     ensures { λ n. ⌜ Makes r n (λ x t. setTestMode w t) ⌝ }
 {
     let mut s = r;
@@ -187,20 +186,20 @@ fn write_test_mode(r: Registers, w: u32) -> Next
 }
 
 // A DRW write: registers and PARAMS take it, all else does not.
-pub(crate) fn write_word(r: Registers, w: u32, o: CallOutcome, spot: Spot) -> Next
-    ensures { λ n. ⌜ Makes r n (λ x t. store w (callOutcomeOf x o) (placeOf spot) t) ⌝ }
+pub(crate) fn write_word(r: Registers, w: u32, o: CallOutcome, at: Place) -> Change
+    ensures { λ n. ⌜ Makes r n (λ x t. store w (callOutcomeOf x o) at t) ⌝ }
 {
-    match spot {
-        Spot::InFlash(_) => keep(r),
-        Spot::InLocks(_) => keep(r),
-        Spot::InParams(k) => Next {
+    match at {
+        Place::InFlash(_) => keep(r),
+        Place::InLocks(_) => keep(r),
+        Place::InParams(k) => Change {
             registers: r,
             act: Act::PutWord(k, w),
         },
-        Spot::AtLevel => keep(r),
-        Spot::AtSysreq => write_sysreq(r, w, o),
-        Spot::AtSysarg => write_sysarg(r, w),
-        Spot::AtTestMode => write_test_mode(r, w),
-        Spot::Elsewhere => keep(r),
+        Place::AtLevel => keep(r),
+        Place::AtSysreq => write_sysreq(r, w, o),
+        Place::AtSysarg => write_sysarg(r, w),
+        Place::AtTestMode => write_test_mode(r, w),
+        Place::Elsewhere => keep(r),
     }
 }

@@ -27,7 +27,8 @@ use Rattle.flow.specs.declared.Answer.the-variants.{ResetDone, Transferred}
 use Rattle.flow.specs.declared.Packet.{Packet}
 use Rattle.flow.specs.declared.Reply.{Reply}
 use Rattle.layout.proofs.Bytes.{sets-whole, put-in}
-use Rattle.layout.specs.Bytes.{lowFirst, flagByte, wordPut}
+use Rattle.image.specs.Words.{lowFirst}
+use Rattle.layout.specs.Bytes.{flagByte, wordPut}
 use Rattle.parts.proofs.Table.{both}
 use Rattle.parts.specs.Parts.{lookupOf}
 use Rattle.parts.specs.declared.Geometry.{Geometry}

@@ -21,8 +21,8 @@ use Rattle.flow.specs.declared.Answer.{Answer}
 use Rattle.flow.specs.declared.Answer.the-variants.{ResetDone, Transferred}
 use Rattle.flow.specs.declared.Packet.{Packet}
 use Rattle.flow.specs.declared.Packet.the-variants.{Xres, LineReset, Read, Write}
-use Rattle.image.specs.Words.{wordAt}
-use Rattle.layout.specs.Bytes.{lowFirst, flagByte}
+use Rattle.image.specs.Words.{wordAt, lowFirst}
+use Rattle.layout.specs.Bytes.{flagByte}
 
 -- ---- found in bytes
 

@@ -6,7 +6,7 @@ ghost use lib.ListN.{length};
 ghost use lib.Seq.{sets};
 ghost use Rattle.bench_board.specs.Board.{siliconOf};
 ghost use Rattle.bench_c.specs.BoardBytes.{siliconBytes, runBytes, wordsBytes, replyBytes, answerBytes, usedOf, RunningPut, BoardPut};
-ghost use Rattle.layout.specs.Bytes.{lowFirst};
+ghost use Rattle.image.specs.Words.{lowFirst};
 use bench_board::Registers;
 use bench_board::Running;
 use bench_board::Silicon;

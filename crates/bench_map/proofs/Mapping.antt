@@ -6,7 +6,9 @@ use native.Mathlib.Nat.{suc-mul}
 use native.Mathlib.Omega.{arith}
 use lib.Dec.{leb, ltb}
 use borrow.Author.Tests.{ltb-true, leb-true, ltb-false, lt-ltb, le-ltb, le-leb}
-use Rattle.flow.specs.Map.{Place, inFlash, inLocks, inParams, atLevel, atSysreq, atSysarg, atTestMode, elsewhere, paramsSize, search, lockRegions, regions, place}
+use Rattle.flow.specs.Map.{paramsSize, search, lockRegions, regions, place}
+use Rattle.flow.specs.declared.Place.{Place}
+use Rattle.flow.specs.declared.Place.the-variants.{InFlash, InLocks, InParams, AtLevel, AtSysreq, AtSysarg, AtTestMode, Elsewhere}
 use Rattle.flow.specs.Sequence.{lockStart}
 use Rattle.parts.specs.Sizes.{rowsPerMacro, macrosOf, flashSize, locksIn, sysreqOf, sysargOf, PARAMS, TEST-MODE, locksAt, levelAt}
 use Rattle.parts.specs.declared.Geometry.{Geometry}
@@ -26,14 +28,14 @@ covering s k a = leb s a && ltb a (s + k)
 
 -- the locks of n macros of size k and step d, the first at s and of offset f
 unfoldable pub lockFrom : (k d s f n a : ℕ) → Place
-lockFrom k d s f zero a = elsewhere
-lockFrom k d s f (suc n) a = cond (covering s k a) (inLocks (f + (a - s))) (lockFrom k d (s + d) (f + k) n a)
+lockFrom k d s f zero a = Elsewhere
+lockFrom k d s f (suc n) a = cond (covering s k a) (InLocks (f + (a - s))) (lockFrom k d (s + d) (f + k) n a)
 
-pub lock-none : (k d s f a : ℕ) → lockFrom k d s f 0 a ≡ elsewhere
+pub lock-none : (k d s f a : ℕ) → lockFrom k d s f 0 a ≡ Elsewhere
 unfolding lockFrom
 lock-none k d s f a = refl
 
-pub lock-hit : (k d s f n a : ℕ) → 0 < n → covering s k a ≡ true → lockFrom k d s f n a ≡ inLocks (f + (a - s))
+pub lock-hit : (k d s f n a : ℕ) → 0 < n → covering s k a ≡ true → lockFrom k d s f n a ≡ InLocks (f + (a - s))
 unfolding lockFrom
 lock-hit k d s f zero a h t = absurd (omega arith)
 lock-hit k d s f (suc n) a h t = rw t
@@ -81,7 +83,7 @@ module _ (g : Geometry) (a : ℕ) where
       let z : 0 + flashSize g ≡ flashSize g = omega arith in
       rw (le-leb 0 a (omega arith), z) e
 
-  pub at-flash : a < flashSize g → place g a ≡ inFlash a
+  pub at-flash : a < flashSize g → place g a ≡ InFlash a
   unfolding search regions
   at-flash h =
       let z : a - 0 ≡ a = omega arith in
@@ -91,27 +93,27 @@ module _ (g : Geometry) (a : ℕ) where
     e₀ : covering 0 (flashSize g) a ≡ false
     e₀ = first-test false (le-ltb a (flashSize g) past)
 
-    pub at-sysreq : covering (sysreqOf g) 4 a ≡ true → place g a ≡ atSysreq
+    pub at-sysreq : covering (sysreqOf g) 4 a ≡ true → place g a ≡ AtSysreq
     unfolding search regions
     at-sysreq t = rw (e₀, t)
 
     module _ (e₁ : covering (sysreqOf g) 4 a ≡ false) where
-      pub at-sysarg : covering (sysargOf g) 4 a ≡ true → place g a ≡ atSysarg
+      pub at-sysarg : covering (sysargOf g) 4 a ≡ true → place g a ≡ AtSysarg
       unfolding search regions
       at-sysarg t = rw (e₀, e₁, t)
 
       module _ (e₂ : covering (sysargOf g) 4 a ≡ false) where
-        pub at-test : covering TEST-MODE 4 a ≡ true → place g a ≡ atTestMode
+        pub at-test : covering TEST-MODE 4 a ≡ true → place g a ≡ AtTestMode
         unfolding search regions
         at-test t = rw (e₀, e₁, e₂, t)
 
         module _ (e₃ : covering TEST-MODE 4 a ≡ false) where
-          pub at-params : covering PARAMS (paramsSize g) a ≡ true → place g a ≡ inParams ((a - PARAMS) / 4)
+          pub at-params : covering PARAMS (paramsSize g) a ≡ true → place g a ≡ InParams ((a - PARAMS) / 4)
           unfolding search regions
           at-params t = rw (e₀, e₁, e₂, e₃, t)
 
           module _ (e₄ : covering PARAMS (paramsSize g) a ≡ false) where
-            pub at-level : covering (levelAt g) 4 a ≡ true → place g a ≡ atLevel
+            pub at-level : covering (levelAt g) 4 a ≡ true → place g a ≡ AtLevel
             unfolding search regions
             at-level t = rw (e₀, e₁, e₂, e₃, e₄, t)
 

@@ -3,24 +3,12 @@ ghost use mathlib.Core.Bool.{_&&_};
 ghost use mathlib.Core.Path.{_≡_};
 ghost use Prim.Native.Nat.{_+_};
 ghost use lib.Dec.{eqb, leb, ltb};
-ghost use Rattle.bench_map.specs.Spots.{placeOf};
 ghost use Rattle.flow.specs.Exchange.{guarded, isCall, isSysreq, overDrw};
 ghost use Rattle.flow.specs.Map.{search, lockRegions, place};
 ghost use Rattle.parts.specs.Sizes.{macrosOf};
+use flow::Place;
 use flow::Request;
 use parts::Geometry;
-
-// What is at an address, with the offset there.
-pub enum Spot {
-    InFlash(usize),
-    InLocks(usize),
-    InParams(usize),
-    AtLevel,
-    AtSysreq,
-    AtSysarg,
-    AtTestMode,
-    Elsewhere,
-}
 
 // Whether an address lies in `size` bytes from `start` on.
 fn covers(start: usize, size: usize, a: usize) -> bool
@@ -33,8 +21,8 @@ fn covers(start: usize, size: usize, a: usize) -> bool
 }
 
 // The locks of each macro.
-fn lock_spot(g: Geometry, a: usize) -> Spot
-    ensures { λ r. ⌜ placeOf r ≡ search (lockRegions g 0 (macrosOf g)) a ⌝ }
+fn lock_place(g: Geometry, a: usize) -> Place
+    ensures { λ r. ⌜ r ≡ search (lockRegions g 0 (macrosOf g)) a ⌝ }
 {
     let p = g.part;
     let size = (p.rows_per_macro / 8) as usize;
@@ -44,41 +32,41 @@ fn lock_spot(g: Geometry, a: usize) -> Spot
     let mut left = g.macros;
     while 0 < left {
         if covers(start, size, a) {
-            return Spot::InLocks(from + (a - start));
+            return Place::InLocks(from + (a - start));
         }
         start += step;
         from += size;
         left -= 1;
     }
-    Spot::Elsewhere
+    Place::Elsewhere
 }
 
 // What is at an address.
-pub fn spot_of(g: Geometry, address: u32) -> Spot
-    ensures { λ r. ⌜ placeOf r ≡ place g address ⌝ }
+pub fn place_of(g: Geometry, address: u32) -> Place
+    ensures { λ r. ⌜ r ≡ place g address ⌝ }
 {
     let p = g.part;
     let a = address as usize;
     let sysreq = p.sysreq as usize;
     if a < parts::flash_size(g) {
-        return Spot::InFlash(a);
+        return Place::InFlash(a);
     }
     if covers(sysreq, 4, a) {
-        return Spot::AtSysreq;
+        return Place::AtSysreq;
     }
     if covers(sysreq + 4, 4, a) {
-        return Spot::AtSysarg;
+        return Place::AtSysarg;
     }
     if covers(0x40030014, 4, a) {
-        return Spot::AtTestMode;
+        return Place::AtTestMode;
     }
     if covers(0x20000100, 8 + (p.row_bytes as usize), a) {
-        return Spot::InParams((a - 0x20000100) / 4);
+        return Place::InParams((a - 0x20000100) / 4);
     }
     if covers(p.level_word as usize, 4, a) {
-        return Spot::AtLevel;
+        return Place::AtLevel;
     }
-    lock_spot(g, a)
+    lock_place(g, a)
 }
 
 fn is_drw(q: Request) -> bool
@@ -96,55 +84,55 @@ fn is_drw(q: Request) -> bool
 }
 
 // Flash and PARAMS are shut while PROTECTED is in effect.
-fn is_guarded(spot: Spot) -> bool
-    ensures { λ t. ⌜ t ≡ guarded (placeOf spot) ⌝ }
+fn is_guarded(at: Place) -> bool
+    ensures { λ t. ⌜ t ≡ guarded at ⌝ }
 {
-    match spot {
-        Spot::InFlash(_) => true,
-        Spot::InLocks(_) => false,
-        Spot::InParams(_) => true,
-        Spot::AtLevel => false,
-        Spot::AtSysreq => false,
-        Spot::AtSysarg => false,
-        Spot::AtTestMode => false,
-        Spot::Elsewhere => false,
+    match at {
+        Place::InFlash(_) => true,
+        Place::InLocks(_) => false,
+        Place::InParams(_) => true,
+        Place::AtLevel => false,
+        Place::AtSysreq => false,
+        Place::AtSysarg => false,
+        Place::AtTestMode => false,
+        Place::Elsewhere => false,
     }
 }
 
 // Whether PROTECTED in effect answers FAULT.
-pub fn bars(effect: u8, q: Request, spot: Spot) -> bool
-    ensures { λ t. ⌜ t ≡ (eqb effect 2 && overDrw q && guarded (placeOf spot)) ⌝ }
+pub fn bars(effect: u8, q: Request, at: Place) -> bool
+    ensures { λ t. ⌜ t ≡ (eqb effect 2 && overDrw q && guarded at) ⌝ }
 {
     if effect != 2 {
         return false;
     }
     if is_drw(q) {
-        return is_guarded(spot);
+        return is_guarded(at);
     }
     false
 }
 
-fn at_sysreq(spot: Spot) -> bool
-    ensures { λ t. ⌜ t ≡ isSysreq (placeOf spot) ⌝ }
+fn at_sysreq(at: Place) -> bool
+    ensures { λ t. ⌜ t ≡ isSysreq at ⌝ }
 {
-    match spot {
-        Spot::InFlash(_) => false,
-        Spot::InLocks(_) => false,
-        Spot::InParams(_) => false,
-        Spot::AtLevel => false,
-        Spot::AtSysreq => true,
-        Spot::AtSysarg => false,
-        Spot::AtTestMode => false,
-        Spot::Elsewhere => false,
+    match at {
+        Place::InFlash(_) => false,
+        Place::InLocks(_) => false,
+        Place::InParams(_) => false,
+        Place::AtLevel => false,
+        Place::AtSysreq => true,
+        Place::AtSysarg => false,
+        Place::AtTestMode => false,
+        Place::Elsewhere => false,
     }
 }
 
 // Whether a word written starts a call.
-pub fn is_call(w: u32, spot: Spot) -> bool
-    ensures { λ t. ⌜ t ≡ (isCall w && isSysreq (placeOf spot)) ⌝ }
+pub fn is_call(w: u32, at: Place) -> bool
+    ensures { λ t. ⌜ t ≡ (isCall w && isSysreq at) ⌝ }
 {
     if 2147483648 <= w {
-        return at_sysreq(spot);
+        return at_sysreq(at);
     }
     false
 }

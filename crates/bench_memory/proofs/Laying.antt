@@ -5,9 +5,10 @@ use Prim.Native.Nat.{ℕ, zero, suc, _+_, _-_, _*_, _/_, _%_, _≤_, _<_, min}
 use native.Mathlib.Omega.{arith}
 use lib.ListN.{length, getD, set, take, drop, replicate, length-set, length-append, length-replicate, length-drop}
 use lib.Seq.{sets, getD-drop, take-length, take-all, length-take-le}
-use Rattle.flow.specs.Calls.{bytesOf, bytesIn}
+use Rattle.flow.specs.Calls.{bytesIn}
 use Rattle.flow.specs.Target.{lay, sized}
 use Rattle.flow.proofs.Lists.{lay-whole}
+use Rattle.image.specs.Words.{lowFirst}
 
 -- ---- laying is storing byte by byte
 
@@ -100,11 +101,11 @@ unfolding bytesIn
 bytes-length [] = refl
 bytes-length (w ∷ ws) = let ih = bytes-length ws in omega arith
 
-bytes-at : (ws : List ℕ) (i : ℕ) → getD (bytesIn ws) i 0 ≡ getD (bytesOf (getD ws (i / 4) 0)) (i % 4) 0
+bytes-at : (ws : List ℕ) (i : ℕ) → getD (bytesIn ws) i 0 ≡ getD (lowFirst 4 (getD ws (i / 4) 0)) (i % 4) 0
 unfolding bytesIn
 bytes-at [] i = go (i % 4) (omega arith)
   where
-    go : (k : ℕ) → k < 4 → 0 ≡ getD (bytesOf 0) k 0
+    go : (k : ℕ) → k < 4 → 0 ≡ getD (lowFirst 4 0) k 0
     go zero h = refl
     go (suc zero) h = refl
     go (suc (suc zero)) h = refl
@@ -120,7 +121,7 @@ bytes-at (w ∷ ws) (suc (suc (suc (suc i)))) =
     rw (e, f) (bytes-at ws i)
 
 -- past the second word of a list
-pub list-at : (ps : List ℕ) (i : ℕ) → getD (bytesIn (drop 2 ps)) i 0 ≡ getD (bytesOf (getD ps (i / 4 + 2) 0)) (i % 4) 0
+pub list-at : (ps : List ℕ) (i : ℕ) → getD (bytesIn (drop 2 ps)) i 0 ≡ getD (lowFirst 4 (getD ps (i / 4 + 2) 0)) (i % 4) 0
 list-at ps i =
     let e : 2 + i / 4 ≡ i / 4 + 2 = omega arith in
     bytes-at (drop 2 ps) i ∙ rw (getD-drop 2 ps (i / 4) 0, e)

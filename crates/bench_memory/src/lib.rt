@@ -5,9 +5,9 @@ ghost use Prim.Native.Nat.{_-_, _*_, _%_, min};
 ghost use lib.ListN.{getD, take, drop};
 ghost use Rattle.bench_memory.specs.Acts.{buffersAfter};
 ghost use Rattle.bench_memory.specs.Lent.{lent, left};
-ghost use Rattle.flow.specs.Calls.{bytesOf, bytesIn};
+ghost use Rattle.flow.specs.Calls.{bytesIn};
 ghost use Rattle.flow.specs.Target.{lay, sized};
-ghost use Rattle.image.specs.Words.{total};
+ghost use Rattle.image.specs.Words.{total, lowFirst};
 
 mod effects;
 
@@ -129,7 +129,7 @@ fn byte_at(src: &[u8], i: usize) -> u8
 
 // Byte k of a word, byte 0 the low one.
 fn byte_of(w: u32, k: usize) -> u8
-    ensures { λ b. ⌜ b ≡ getD (bytesOf w) k 0 ⌝ }
+    ensures { λ b. ⌜ b ≡ getD (lowFirst 4 w) k 0 ⌝ }
 {
     if k == 0 {
         return (w % 256) as u8;

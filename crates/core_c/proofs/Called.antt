@@ -16,7 +16,7 @@ use Rattle.hex_writer.specs.Writing.{writeOf, textAfter}
 use Rattle.hex_writer.specs.declared.WriteAnswer.{WriteAnswer}
 use Rattle.image.specs.declared.Header.{Header}
 use Rattle.layout.proofs.Bytes.{sets-whole}
-use Rattle.layout.specs.Bytes.{lowFirst}
+use Rattle.image.specs.Words.{lowFirst}
 use Rattle.session.specs.Given.{startOf, stepWith}
 use Rattle.session.specs.declared.Outcome.the-variants.{Refused}
 use Rattle.text.specs.Reading.{answerOf, bufferAfter}

@@ -99,7 +99,7 @@ not13-refusing : (s : Session) (k : ℕ) → ¬ (k ≡ 13) → Not13 (refusing s
 unfolding Not13
 not13-refusing s k h = h
 
-gives-zero : (i : Image) (x : Flow.Session) → numberOf (outcomeAt i x) ≡ 0
+gives-zero : (i : Image) (x : Flow.SessionState) → numberOf (outcomeAt i x) ≡ 0
 gives-zero i (running y n w p a k h) = refl
 gives-zero i (reported x t h) = refl
 

@@ -10,7 +10,8 @@ use Rattle.core_c.specs.Records.{recordBytes}
 use Rattle.core_c.specs.Sessions.{progressBytes, singles, sessionBytes}
 use Rattle.image.specs.declared.Header.{Header}
 use Rattle.layout.proofs.Bytes.{sets-whole, put-in}
-use Rattle.layout.specs.Bytes.{lowFirst, wordPut}
+use Rattle.image.specs.Words.{lowFirst}
+use Rattle.layout.specs.Bytes.{wordPut}
 use Rattle.session.specs.declared.Progress.{Progress}
 use Rattle.session.specs.declared.Session.{Session}
 use Rattle.text.proofs.Storing.{stored, sets-append}

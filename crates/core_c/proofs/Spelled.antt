@@ -13,8 +13,8 @@ use Rattle.core_c.specs.Sessions.{entryByte, entryIn, singles, progressB
 use Rattle.flow.specs.declared.Entry.{Entry}
 use Rattle.flow.specs.declared.Entry.the-variants.{FromOpen, FromProtected}
 use Rattle.image.proofs.Sections.{spread, spread-part, spread-all}
-use Rattle.image.specs.Words.{wordAt}
-use Rattle.layout.specs.Bytes.{lowFirst, flagByte}
+use Rattle.image.specs.Words.{wordAt, lowFirst}
+use Rattle.layout.specs.Bytes.{flagByte}
 
 pub sum-same : (v : ℕ) → v % 256 + 256 * (v / 256) ≡ v
 sum-same v = omega arith

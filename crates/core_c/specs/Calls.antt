@@ -11,7 +11,7 @@ use Rattle.flow.specs.declared.Answer.{Answer}
 use Rattle.flow.specs.declared.Answer.the-variants.{ResetDone, Transferred}
 use Rattle.hex.specs.Texts.{hexReading}
 use Rattle.hex_writer.specs.Writing.{writeOf, textAfter}
-use Rattle.layout.specs.Bytes.{lowFirst}
+use Rattle.image.specs.Words.{lowFirst}
 use Rattle.session.specs.Given.{startOf, stepWith}
 use Rattle.session.specs.declared.Given.{Given}
 use Rattle.session.specs.declared.Outcome.the-variants.{Refused}

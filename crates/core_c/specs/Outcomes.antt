@@ -6,8 +6,7 @@ use lib.Dec.{eqb}
 use lib.ListN.{getD}
 use Rattle.flow.specs.declared.Packet.{Packet}
 use Rattle.flow.specs.declared.Packet.the-variants.{Xres, LineReset, Read, Write}
-use Rattle.image.specs.Words.{wordAt}
-use Rattle.layout.specs.Bytes.{lowFirst}
+use Rattle.image.specs.Words.{wordAt, lowFirst}
 use Rattle.session.specs.declared.Outcome.{Outcome}
 use Rattle.session.specs.declared.Outcome.the-variants.{Refused, Ask, Reported}
 

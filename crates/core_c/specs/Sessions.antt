@@ -7,8 +7,8 @@ use lib.ListN.{getD}
 use Rattle.core_c.specs.Records.{recordBytes, recordIn}
 use Rattle.flow.specs.declared.Entry.{Entry}
 use Rattle.flow.specs.declared.Entry.the-variants.{FromOpen, FromProtected}
-use Rattle.image.specs.Words.{wordAt}
-use Rattle.layout.specs.Bytes.{lowFirst, flagByte}
+use Rattle.image.specs.Words.{wordAt, lowFirst}
+use Rattle.layout.specs.Bytes.{flagByte}
 use Rattle.session.specs.declared.Progress.{Progress}
 use Rattle.session.specs.declared.Session.{Session}
 

@@ -7,7 +7,7 @@ ghost use lib.Seq.{sets};
 ghost use Rattle.core_c.specs.Outcomes.{eightBytes, packetBytes, outcomeBytes, numberOf};
 ghost use Rattle.core_c.specs.Records.{recordBytes};
 ghost use Rattle.core_c.specs.Sessions.{entryByte, singles, progressBytes, sessionBytes};
-ghost use Rattle.layout.specs.Bytes.{lowFirst};
+ghost use Rattle.image.specs.Words.{lowFirst};
 use flow::Entry;
 use flow::Packet;
 use image::Header;

@@ -9,7 +9,7 @@ use lib.ListN.{length}
 use Rattle.bench_board.specs.Board.{Buffers, targetOf}
 use Rattle.bench_board.specs.declared.Registers.{Registers}
 use Rattle.dry.specs.Playing.{noLists, nothing, meets, Turns, Started, reportIn, DoneAsPlanned}
-use Rattle.dry.specs.declared.Turn.{Turn}
+use Rattle.dry.specs.declared.AfterTurn.{AfterTurn}
 use Rattle.dry.proofs.Meets.{same-met}
 use Rattle.flow.specs.Claim.{calmEnd, callsEnd, entryOf}
 use Rattle.flow.specs.Examples.{partOne}
@@ -80,7 +80,7 @@ module _ (bytes : List ℕ) (s₀ : Session) (o₀ : Outcome) (r₀ : Registers)
     lists = refl;
   }
 
-  pub turned : (n : ℕ) (s : Session) (p : Packet) (r : Registers) (b : Buffers) (t : Turn) (b′ : Buffers) → At n s (Ask p) r b
+  pub turned : (n : ℕ) (s : Session) (p : Packet) (r : Registers) (b : Buffers) (t : AfterTurn) (b′ : Buffers) → At n s (Ask p) r b
       → Turns partOne s bytes p r b t b′
       → At (suc n) (t .session) (t .stands) (t .registers) b′
   turned n s p r b t b′ v u =
@@ -151,7 +151,7 @@ module _ {g : Geometry} {bytes : List ℕ} {b₀ : Buffers} {s₀ : Session} {r�
   }
 
   module _ {b : Buffers} {s : Session} {r : Registers} {o : Outcome} {n : ℕ} (v : Playing g bytes b₀ s₀ r₀ o₀ b s r o n) where
-    pub next-turn : {p : Packet} {t : Turn} {b′ : Buffers} → n < 265637747 → o ≡ Ask p → Turns g s bytes p r b t b′
+    pub next-turn : {p : Packet} {t : AfterTurn} {b′ : Buffers} → n < 265637747 → o ≡ Ask p → Turns g s bytes p r b t b′
         → length (b′ .flash) ≡ length (b .flash) → length (b′ .locks) ≡ length (b .locks)
         → length (b′ .latch) ≡ length (b .latch) → length (b′ .params) ≡ length (b .params)
         → Playing g bytes b₀ s₀ r₀ o₀ b′ (t .session) (t .registers) (t .stands) (n + 1)

@@ -10,7 +10,7 @@ use Rattle.bench_lines.specs.declared.TransferOutcome.the-variants.{Clean}
 use Rattle.bench_board.specs.declared.LineEvent.{LineEvent}
 use Rattle.bench_board.specs.declared.Registers.{Registers}
 use Rattle.bench_board.specs.declared.Running.the-variants.{Idle}
-use Rattle.dry.specs.declared.Turn.{Turn}
+use Rattle.dry.specs.declared.AfterTurn.{AfterTurn}
 use Rattle.flow.specs.Claim.{Passes, Startable, RightPart}
 use Rattle.flow.specs.Examples.{partOne}
 use Rattle.flow.specs.Exchange.{Met, meet}
@@ -70,7 +70,7 @@ abbrev pub meets : Geometry → Packet → Registers → Buffers → Met
 meets g p r b = meet g p noLists (targetOf nothing r b)
 
 -- the board meets the packet, the session steps on its answer, and this then stands
-pub record Turns (g : Geometry) (s : Session) (bytes : List ℕ) (p : Packet) (r : Registers) (b : Buffers) (t : Turn) (b′ : Buffers) : Type 0 where
+pub record Turns (g : Geometry) (s : Session) (bytes : List ℕ) (p : Packet) (r : Registers) (b : Buffers) (t : AfterTurn) (b′ : Buffers) : Type 0 where
   pub target : targetOf nothing (t .registers) b′ ≡ (meets g p r b) .target
   pub session : t .session ≡ (stepWith s bytes ((meets g p r b) .answer)) .session
   pub stands : t .stands ≡ standing (Ask p) ((stepWith s bytes ((meets g p r b) .answer)) .outcome)

@@ -34,7 +34,7 @@ pub enum Ran {
 }
 
 // The board and the session after a packet, and what then stands.
-struct Turn {
+struct AfterTurn {
     registers: Registers,
     session: Session,
     stands: Outcome,
@@ -125,7 +125,7 @@ fn take_turn(
     locks: &mut [u8],
     latch: &mut [u8],
     params: &mut [u32],
-) -> Turn
+) -> AfterTurn
     ensures { λ t. ⌜ Turns g s (now (image .entry)) p r (lent (now (flash .entry)) (now (locks .entry)) (now (latch .entry)) (now (params .entry))) t (lent (now (flash .exit)) (now (locks .exit)) (now (latch .exit)) (now (params .exit))) ⌝ }
 {
     let nothing = &image[..0];
@@ -148,7 +148,7 @@ fn take_turn(
     let given = session::step(s, image, answer);
     let session = given.session;
     let outcome = given.outcome;
-    Turn {
+    AfterTurn {
         registers: registers,
         session: session,
         stands: standing_after(p, outcome),

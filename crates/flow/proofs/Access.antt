@@ -8,7 +8,9 @@ use lib.Dec.{eqb}
 use mathlib.Core.Logic.{_⊎_, inl, inr}
 use Rattle.flow.specs.Exchange.{carry, barred, guarded, isSysreq, isCall, store, begin, fetch}
 use Rattle.flow.specs.Judge.{judge}
-use Rattle.flow.specs.Map.{Place, inFlash, inLocks, inParams, atLevel, atSysreq, atSysarg, atTestMode, elsewhere, place}
+use Rattle.flow.specs.Map.{place}
+use Rattle.flow.specs.declared.Place.{Place}
+use Rattle.flow.specs.declared.Place.the-variants.{InFlash, InLocks, InParams, AtLevel, AtSysreq, AtSysarg, AtTestMode, Elsewhere}
 use Rattle.flow.specs.Monitor.{watching, Watch, Delays, noticed, noticeRead, noticeStore}
 use Rattle.flow.specs.Run.{Run}
 use Rattle.flow.specs.Sequence.{write, read}
@@ -88,26 +90,26 @@ begin-memory true w o b = refl
 begin-memory false w o b = refl
 
 store-memory : (w : ℕ) (o : CallOutcome) (pc : Place) (b : Target) → (store w o pc b) .memory ≡ b .memory
-store-memory w o (inFlash a) b = refl
-store-memory w o (inLocks a) b = refl
-store-memory w o (inParams k) b = refl
-store-memory w o atLevel b = refl
-store-memory w o atSysreq b = begin-memory (isCall w) w o b
-store-memory w o atSysarg b = refl
-store-memory w o atTestMode b = refl
-store-memory w o elsewhere b = refl
+store-memory w o (InFlash a) b = refl
+store-memory w o (InLocks a) b = refl
+store-memory w o (InParams k) b = refl
+store-memory w o AtLevel b = refl
+store-memory w o AtSysreq b = begin-memory (isCall w) w o b
+store-memory w o AtSysarg b = refl
+store-memory w o AtTestMode b = refl
+store-memory w o Elsewhere b = refl
 
 -- a write elsewhere than SYSREQ starts nothing
 quiet-store : (y : Bool) (pc : Place) (p a : ℕ) (t : Watch) (d : Delays) → isSysreq pc ≡ false → noticeStore y pc p a t d ≡ watching 0 p a t d
 quiet-store false pc p a t d h = refl
-quiet-store true (inFlash o) p a t d h = refl
-quiet-store true (inLocks o) p a t d h = refl
-quiet-store true (inParams o) p a t d h = refl
-quiet-store true atLevel p a t d h = refl
-quiet-store true atSysreq p a t d h = let z : _≡_ {A = ℕ} 0 1 = cc in absurd (omega arith)
-quiet-store true atSysarg p a t d h = refl
-quiet-store true atTestMode p a t d h = refl
-quiet-store true elsewhere p a t d h = refl
+quiet-store true (InFlash o) p a t d h = refl
+quiet-store true (InLocks o) p a t d h = refl
+quiet-store true (InParams o) p a t d h = refl
+quiet-store true AtLevel p a t d h = refl
+quiet-store true AtSysreq p a t d h = let z : _≡_ {A = ℕ} 0 1 = cc in absurd (omega arith)
+quiet-store true AtSysarg p a t d h = refl
+quiet-store true AtTestMode p a t d h = refl
+quiet-store true Elsewhere p a t d h = refl
 
 same-calls : (y : Bool) (l : List CallOutcome) → cond (y && false) (rest l) l ≡ l
 same-calls true l = refl
@@ -156,11 +158,11 @@ module _ {i : Image} (f : Frame i) where
 
   -- the Write of SYSREQ that starts a call
   pub call-reaches : (s a w : ℕ) {y : Entry} {n : ℕ} {ms : List Move} {κ : Allowance} {e : Env} {c k : ℕ} {b : Target} {t : Watch}
-      → Stands f y n (write s a w) ms κ e → place (i .geometry) a ≡ atSysreq → Admits (b .effect) atSysreq → f .Safe (b .memory) → isCall w ≡ true
+      → Stands f y n (write s a w) ms κ e → place (i .geometry) a ≡ AtSysreq → Admits (b .effect) AtSysreq → f .Safe (b .memory) → isCall w ≡ true
       → (next : (e′ : Env) → e′ .lists .calls ≡ rest (e .lists .calls) → Stood f y (suc (suc n)) ms κ e′
       → Reaches f (sync y (suc (suc n)) 0 0 c k (begin true w (nextOutcome (e .lists .calls)) (setTar a b)) (record { tar = a; counts = false; polling = true; due = true }) e′))
       → Reaches f (sync y n 0 0 c k b t e)
-  call-reaches s a w st hp ok safe hc next = write-any s a w st atSysreq hp ok safe λ e′ h st′. rw hc (next e′ (rw hc at h) st′)
+  call-reaches s a w st hp ok safe hc next = write-any s a w st AtSysreq hp ok safe λ e′ h st′. rw hc (next e′ (rw hc at h) st′)
 
   module _ (s a : ℕ) (u : Purpose) {y : Entry} {n : ℕ} {ms : List Move} {κ : Allowance} {e : Env} {p c k : ℕ} {b : Target} {t : Watch} where
     -- any Read: the target after the first DRW read, and after the second

@@ -10,7 +10,7 @@ use borrow.Author.Tests.{eq-eqb}
 use Rattle.flow.specs.Calls.{finish, effectOf, sysargAfter, sysreqAfter, afterFailure}
 use Rattle.flow.specs.Exchange.{carry}
 use Rattle.flow.specs.Judge.{free, succeeded, testBitSet, idsFit, levelIn, judge}
-use Rattle.flow.specs.Map.{atSysreq, atSysarg, atTestMode}
+use Rattle.flow.specs.declared.Place.the-variants.{AtSysreq, AtSysarg, AtTestMode}
 use Rattle.flow.specs.Monitor.{watching, noticed, noticeRead}
 use Rattle.flow.specs.Run.{Run}
 use Rattle.flow.specs.Sequence.{move, key, write, read, poll, call, imoCall, acquire}
@@ -102,16 +102,16 @@ module _ {i : Image} (f : Frame i) (fx : Facts (i .geometry)) (y : Entry) (m : M
   acquire-leg = record {
     along = λ n x k later κ e b p st next.
         let answers : Answering (b .memory .stored) = rw (p .memory) answering in
-        let not-killed = (admits (b .memory .stored) atSysreq refl answers) .not-killed in
+        let not-killed = (admits (b .memory .stored) AtSysreq refl answers) .not-killed in
         let sf = stays b (p .memory) in
         xres-reaches f st sf (p .quiet) λ st₁.
         attempts f 29 1 0 k (setReset b) (idleAt x) refl (thirty (withMoves setup κ) st₁) not-killed sf (p .silicon) λ id e₂ st₂.
         transfer f aCtrl st₂ not-killed (barred-off (i .geometry) (WriteSetup CtrlStat 0x54000000) (setReset b) refl) sf (λ o. sf) λ _ e₃ _ st₃.
         transfer f aSelect st₃ not-killed (barred-off (i .geometry) (WriteSetup Select 0) (setReset b) refl) sf (λ o. sf) λ _ e₄ _ st₄.
         transfer f aCsw st₄ not-killed (barred-off (i .geometry) (WriteSetup Csw 2) (setReset b) refl) sf (λ o. sf) λ _ e₅ _ st₅.
-        write-reaches f 1 TEST-MODE 0x80000000 st₅ atTestMode (place-test (i .geometry) fx) (admits (b .memory .stored) atTestMode refl answers) sf refl λ e₆ _ st₆.
-        read-still f 1 TEST-MODE TestBit st₆ atTestMode (place-test (i .geometry) fx) (admits (b .memory .stored) atTestMode refl answers) sf (λ o. 0x80000000) (λ o z. refl) λ _ _ e₇ _ st₇.
-        poll-idle f (place-sysreq (i .geometry) fx) 1 _ (one-poll (withMoves (imoCall (i .geometry) (imoOf (i .geometry))) κ) st₇) (admits (b .memory .stored) atSysreq refl answers) sf refl free-zero λ e₈ _ st₈.
+        write-reaches f 1 TEST-MODE 0x80000000 st₅ AtTestMode (place-test (i .geometry) fx) (admits (b .memory .stored) AtTestMode refl answers) sf refl λ e₆ _ st₆.
+        read-still f 1 TEST-MODE TestBit st₆ AtTestMode (place-test (i .geometry) fx) (admits (b .memory .stored) AtTestMode refl answers) sf (λ o. 0x80000000) (λ o z. refl) λ _ _ e₇ _ st₇.
+        poll-idle f (place-sysreq (i .geometry) fx) 1 _ (one-poll (withMoves (imoCall (i .geometry) (imoOf (i .geometry))) κ) st₇) (admits (b .memory .stored) AtSysreq refl answers) sf refl free-zero λ e₈ _ st₈.
         (imo-leg (imoOf (i .geometry))) .along _ _ k later κ e₈ _
         (record { fresh = record { silicon = p .silicon; memory = p .memory; room = p .room; quiet = refl }; effect = ap (λ (z : Memory). z .stored) (p .memory); idcode = id }) st₈ next;
   }
@@ -180,8 +180,8 @@ module _ {i : Image} (f : Frame i) (fx : Facts (i .geometry)) (m : Memory) (answ
       let sf₁ : f .Safe (b₁ .memory) = rw (ret .memory, effect-0) sf in
       let arg : b₁ .sysarg ≡ sysargAfter 0 (f .silicon) m = ret .sysarg ∙ rw (p .fresh .silicon, p .fresh .memory) in
       let req : b₁ .sysreq ≡ sysreqAfter 0 (f .silicon) (m .stored) = ret .sysreq ∙ rw (p .fresh .silicon, p .effect) in
-      read-still f 2 (sysargOf (i .geometry)) Keep st₁ atSysarg (place-sysarg (i .geometry) fx) (admits (b₁ .effect) atSysarg refl answers) sf₁
+      read-still f 2 (sysargOf (i .geometry)) Keep st₁ AtSysarg (place-sysarg (i .geometry) fx) (admits (b₁ .effect) AtSysarg refl answers) sf₁
       (λ o. sysargAfter 0 (f .silicon) m) (λ o z. rw arg) λ _ _ e₂ _ st₂.
-      read-still f 2 (sysreqOf (i .geometry)) u st₂ atSysreq (place-sysreq (i .geometry) fx) (admits (b₁ .effect) atSysreq refl answers) sf₁
+      read-still f 2 (sysreqOf (i .geometry)) u st₂ AtSysreq (place-sysreq (i .geometry) fx) (admits (b₁ .effect) AtSysreq refl answers) sf₁
       (λ o. sysreqAfter 0 (f .silicon) (m .stored)) (λ o z. rw (ret .ended, req)) λ _ _ e₃ _ st₃.
       next _ same _ e₃ st₃

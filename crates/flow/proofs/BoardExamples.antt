@@ -78,7 +78,7 @@ pub reset-examples : ResetExamples
 unfolding meet decode reset finish afterFailure
 reset-examples = record {
   xres = refl;
-  wakes = refl;
+  restores = refl;
   drops = refl;
   dropsLevel = refl;
   takesNone = refl;

@@ -9,7 +9,7 @@ use Rattle.flow.specs.Calls.{finish, effectOf, sysargAfter, sysreqAfter,
 use Rattle.flow.specs.Claim.{CalmCalls, callsEnd, calmCall}
 use Rattle.flow.specs.Exchange.{isCall}
 use Rattle.flow.specs.Judge.{free, succeeded, judge}
-use Rattle.flow.specs.Map.{atSysreq, atSysarg}
+use Rattle.flow.specs.declared.Place.the-variants.{AtSysreq, AtSysarg}
 use Rattle.flow.specs.Monitor.{Watch, noticeRead}
 use Rattle.flow.specs.Sequence.{call, poll, read, write}
 use Rattle.flow.specs.Target.{Target, Residue, CallOutcome, idle, busy, nextOutcome}
@@ -92,14 +92,14 @@ module _ {i : Image} (f : Frame i) (fx : Facts (i .geometry)) where
       → Reaches f (sync y n 0 0 0 k (aim x z (during (busy q s₀ r₀ c) b)) (loopAt x v true) e)
   unfolding finish judge noticeRead
   call-tail true r₀ q c s b x z st answering safe safes idles wins ready good next =
-      poll-busy f (place-sysreq (i .geometry) fx) true r₀ c b (admits (b .effect) atSysreq refl answering) safe (safes true r₀) ready q 9999 s 0 x z refl st idles λ e₁ h₁ st₁.
-      read-still f s (sysargOf (i .geometry)) Status st₁ atSysarg (place-sysarg (i .geometry) fx) (admits (b .effect) atSysarg refl answering) (safes true r₀)
+      poll-busy f (place-sysreq (i .geometry) fx) true r₀ c b (admits (b .effect) AtSysreq refl answering) safe (safes true r₀) ready q 9999 s 0 x z refl st idles λ e₁ h₁ st₁.
+      read-still f s (sysargOf (i .geometry)) Status st₁ AtSysarg (place-sysarg (i .geometry) fx) (admits (b .effect) AtSysarg refl answering) (safes true r₀)
       (λ o. sysargAfter c (b .silicon) (b .memory)) (λ o z. refl) λ o o′ e₂ h₂ st₂.
       rw (good, status-is (sysargAfter c (b .silicon) (b .memory)), good) (
       next _ (record { silicon = refl; effect = refl; params = refl; memory = refl; sysarg = refl; sysreq = refl; ended = refl }) _ e₂ st₂)
   call-tail false r₀ q c s b x z st answering safe safes idles wins ready good next =
-      poll-busy f (place-sysreq (i .geometry) fx) false r₀ c b (admits (b .effect) atSysreq refl answering) safe (safes false r₀) free-zero q 9999 s 0 x z refl st idles λ e₁ h₁ st₁.
-      read-still f s (sysargOf (i .geometry)) Status st₁ atSysarg (place-sysarg (i .geometry) fx) (admits (b .effect) atSysarg refl answering) (safes false r₀)
+      poll-busy f (place-sysreq (i .geometry) fx) false r₀ c b (admits (b .effect) AtSysreq refl answering) safe (safes false r₀) free-zero q 9999 s 0 x z refl st idles λ e₁ h₁ st₁.
+      read-still f s (sysargOf (i .geometry)) Status st₁ AtSysarg (place-sysarg (i .geometry) fx) (admits (b .effect) AtSysarg refl answering) (safes false r₀)
       (λ o. failedArg (r₀ .sysarg)) (λ o z. refl) λ o o′ e₂ h₂ st₂.
       rw (failed (r₀ .sysarg), status-is (failedArg (r₀ .sysarg)), failed (r₀ .sysarg)) (
       stop (f .caught 19 s _ _ _ (lit≤ tt) (λ still. let no′ : false ≡ true = wins still in let z : _≡_ {A = ℕ} 0 1 = cc in omega arith) (safes false r₀)))
@@ -119,8 +119,8 @@ module _ {i : Image} (f : Frame i) (fx : Facts (i .geometry)) where
       → Reaches f (sync y n 0 0 0 k b t e)
   unfolding call write read withMoves
   calling s c w {ms = ms} {κ = κ} {b = b} cmd st answering safe safes ready good next =
-      write-reaches f s (sysargOf (i .geometry)) w (call-allowance s c w ms κ st) atSysarg (place-sysarg (i .geometry) fx) (admits (b .effect) atSysarg refl answering) safe refl λ e₁ h₁ st₁.
-      call-reaches f s (sysreqOf (i .geometry)) (0x80000000 + c) st₁ (place-sysreq (i .geometry) fx) (admits (b .effect) atSysreq refl answering) safe (cmd .started) λ e₂ h₂ st₂.
+      write-reaches f s (sysargOf (i .geometry)) w (call-allowance s c w ms κ st) AtSysarg (place-sysarg (i .geometry) fx) (admits (b .effect) AtSysarg refl answering) safe refl λ e₁ h₁ st₁.
+      call-reaches f s (sysreqOf (i .geometry)) (0x80000000 + c) st₁ (place-sysreq (i .geometry) fx) (admits (b .effect) AtSysreq refl answering) safe (cmd .started) λ e₂ h₂ st₂.
       rw (cmd .number) (
       call-tail ((nextOutcome (e₁ .lists .calls)) .succeeds) ((nextOutcome (e₁ .lists .calls)) .residue) ((nextOutcome (e₁ .lists .calls)) .busyReads) c s (asked c w b) (sysreqOf (i .geometry)) (b .posted)
       st₂ answering safe safes (λ still. calm-idle ((st₁ .calm still) .calls)) (λ still. calm-success ((st₁ .calm still) .calls)) ready good

@@ -10,7 +10,7 @@ use Rattle.flow.specs.Claim.{RightPart, NoError, Calm, entryOf, RunDeman
 use Rattle.flow.specs.Monitor.{Monitor, linkError}
 use Rattle.flow.specs.Plan.{Traffic, plan, mostTraffic}
 use Rattle.flow.specs.Run.{Run, advanceBy, advance, runAfter, started, handedOutBy, handedOut}
-use Rattle.flow.specs.Session.{Session, running, reported, moveAt}
+use Rattle.flow.specs.Session.{SessionState, running, reported, moveAt}
 use Rattle.flow.specs.Target.{Target, Silicon, Lists}
 use Rattle.flow.proofs.Counting.{total, one-more}
 use Rattle.flow.proofs.Entering.{Goes, byOpen, byProtected, start-reaches}
@@ -47,15 +47,15 @@ module _ (i : Image) where
   unfolding advance
   met-traffic r = by (r .session)
     where
-      by : (s : Session) → going s ≡ true → (advanceBy i s r) .traffic ≡ handedOutBy i s (r .traffic)
+      by : (s : SessionState) → going s ≡ true → (advanceBy i s r) .traffic ≡ handedOutBy i s (r .traffic)
       by (running y n w p a k h) e = refl
       by (reported x s h) e = absurd (false≢true e)
 
-  stands-one : (s : Session) (t : Traffic) → going s ≡ true → total (handedOutBy i s t) ≡ suc (total t)
+  stands-one : (s : SessionState) (t : Traffic) → going s ≡ true → total (handedOutBy i s t) ≡ suc (total t)
   stands-one (running y n w p a k h) t e = one-more ((moveAt i y n) .request) t
   stands-one (reported x s h) t e = absurd (false≢true e)
 
-  stands-none : (s : Session) (t : Traffic) → going s ≡ false → handedOutBy i s t ≡ t
+  stands-none : (s : SessionState) (t : Traffic) → going s ≡ false → handedOutBy i s t ≡ t
   stands-none (running y n w p a k h) t e = absurd (false≢true (sym e))
   stands-none (reported x s h) t e = refl
 
@@ -64,7 +64,7 @@ module _ (i : Image) where
   unfolding advance
   advance-ended r = by (r .session)
     where
-      by : (s : Session) → going s ≡ false → advanceBy i s r ≡ r
+      by : (s : SessionState) → going s ≡ false → advanceBy i s r ≡ r
       by (running y n w p a k h) e = absurd (false≢true (sym e))
       by (reported x s h) e = refl
 
@@ -121,11 +121,11 @@ module _ (i : Image) (lv : Level (i .header .level)) (b : Target) (l : Lists) wh
       comes n (advance i r) more (omega (arith, ap total (met-traffic i r g), stands-one i (r .session) (r .traffic) g))
 
   -- a reported session, taken apart
-  as-report : (s : Session) → going s ≡ false → record { number : ℕ; step : ℕ; sent : ℕ; is : s ≡ reported number step sent }
+  as-report : (s : SessionState) → going s ≡ false → record { number : ℕ; step : ℕ; sent : ℕ; is : s ≡ reported number step sent }
   as-report (running y n w p a k h) e = absurd (false≢true (sym e))
   as-report (reported x s h) e = record { number = x; step = s; sent = h; is = refl }
 
-  not-going : (s : Session) (x t h : ℕ) → s ≡ reported x t h → going s ≡ true → ⊥
+  not-going : (s : SessionState) (x t h : ℕ) → s ≡ reported x t h → going s ≡ true → ⊥
   not-going s x t h e g = false≢true (sym (ap going e) ∙ g)
 
   -- why it has no reason to stop

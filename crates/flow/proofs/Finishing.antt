@@ -9,7 +9,7 @@ use native.Mathlib.Omega.{arith}
 use borrow.Author.Tests.{eq-eqb}
 use Rattle.flow.specs.Calls.{finish, effectOf, sysargAfter, sysreqAfter, afterFailure}
 use Rattle.flow.specs.Judge.{free, succeeded, sumsFit, judge}
-use Rattle.flow.specs.Map.{atSysarg}
+use Rattle.flow.specs.declared.Place.the-variants.{AtSysarg}
 use Rattle.flow.specs.Monitor.{watching, noticeRead}
 use Rattle.flow.specs.Run.{Run}
 use Rattle.flow.specs.Sequence.{key, call, read, privileged, inTurn, programRow, verifyFlash, lockMacro, verifyMacro, program}
@@ -104,7 +104,7 @@ module _ {i : Image} (f : Frame i) (fx : Facts (i .geometry)) (v : Valid i) wher
   sum-reaches s u {b = b} p safe st next =
       calling f fx s 0x0B sumWord commandB st (inl (p .effect)) safe (λ y r. rw (still-B (i .geometry) y r _) safe) (free-B _ _) (good-B _ _) λ b₁ ret n₁ e₁ st₁.
       let arg : b₁ .sysarg ≡ sysargAfter 0x0B (f .silicon) (b .memory) = ret .sysarg ∙ rw (p .silicon) in
-      read-still f s (sysargOf (i .geometry)) u st₁ atSysarg (place-sysarg (i .geometry) fx) (admits-open (b₁ .effect) atSysarg (ret .effect ∙ p .effect))
+      read-still f s (sysargOf (i .geometry)) u st₁ AtSysarg (place-sysarg (i .geometry) fx) (admits-open (b₁ .effect) AtSysarg (ret .effect ∙ p .effect))
       (rw (ret .memory, effect-B) safe) (λ o. sysargAfter 0x0B (f .silicon) (b .memory)) (λ o z. rw arg) λ _ _ e₂ _ st₂.
       next _ (same-core ret (ret .memory ∙ effect-B _ _ _ _ _) (p .quiet)) _ e₂ st₂
 

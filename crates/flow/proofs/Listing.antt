@@ -8,7 +8,7 @@ use native.Mathlib.Omega.{arith}
 use lib.ListN.{length, drop, length-append}
 use Rattle.flow.specs.Calls.{finish, effectOf, sysargAfter, sysreqAfter}
 use Rattle.flow.specs.Judge.{free, succeeded}
-use Rattle.flow.specs.Map.{inParams}
+use Rattle.flow.specs.declared.Place.the-variants.{InParams}
 use Rattle.flow.specs.Sequence.{call, write, writes, listed}
 use Rattle.flow.specs.Target.{Target, Residue, idle}
 use Rattle.flow.specs.declared.Entry.{Entry}
@@ -53,7 +53,7 @@ module _ {i : Image} (f : Frame i) (fx : Facts (i .geometry)) where
   writes-from [] pre tl s a j {n = n} {e = e} b {x} hp hl ha fits room st he safe next =
       next b (record { behind = tl; silicon = refl; effect = refl; memory = refl; params = rw (append-nil pre) hp; room = refl }) n x e st
   writes-from (w ∷ ws) pre tl s a j b hp hl ha fits room st he safe next =
-      write-reaches f s a w st (inParams j) (place-params (i .geometry) fx a j ha (omega arith)) (admits-open (b .effect) (inParams j) he) safe refl λ e₁ h₁ st₁.
+      write-reaches f s a w st (InParams j) (place-params (i .geometry) fx a j ha (omega arith)) (admits-open (b .effect) (InParams j) he) safe refl λ e₁ h₁ st₁.
       writes-from ws (pre ++ (w ∷ [])) (drop 1 tl) s (a + 4) (suc j) _
       (rw (hp, ← hl) (lay-next pre tl w some)) (rw (length-append pre (w ∷ [])) (omega arith)) (omega arith) (omega arith)
       (rw (length-lay (b .params) (w ∷ []) j) (omega arith)) st₁ he safe λ b′ d n′ x′ e′ st′.

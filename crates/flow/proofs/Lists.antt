@@ -6,15 +6,15 @@ use native.Mathlib.Numerals.{towards-suc}
 use native.Mathlib.Omega.{arith}
 use lib.ListN.{length, getD, take, drop, replicate, length-append, length-take, length-drop, drop-of-length-le}
 use lib.Seq.{drop-cons, take-append-seam, drop-append-add, take-append-add, length-take-le, take-all, take-at}
-use Rattle.flow.specs.Calls.{bytesOf, bytesIn}
+use Rattle.flow.specs.Calls.{bytesIn}
 use Rattle.flow.specs.Target.{lay}
-use Rattle.image.specs.Words.{total, wordAt, wordsAt}
+use Rattle.image.specs.Words.{total, wordAt, lowFirst, wordsAt}
 
 -- every element is a byte
 abbrev pub Small : List ℕ → Type 0
 Small l = (j : ℕ) → getD l j 0 < 256
 
-bytes-word : (a b c d : ℕ) → a < 256 → b < 256 → c < 256 → d < 256 → bytesOf (a + 256 * b + 65536 * c + 16777216 * d) ≡ a ∷ b ∷ c ∷ d ∷ []
+bytes-word : (a b c d : ℕ) → a < 256 → b < 256 → c < 256 → d < 256 → lowFirst 4 (a + 256 * b + 65536 * c + 16777216 * d) ≡ a ∷ b ∷ c ∷ d ∷ []
 bytes-word a b c d ha hb hc hd = rw (e₀, e₁, e₂, e₃)
   where
     e₀ : (a + 256 * b + 65536 * c + 16777216 * d) % 256 ≡ a
@@ -23,10 +23,10 @@ bytes-word a b c d ha hb hc hd = rw (e₀, e₁, e₂, e₃)
     e₁ : (a + 256 * b + 65536 * c + 16777216 * d) / 256 % 256 ≡ b
     e₁ = omega arith
 
-    e₂ : (a + 256 * b + 65536 * c + 16777216 * d) / 65536 % 256 ≡ c
+    e₂ : (a + 256 * b + 65536 * c + 16777216 * d) / 256 / 256 % 256 ≡ c
     e₂ = omega arith
 
-    e₃ : (a + 256 * b + 65536 * c + 16777216 * d) / 16777216 % 256 ≡ d
+    e₃ : (a + 256 * b + 65536 * c + 16777216 * d) / 256 / 256 / 256 % 256 ≡ d
     e₃ = omega arith
 
 take-four : (l : List ℕ) (o m : ℕ) → o + 4 ≤ length l
@@ -47,7 +47,7 @@ bytes-words l o (suc n) small h =
 bytes-append : (a b : List ℕ) → bytesIn (a ++ b) ≡ bytesIn a ++ bytesIn b
 unfolding bytesIn
 bytes-append [] b = refl
-bytes-append (w ∷ a) b = ap (λ (y : List ℕ). bytesOf w ++ y) (bytes-append a b)
+bytes-append (w ∷ a) b = ap (λ (y : List ℕ). lowFirst 4 w ++ y) (bytes-append a b)
 
 pub length-part : (n o : ℕ) (l : List ℕ) → o + n ≤ length l → length (take n (drop o l)) ≡ n
 length-part n o l h = simp (length-take, length-drop) (omega arith)

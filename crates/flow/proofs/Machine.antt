@@ -13,7 +13,7 @@ use Rattle.flow.specs.Machine.{Cursor, standingMove, onward, back, enter
 use Rattle.flow.specs.Monitor.{isAttempt, isReset}
 use Rattle.flow.specs.Packets.{Verdict, okay, again, broken, verdict}
 use Rattle.flow.specs.Sequence.{sequence, opening, afterwards, endMove}
-use Rattle.flow.specs.Session.{Session, running, moveAt, judgedTo, tryAgain, waitAgain, heardBy, act, stepOf}
+use Rattle.flow.specs.Session.{SessionState, running, moveAt, judgedTo, tryAgain, waitAgain, heardBy, act, stepOf}
 use Rattle.flow.specs.declared.Answer.{Answer}
 use Rattle.flow.specs.declared.Entry.{Entry}
 use Rattle.flow.specs.declared.Entry.the-variants.{FromOpen, FromProtected}
@@ -182,7 +182,7 @@ module _ (i : Image) (y : Entry) (n : ℕ) (t : Cursor) (at : Placed i t y n) wh
 
 -- ---- the machine and the session
 
-answered : (i : Image) (s : Session) (m : Machine) (r : Answer) → StandsFor i s m → StandsFor i (stepOf i s r) (machineStep i m r)
+answered : (i : Image) (s : SessionState) (m : Machine) (r : Answer) → StandsFor i s m → StandsFor i (stepOf i s r) (machineStep i m r)
 unfolding stepOf machineStep
 answered i s m r (placed {t = t} {y = y} {n = n} {w = w} {p = p} {a = a} {k = k} {h = h} at) =
     let x = standingMove t in
@@ -192,7 +192,7 @@ answered i s m r (placed {t = t} {y = y} {n = n} {w = w} {p = p} {a = a} {k = k}
     (isReset (x .request)) (verdict (x .request) r) (isAttempt (x .request)) h)
 answered i s m r finished = finished
 
-same-move : (i : Image) (s : Session) (m : Machine) → StandsFor i s m → sessionMove i s ≡ machineMove m
+same-move : (i : Image) (s : SessionState) (m : Machine) → StandsFor i s m → sessionMove i s ≡ machineMove m
 same-move i s m (placed {t = t} {y = y} {n = n} at) = standingMove-at i y t n at
 same-move i s m finished = refl
 

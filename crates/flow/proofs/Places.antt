@@ -6,7 +6,8 @@ use Prim.Native.Nat.{ℕ, zero, suc, _+_, _*_, _-_, _/_, _≤_, _<_}
 use native.Mathlib.Omega.{arith}
 use lib.Dec.{leb, ltb}
 use borrow.Author.Tests.{leb-true, lt-ltb, le-ltb, le-leb, lt-leb}
-use Rattle.flow.specs.Map.{inFlash, inLocks, inParams, atLevel, atSysreq, atSysarg, atTestMode, Region, covers, search, lockRegions, regions, place}
+use Rattle.flow.specs.Map.{Region, covers, search, lockRegions, regions, place}
+use Rattle.flow.specs.declared.Place.the-variants.{InFlash, InLocks, InParams, AtLevel, AtSysreq, AtSysarg, AtTestMode}
 use Rattle.flow.specs.Sequence.{lockStart}
 use Rattle.flow.proofs.Table.{apart, apartFrom, allApart, Facts}
 use Rattle.parts.proofs.Table.{both}
@@ -45,7 +46,7 @@ apart-in : (s r : Region) (rs : List Region) → In r rs → apartFrom s rs ≡ 
 apart-in s r rs (first {rs = rs′}) h = (both (apart s r) (apartFrom s rs′) h) .0
 apart-in s r rs (next {s = s′} {rs = rs′} i) h = apart-in s r rs′ i ((both (apart s s′) (apartFrom s rs′) h) .1)
 
-found : (r : Region) (rs : List Region) (a : ℕ) → In r rs → allApart rs ≡ true → Within r a → search rs a ≡ r .spot (a - r .start)
+found : (r : Region) (rs : List Region) (a : ℕ) → In r rs → allApart rs ≡ true → Within r a → search rs a ≡ r .holds (a - r .start)
 unfolding search
 found r rs a first h w = rw (covered r a w)
 found r rs a (next {s = s} {rs = rs′} i) h w =
@@ -53,7 +54,7 @@ found r rs a (next {s = s} {rs = rs′} i) h w =
     rw (uncovered s r a w (apart-in s r rs′ i (t .0))) (found r rs′ a i (t .1) w)
 
 abbrev lockRegion : Geometry → ℕ → Region
-lockRegion g m = record { start = locksAt g m; size = locksIn g m; spot = λ o. inLocks (lockStart g m + o) }
+lockRegion g m = record { start = locksAt g m; size = locksIn g m; holds = λ o. InLocks (lockStart g m + o) }
 
 lock-in : (g : Geometry) (m k n : ℕ) → m < n → In (lockRegion g (k + m)) (lockRegions g k n)
 unfolding lockRegions
@@ -62,41 +63,41 @@ lock-in g zero k (suc n) h = let e : k + 0 ≡ k = omega arith in rw e first
 lock-in g (suc m) k (suc n) h = let e : k + suc m ≡ suc k + m = omega arith in rw e (next (lock-in g m (suc k) n (omega arith)))
 
 module _ (g : Geometry) (f : Facts g) where
-  pub place-flash : (a : ℕ) → a < flashSize g → place g a ≡ inFlash a
+  pub place-flash : (a : ℕ) → a < flashSize g → place g a ≡ InFlash a
   unfolding regions
   place-flash a h =
       let e : a - 0 ≡ a = omega arith in
-      found _ _ a first (f .apart) (record { low = omega arith; high = omega arith }) ∙ ap (λ (o : ℕ). inFlash o) e
+      found _ _ a first (f .apart) (record { low = omega arith; high = omega arith }) ∙ ap (λ (o : ℕ). InFlash o) e
 
-  pub place-sysreq : place g (sysreqOf g) ≡ atSysreq
+  pub place-sysreq : place g (sysreqOf g) ≡ AtSysreq
   unfolding regions
   place-sysreq = found _ _ (sysreqOf g) (next first) (f .apart) (record { low = omega arith; high = omega arith })
 
-  pub place-sysarg : place g (sysargOf g) ≡ atSysarg
+  pub place-sysarg : place g (sysargOf g) ≡ AtSysarg
   unfolding regions
   place-sysarg = found _ _ (sysargOf g) (next (next first)) (f .apart) (record { low = omega arith; high = omega arith })
 
-  pub place-test : place g TEST-MODE ≡ atTestMode
+  pub place-test : place g TEST-MODE ≡ AtTestMode
   unfolding regions
   place-test = found _ _ TEST-MODE (next (next (next first))) (f .apart) (record { low = omega arith; high = omega arith })
 
-  pub place-params : (a j : ℕ) → a ≡ PARAMS + 4 * j → j < 2 + rowBytes g / 4 → place g a ≡ inParams j
+  pub place-params : (a j : ℕ) → a ≡ PARAMS + 4 * j → j < 2 + rowBytes g / 4 → place g a ≡ InParams j
   unfolding regions
   place-params a j e h =
       let at : (a - PARAMS) / 4 ≡ j = omega arith in
       found _ _ a (next (next (next (next first)))) (f .apart) (record { low = omega arith; high = omega (arith, f .quads) })
-      ∙ ap (λ (o : ℕ). inParams o) at
+      ∙ ap (λ (o : ℕ). InParams o) at
 
-  pub place-level : place g (levelAt g) ≡ atLevel
+  pub place-level : place g (levelAt g) ≡ AtLevel
   unfolding regions
   place-level = found _ _ (levelAt g) (next (next (next (next (next first))))) (f .apart) (record { low = omega arith; high = omega arith })
 
-  pub place-locks : (a m x : ℕ) → a ≡ locksAt g m + x → m < macrosOf g → x < locksIn g m → place g a ≡ inLocks (lockStart g m + x)
+  pub place-locks : (a m x : ℕ) → a ≡ locksAt g m + x → m < macrosOf g → x < locksIn g m → place g a ≡ InLocks (lockStart g m + x)
   unfolding regions
   place-locks a m x e lm lx =
       let at : a - locksAt g m ≡ x = omega arith in
       found (lockRegion g m) _ a (next (next (next (next (next (next at-macro)))))) (f .apart) (record { low = omega arith; high = omega arith })
-      ∙ ap (λ (o : ℕ). inLocks (lockStart g m + o)) at
+      ∙ ap (λ (o : ℕ). InLocks (lockStart g m + o)) at
     where
       at-macro : In (lockRegion g m) (lockRegions g 0 (macrosOf g))
       at-macro = let z : 0 + m ≡ m = omega arith in rw z at (lock-in g m 0 (macrosOf g) lm)

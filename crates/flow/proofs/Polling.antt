@@ -9,7 +9,8 @@ use borrow.Author.Tests.{lt-ltb, le-ltb, eq-eqb, ne-eqb, eqb-true, eqb-false}
 use Rattle.flow.specs.Calls.{finish}
 use Rattle.flow.specs.Exchange.{fetch}
 use Rattle.flow.specs.Judge.{free, judge}
-use Rattle.flow.specs.Map.{atSysreq, place}
+use Rattle.flow.specs.Map.{place}
+use Rattle.flow.specs.declared.Place.the-variants.{AtSysreq}
 use Rattle.flow.specs.Monitor.{Watch, oneBusy, stillBusy, noticeRead}
 use Rattle.flow.specs.Sequence.{poll}
 use Rattle.flow.specs.Target.{Target, Residue, Running, idle, busy, setSysreq}
@@ -91,14 +92,14 @@ finish-idle g false r c b = refl
 
 -- a DRW read of SYSREQ at the call's end, after it, and before it
 fetch-last : (g : Geometry) (s : Bool) (r : Residue) (c a z o : ℕ) (b : Target)
-    → fetch g o atSysreq (aim a z (during (busy 0 s r c) b)) ≡ aim a ((finish g s r c b) .sysreq) (finish g s r c b)
+    → fetch g o AtSysreq (aim a z (during (busy 0 s r c) b)) ≡ aim a ((finish g s r c b) .sysreq) (finish g s r c b)
 fetch-last g s r c a z o b = rw (finish-aim g s r c a z (busy 0 s r c) b)
 
-fetch-idle : (g : Geometry) (a z o : ℕ) (b : Target) → b .running ≡ idle → fetch g o atSysreq (aim a z b) ≡ aim a (b .sysreq) b
+fetch-idle : (g : Geometry) (a z o : ℕ) (b : Target) → b .running ≡ idle → fetch g o AtSysreq (aim a z b) ≡ aim a (b .sysreq) b
 fetch-idle g a z o b h = rw h
 
 fetch-ended : (g : Geometry) (s : Bool) (r : Residue) (c a z o : ℕ) (b : Target)
-    → fetch g o atSysreq (aim a z (finish g s r c b)) ≡ aim a ((finish g s r c b) .sysreq) (finish g s r c b)
+    → fetch g o AtSysreq (aim a z (finish g s r c b)) ≡ aim a ((finish g s r c b) .sysreq) (finish g s r c b)
 fetch-ended g s r c a z o b = fetch-idle g a z o (finish g s r c b) (finish-idle g s r c b)
 
 -- ---- the loop
@@ -110,19 +111,19 @@ loopAt a c d = record { tar = a; counts = c; polling = true; due = d }
 abbrev busied : Env → Env
 busied e = record { lists = e .lists; delays = oneBusy (e .delays); traffic = e .traffic }
 
-module _ {i : Image} (f : Frame i) (hp : place (i .geometry) (sysreqOf (i .geometry)) ≡ atSysreq) where
+module _ {i : Image} (f : Frame i) (hp : place (i .geometry) (sysreqOf (i .geometry)) ≡ AtSysreq) where
   -- a poll that finds nothing under way
   pub poll-idle : (s : ℕ) {y : Entry} {n : ℕ} {ms : List Move} {κ : Allowance} {e : Env} {p a k : ℕ} (b : Target) {x : ℕ} {c d : Bool}
-      → Stood f y n (poll (i .geometry) s ++ ms) (withTransfer (withTransfer (withTransfer κ))) e → Admits (b .effect) atSysreq → f .Safe (b .memory) → b .running ≡ idle → free (b .sysreq) ≡ true
+      → Stood f y n (poll (i .geometry) s ++ ms) (withTransfer (withTransfer (withTransfer κ))) e → Admits (b .effect) AtSysreq → f .Safe (b .memory) → b .running ≡ idle → free (b .sysreq) ≡ true
       → (next : (e′ : Env) → e′ .lists .calls ≡ e .lists .calls → Stood f y (suc (suc (suc n))) ms κ e′
       → Reaches f (sync y (suc (suc (suc n))) 0 0 a k (aim (sysreqOf (i .geometry)) (b .sysreq) b) (record { tar = sysreqOf (i .geometry); counts = false; polling = false; due = d }) e′))
       → Reaches f (sync y n 0 p a k b (loopAt x c d) e)
   unfolding judge noticeRead
   poll-idle s b st ok safe rest ready next =
-      read-still f s (sysreqOf (i .geometry)) Poll st atSysreq hp ok safe (λ o. b .sysreq) (λ o z. rw rest) λ o o′ e′ h st′.
+      read-still f s (sysreqOf (i .geometry)) Poll st AtSysreq hp ok safe (λ o. b .sysreq) (λ o z. rw rest) λ o o′ e′ h st′.
       rw (ready, polls-agree (b .sysreq), ready) (next e′ h st′)
 
-  module _ (s₀ : Bool) (r₀ : Residue) (c₀ : ℕ) (b : Target) (ok : Admits (b .effect) atSysreq) (safe : f .Safe (b .memory))
+  module _ (s₀ : Bool) (r₀ : Residue) (c₀ : ℕ) (b : Target) (ok : Admits (b .effect) AtSysreq) (safe : f .Safe (b .memory))
       (safe′ : f .Safe ((finish (i .geometry) s₀ r₀ c₀ b) .memory)) (ready : free ((finish (i .geometry) s₀ r₀ c₀ b) .sysreq) ≡ true) where
     abbrev over : Target
     over = finish (i .geometry) s₀ r₀ c₀ b
@@ -147,20 +148,20 @@ module _ {i : Image} (f : Frame i) (hp : place (i .geometry) (sysreqOf (i .geome
         → Reaches f (sync y n 0 p a k (aim x z (during (busy q s₀ r₀ c₀) b)) (loopAt x c d) e)
     unfolding judge noticeRead
     poll-busy zero m s {κ = κ} p x z count st calm next =
-        read-any f s (sysreqOf (i .geometry)) Poll (this-poll κ m st) atSysreq hp ok safe
+        read-any f s (sysreqOf (i .geometry)) Poll (this-poll κ m st) AtSysreq hp ok safe
         (λ o. aim (sysreqOf (i .geometry)) (over .sysreq) over) (λ o o′. aim (sysreqOf (i .geometry)) (over .sysreq) over)
         (λ o. fetch-last (i .geometry) s₀ r₀ c₀ (sysreqOf (i .geometry)) z o b) (λ o o′. fetch-ended (i .geometry) s₀ r₀ c₀ (sysreqOf (i .geometry)) (over .sysreq) o′ b)
         (λ o. refl) (λ o. finish-effect (i .geometry) s₀ r₀ c₀ b) (λ o. safe′) (λ o o′. safe′) λ o o′ e′ h st′.
         rw (ready, polls-agree (over .sysreq), ready) (next e′ h (last-poll κ m st′))
     poll-busy (suc zero) zero s {κ = κ} p x z count st calm next =
-        read-any f s (sysreqOf (i .geometry)) Poll (this-poll κ 0 st) atSysreq hp ok safe
+        read-any f s (sysreqOf (i .geometry)) Poll (this-poll κ 0 st) AtSysreq hp ok safe
         (λ o. aim (sysreqOf (i .geometry)) (busyWord o) (during (busy 0 s₀ r₀ c₀) b)) (λ o o′. aim (sysreqOf (i .geometry)) (over .sysreq) over)
         (λ o. refl) (λ o o′. fetch-last (i .geometry) s₀ r₀ c₀ (sysreqOf (i .geometry)) (busyWord o) o′ b)
         (λ o. refl) (λ o. refl) (λ o. safe) (λ o o′. safe′) λ o o′ e′ h st′.
         rw (busy-word o, polls-agree (busyWord o), busy-word o, le-ltb (suc p) 10000 (omega arith)) (stop (f .caught 18 s _ _ _ (lit≤ tt) (λ still. let e = calm still in omega arith) safe′))
     poll-busy (suc zero) (suc m) s {n = n} {κ = κ} p x z count st calm next =
         let again : suc (suc n) - 2 ≡ n = omega arith in
-        read-any f s (sysreqOf (i .geometry)) Poll (this-poll κ (suc m) st) atSysreq hp ok safe
+        read-any f s (sysreqOf (i .geometry)) Poll (this-poll κ (suc m) st) AtSysreq hp ok safe
         (λ o. aim (sysreqOf (i .geometry)) (busyWord o) (during (busy 0 s₀ r₀ c₀) b)) (λ o o′. aim (sysreqOf (i .geometry)) (over .sysreq) over)
         (λ o. refl) (λ o o′. fetch-last (i .geometry) s₀ r₀ c₀ (sysreqOf (i .geometry)) (busyWord o) o′ b)
         (λ o. refl) (λ o. refl) (λ o. safe) (λ o o′. safe′) λ o o′ e′ h st′.
@@ -169,13 +170,13 @@ module _ {i : Image} (f : Frame i) (hp : place (i .geometry) (sysreqOf (i .geome
         (rw (finish-effect (i .geometry) s₀ r₀ c₀ b) ok) safe′ (finish-idle (i .geometry) s₀ r₀ c₀ b) ready λ e″ h″ st″.
         next e″ (h″ ∙ h) (last-poll κ m st″))
     poll-busy (suc (suc q)) zero s {κ = κ} p x z count st calm next =
-        read-any f s (sysreqOf (i .geometry)) Poll (this-poll κ 0 st) atSysreq hp ok safe
+        read-any f s (sysreqOf (i .geometry)) Poll (this-poll κ 0 st) AtSysreq hp ok safe
         (λ o. aim (sysreqOf (i .geometry)) (busyWord o) (during (busy (suc q) s₀ r₀ c₀) b)) (λ o o′. aim (sysreqOf (i .geometry)) (busyWord o′) (during (busy q s₀ r₀ c₀) b))
         (λ o. refl) (λ o o′. refl) (λ o. refl) (λ o. refl) (λ o. safe) (λ o o′. safe) λ o o′ e′ h st′.
         rw (busy-word o, polls-agree (busyWord o), busy-word o, le-ltb (suc p) 10000 (omega arith)) (stop (f .caught 18 s _ _ _ (lit≤ tt) (λ still. let e = calm still in omega arith) safe))
     poll-busy (suc (suc q)) (suc m) s {n = n} {κ = κ} p x z count st calm next =
         let again : suc (suc n) - 2 ≡ n = omega arith in
-        read-any f s (sysreqOf (i .geometry)) Poll (this-poll κ (suc m) st) atSysreq hp ok safe
+        read-any f s (sysreqOf (i .geometry)) Poll (this-poll κ (suc m) st) AtSysreq hp ok safe
         (λ o. aim (sysreqOf (i .geometry)) (busyWord o) (during (busy (suc q) s₀ r₀ c₀) b)) (λ o o′. aim (sysreqOf (i .geometry)) (busyWord o′) (during (busy q s₀ r₀ c₀) b))
         (λ o. refl) (λ o o′. refl) (λ o. refl) (λ o. refl) (λ o. safe) (λ o o′. safe) λ o o′ e′ h st′.
         rw (busy-word o, polls-agree (busyWord o), busy-word o, lt-ltb (suc p) 10000 (omega arith), again) (

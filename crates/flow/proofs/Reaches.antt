@@ -12,7 +12,7 @@ use Rattle.flow.specs.Monitor.{Monitor, watching, linkError, Watch, Dela
 use Rattle.flow.specs.Plan.{Traffic}
 use Rattle.flow.specs.Run.{Run, advance, handedOut}
 use Rattle.flow.specs.Sequence.{sequence, endMove}
-use Rattle.flow.specs.Session.{Session, running, reported, moveAt}
+use Rattle.flow.specs.Session.{SessionState, running, reported, moveAt}
 use Rattle.flow.specs.Target.{Target, Memory, Silicon, Lists}
 use Rattle.flow.specs.declared.Entry.{Entry}
 use Rattle.flow.specs.declared.Move.{Move}
@@ -179,7 +179,7 @@ pub record Bounded {i : Image} (f : Frame i) (t : Traffic) : Type 0 where
   pub lineResets : t .lineResets ≤ f .most .lineResets
 
 -- not reported yet
-abbrev pub going : Session → Bool
+abbrev pub going : SessionState → Bool
 going (running y n w p a k h) = true
 going (reported x s h) = false
 

@@ -9,10 +9,12 @@ use native.Mathlib.Omega.{arith}
 use lib.ListN.{length, length-append}
 use Rattle.flow.specs.Claim.{Used, UndisturbedHolds}
 use Rattle.flow.specs.Exchange.{Decoded, known, unknown, decode, carry, store, begin, isCall, isSysreq, killed, barred, carriedOut, callsOn, silentReply, replyTo, gives, Met, met, transferred, meetOn, meet}
-use Rattle.flow.specs.Map.{Place, inFlash, inLocks, inParams, atLevel, atSysreq, atSysarg, atTestMode, elsewhere, place}
+use Rattle.flow.specs.Map.{place}
+use Rattle.flow.specs.declared.Place.{Place}
+use Rattle.flow.specs.declared.Place.the-variants.{InFlash, InLocks, InParams, AtLevel, AtSysreq, AtSysarg, AtTestMode, Elsewhere}
 use Rattle.flow.specs.Packets.{packetOf, isRead}
 use Rattle.flow.specs.Run.{Run, advanceBy, advance, runAfter, started}
-use Rattle.flow.specs.Session.{Session, running, reported, moveAt}
+use Rattle.flow.specs.Session.{SessionState, running, reported, moveAt}
 use Rattle.flow.specs.Target.{Target, LineEvent, CallOutcome, Lists, nextEvent, nextOutcome, rest}
 use Rattle.flow.specs.declared.Reply.{Reply}
 use Rattle.flow.specs.declared.Request.{Request}
@@ -50,14 +52,14 @@ and-true true h = h
 and-true false h = refl
 
 store-same : (w : ℕ) (c c′ : CallOutcome) (pc : Place) (b : Target) → isCall w && isSysreq pc ≡ false → store w c pc b ≡ store w c′ pc b
-store-same w c c′ (inFlash a) b h = refl
-store-same w c c′ (inLocks a) b h = refl
-store-same w c c′ (inParams a) b h = refl
-store-same w c c′ atLevel b h = refl
-store-same w c c′ atSysreq b h = begin-same (isCall w) w c c′ b (and-true (isCall w) h)
-store-same w c c′ atSysarg b h = refl
-store-same w c c′ atTestMode b h = refl
-store-same w c c′ elsewhere b h = refl
+store-same w c c′ (InFlash a) b h = refl
+store-same w c c′ (InLocks a) b h = refl
+store-same w c c′ (InParams a) b h = refl
+store-same w c c′ AtLevel b h = refl
+store-same w c c′ AtSysreq b h = begin-same (isCall w) w c c′ b (and-true (isCall w) h)
+store-same w c c′ AtSysarg b h = refl
+store-same w c c′ AtTestMode b h = refl
+store-same w c c′ Elsewhere b h = refl
 
 carry-same : (g : Geometry) (q : Request) (o : ℕ) (c c′ : CallOutcome) (b : Target) → callsOn g q b ≡ false → carry g q o c b ≡ carry g q o c′ b
 unfolding carry
@@ -175,7 +177,7 @@ advance-used : (i : Image) (r : Run) → Used (r .lists) ((advance i r) .lists)
 unfolding advance meet
 advance-used i r = by (r .session)
   where
-    by : (s : Session) → Used (r .lists) ((advanceBy i s r) .lists)
+    by : (s : SessionState) → Used (r .lists) ((advanceBy i s r) .lists)
     by (running y n w p a k h) = meet-used (i .geometry) (decode (packetOf ((moveAt i y n) .request))) (r .lists) (r .target)
     by (reported n s h) = used (whole (r .lists .line)) (whole (r .lists .calls))
 
@@ -200,7 +202,7 @@ module _ (i : Image) where
   unfolding advance meet
   advance-alike x r = by (r .session)
     where
-      by : (s : Session) → AlikeRun x (advanceBy i s r) (advanceBy i s (runBehind x r))
+      by : (s : SessionState) → AlikeRun x (advanceBy i s r) (advanceBy i s (runBehind x r))
       by (reported n s h) = sameRun refl
       by (running y n w p a k h) = met-run (meet-alike (i .geometry) x (decode (packetOf ((moveAt i y n) .request))) (r .lists) (r .target))
         where

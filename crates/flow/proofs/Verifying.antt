@@ -9,7 +9,8 @@ use lib.Dec.{eqb}
 use borrow.Author.Tests.{eq-eqb}
 use Rattle.flow.specs.Exchange.{levelWord}
 use Rattle.flow.specs.Judge.{judge, levelShown}
-use Rattle.flow.specs.Map.{inFlash, inLocks, atLevel, place}
+use Rattle.flow.specs.Map.{place}
+use Rattle.flow.specs.declared.Place.the-variants.{InFlash, InLocks, AtLevel}
 use Rattle.flow.specs.Monitor.{noticeRead}
 use Rattle.flow.specs.Sequence.{read, inTurn, compareWord, verifyFlash, lockStart, verifyMacro}
 use Rattle.flow.specs.Target.{Target}
@@ -30,8 +31,8 @@ use Rattle.parts.specs.declared.Geometry.{Geometry}
 
 -- the word at the address a is w
 pub data Holds (g : Geometry) (c : Core) (a w : ℕ) : Type 0 where
-  flashHolds : (o : ℕ) → place g a ≡ inFlash o → wordAt (c .memory .flash) o ≡ w → Holds g c a w
-  locksHold : (o : ℕ) → place g a ≡ inLocks o → wordAt (c .memory .locks) o ≡ w → Holds g c a w
+  flashHolds : (o : ℕ) → place g a ≡ InFlash o → wordAt (c .memory .flash) o ≡ w → Holds g c a w
+  locksHold : (o : ℕ) → place g a ≡ InLocks o → wordAt (c .memory .locks) o ≡ w → Holds g c a w
 
 level-read : {l : ℕ} → Level l → (o : ℕ) → eqb (levelShown (levelWord l o)) l ≡ true
 unfolding levelShown
@@ -46,10 +47,10 @@ module _ {i : Image} (f : Frame i) (y : Entry) where
       → Reaches f (sync y n 0 0 0 k b (idleAt x) e)
   unfolding judge noticeRead withMoves read
   word-reaches s z a w {b = b} (flashHolds o hp hw) he safe st next =
-      read-still f s a (Same w z) st (inFlash o) hp (admits-open (b .effect) (inFlash o) he) safe (λ _. w) (λ _ _. rw hw) λ _ _ e′ h st′.
+      read-still f s a (Same w z) st (InFlash o) hp (admits-open (b .effect) (InFlash o) he) safe (λ _. w) (λ _ _. rw hw) λ _ _ e′ h st′.
       rw (eq-eqb w w refl) (next _ e′ st′)
   word-reaches s z a w {b = b} (locksHold o hp hw) he safe st next =
-      read-still f s a (Same w z) st (inLocks o) hp (admits-open (b .effect) (inLocks o) he) safe (λ _. w) (λ _ _. rw hw) λ _ _ e′ h st′.
+      read-still f s a (Same w z) st (InLocks o) hp (admits-open (b .effect) (InLocks o) he) safe (λ _. w) (λ _ _. rw hw) λ _ _ e′ h st′.
       rw (eq-eqb w w refl) (next _ e′ st′)
 
   -- where P holds, OPEN is in effect and the word at a is w
@@ -95,7 +96,7 @@ module _ {i : Image} (f : Frame i) (y : Entry) where
     unfolding judge noticeRead withMoves read
     level-leg = record {
       along = λ n x k later κ e b p st next.
-          read-still f 8 (levelAt (i .geometry)) StoredLevel st atLevel (place-level (i .geometry) fx) (admits-open (b .effect) atLevel (p .opened .effect))
+          read-still f 8 (levelAt (i .geometry)) StoredLevel st AtLevel (place-level (i .geometry) fx) (admits-open (b .effect) AtLevel (p .opened .effect))
           (level-safe f (macrosOf (i .geometry)) (b .memory) (p .level)) (levelWord (i .header .level)) (λ o z. rw (last-level fx p)) λ o o′ e′ h st′.
           rw (level-read (v .level) o) (next k _ p _ _ e′ st′);
     }

@@ -127,7 +127,7 @@ pub record PacketExamples : Type 0 where
 -- 'XRES puts the stored level in effect, clears SYSREQ and drops a running call as failed.'
 pub record ResetExamples : Type 0 where
   pub xres : after Xres none (board 2 4 7) ≡ becomes (boardWith (small 1) 1 4 7 0x51 0 (0x61 ∷ 0x62 ∷ 0x63 ∷ []) idle) ResetDone
-  pub wakes : after Xres none (boardWith (small 2) 4 4 7 0x51 0x52 [] idle) ≡ becomes (boardWith (small 2) 2 4 7 0x51 0 [] idle) ResetDone
+  pub restores : after Xres none (boardWith (small 2) 4 4 7 0x51 0x52 [] idle) ≡ becomes (boardWith (small 2) 2 4 7 0x51 0 [] idle) ResetDone
   -- a call that would have succeeded: 'any flash, locks and latch' are left, filled to size
   pub drops : after Xres none (boardWith (small 1) 1 4 7 PARAMS 0x80000006 [] (busy 3 true (residue 0x51234567 false) 6))
       ≡ becomes (boardWith (memoryWith (21 ∷ 22 ∷ 0 ∷ 0 ∷ []) (23 ∷ 0 ∷ 0 ∷ 0 ∷ []) (24 ∷ 0 ∷ 0 ∷ 0 ∷ []) 1) 1 4 7 0x51234567 0 [] idle) ResetDone

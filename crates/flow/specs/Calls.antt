@@ -6,17 +6,14 @@ use lib.Dec.{eqb}
 use lib.ListN.{length, getD, take, drop, replicate}
 use Rattle.flow.specs.Sequence.{lockStart}
 use Rattle.flow.specs.Target.{Memory, Silicon, Residue, Target, Running, idle, busy, lay, sized, setEnded, setReset}
-use Rattle.image.specs.Words.{total}
+use Rattle.image.specs.Words.{total, lowFirst}
 use Rattle.parts.specs.Sizes.{rowBytes, locksIn, PARAMS}
 use Rattle.parts.specs.declared.Geometry.{Geometry}
 
 -- 'Words have the low byte first.'
-abbrev pub bytesOf : ℕ → List ℕ
-bytesOf w = w % 256 ∷ w / 256 % 256 ∷ w / 65536 % 256 ∷ w / 16777216 % 256 ∷ []
-
 unfoldable pub bytesIn : List ℕ → List ℕ
 bytesIn [] = []
-bytesIn (w ∷ ws) = bytesOf w ++ bytesIn ws
+bytesIn (w ∷ ws) = lowFirst 4 w ++ bytesIn ws
 
 -- '0x0A zeroes flash and locks.'
 abbrev pub zeroed : (stored : ℕ) → Memory → Memory

@@ -5,7 +5,9 @@ use Prim.Native.Nat.{ℕ, zero, suc, _+_, _*_, _-_, _/_, _%_}
 use lib.Dec.{eqb, leb}
 use lib.ListN.{getD}
 use Rattle.flow.specs.Calls.{finish, reset}
-use Rattle.flow.specs.Map.{Place, inFlash, inLocks, inParams, atLevel, atSysreq, atSysarg, atTestMode, elsewhere, place}
+use Rattle.flow.specs.Map.{place}
+use Rattle.flow.specs.declared.Place.{Place}
+use Rattle.flow.specs.declared.Place.the-variants.{InFlash, InLocks, InParams, AtLevel, AtSysreq, AtSysarg, AtTestMode, Elsewhere}
 use Rattle.flow.specs.Packets.{isRead}
 use Rattle.flow.specs.Target.{Target, CallOutcome, Running, idle, busy, TransferOutcome, clean, waits, faults, wrongParity, silent, LineEvent, Lists, nextEvent, nextOutcome, rest, lay, setTar, setPosted, setParams, setSysarg, setTestMode, setSysreq}
 use Rattle.flow.specs.declared.Answer.{Answer}
@@ -63,14 +65,14 @@ tick g o (busy zero s r c) b = let t = finish g s r c b in setPosted (t .sysreq)
 
 -- 'A DRW read gives the posted word, then posts the word at TAR'
 abbrev pub fetch : Geometry → (other : ℕ) → Place → Target → Target
-fetch g o (inFlash a) b = setPosted (wordAt (b .memory .flash) a) b
-fetch g o (inLocks a) b = setPosted (wordAt (b .memory .locks) a) b
-fetch g o (inParams k) b = setPosted (getD (b .params) k 0) b
-fetch g o atLevel b = setPosted (levelWord (b .memory .stored) o) b
-fetch g o atSysreq b = tick g o (b .running) b
-fetch g o atSysarg b = setPosted (b .sysarg) b
-fetch g o atTestMode b = setPosted (b .testMode) b
-fetch g o elsewhere b = setPosted o b
+fetch g o (InFlash a) b = setPosted (wordAt (b .memory .flash) a) b
+fetch g o (InLocks a) b = setPosted (wordAt (b .memory .locks) a) b
+fetch g o (InParams k) b = setPosted (getD (b .params) k 0) b
+fetch g o AtLevel b = setPosted (levelWord (b .memory .stored) o) b
+fetch g o AtSysreq b = tick g o (b .running) b
+fetch g o AtSysarg b = setPosted (b .sysarg) b
+fetch g o AtTestMode b = setPosted (b .testMode) b
+fetch g o Elsewhere b = setPosted o b
 
 -- a write of SYSREQ; bit 31 starts a call
 abbrev pub isCall : ℕ → Bool
@@ -81,14 +83,14 @@ begin false w o b = setSysreq w (b .running) b
 begin true w o b = setSysreq w (busy (o .busyReads) (o .succeeds) (o .residue) (w % 256)) b
 
 abbrev pub store : ℕ → CallOutcome → Place → Target → Target
-store w o (inFlash a) b = b
-store w o (inLocks a) b = b
-store w o (inParams k) b = setParams (lay (b .params) k (w ∷ [])) b
-store w o atLevel b = b
-store w o atSysreq b = begin (isCall w) w o b
-store w o atSysarg b = setSysarg w b
-store w o atTestMode b = setTestMode w b
-store w o elsewhere b = b
+store w o (InFlash a) b = b
+store w o (InLocks a) b = b
+store w o (InParams k) b = setParams (lay (b .params) k (w ∷ [])) b
+store w o AtLevel b = b
+store w o AtSysreq b = begin (isCall w) w o b
+store w o AtSysarg b = setSysarg w b
+store w o AtTestMode b = setTestMode w b
+store w o Elsewhere b = b
 
 -- a transfer carried out
 unfoldable pub carry : Geometry → Request → (other : ℕ) → CallOutcome → Target → Target
@@ -112,14 +114,14 @@ gives (WriteSetup r w) b = 0
 
 -- 'PROTECTED in effect answers FAULT for flash and PARAMS'
 abbrev pub guarded : Place → Bool
-guarded (inFlash a) = true
-guarded (inLocks a) = false
-guarded (inParams k) = true
-guarded atLevel = false
-guarded atSysreq = false
-guarded atSysarg = false
-guarded atTestMode = false
-guarded elsewhere = false
+guarded (InFlash a) = true
+guarded (InLocks a) = false
+guarded (InParams k) = true
+guarded AtLevel = false
+guarded AtSysreq = false
+guarded AtSysarg = false
+guarded AtTestMode = false
+guarded Elsewhere = false
 
 abbrev pub overDrw : Request → Bool
 overDrw Xres = false
@@ -139,14 +141,14 @@ killed b = eqb (b .effect) 4
 
 -- a call takes its entry when the write of SYSREQ with bit 31 is carried out
 abbrev pub isSysreq : Place → Bool
-isSysreq (inFlash a) = false
-isSysreq (inLocks a) = false
-isSysreq (inParams k) = false
-isSysreq atLevel = false
-isSysreq atSysreq = true
-isSysreq atSysarg = false
-isSysreq atTestMode = false
-isSysreq elsewhere = false
+isSysreq (InFlash a) = false
+isSysreq (InLocks a) = false
+isSysreq (InParams k) = false
+isSysreq AtLevel = false
+isSysreq AtSysreq = true
+isSysreq AtSysarg = false
+isSysreq AtTestMode = false
+isSysreq Elsewhere = false
 
 abbrev pub callsOn : Geometry → Request → Target → Bool
 callsOn g Xres b = false

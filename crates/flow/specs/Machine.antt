@@ -9,7 +9,7 @@ use lib.ListN.{length, getD}
 use Rattle.flow.specs.Judge.{Judged, go, pollAgain, enter, report, judge}
 use Rattle.flow.specs.Packets.{Verdict, okay, again, broken, verdict}
 use Rattle.flow.specs.Sequence.{sequence, afterwards, endMove}
-use Rattle.flow.specs.Session.{Session, running, reported, moveAt, stepOf, firstSession}
+use Rattle.flow.specs.Session.{SessionState, running, reported, moveAt, stepOf, firstSession}
 use Rattle.flow.specs.Monitor.{isAttempt, isReset}
 use Rattle.flow.specs.declared.Answer.{Answer}
 use Rattle.flow.specs.declared.Entry.{Entry}
@@ -90,12 +90,12 @@ pub record Placed (i : Image) (t : Cursor) (y : Entry) (n : ℕ) : Type 0 where
   pub count : length (t .passed) ≡ n
   pub moves : (j : ℕ) → getD (reverse (t .passed) ++ t .rest) j endMove ≡ moveAt i y j
 
-pub data StandsFor (i : Image) : Session → Machine → Type 0 where
+pub data StandsFor (i : Image) : SessionState → Machine → Type 0 where
   placed : {t : Cursor} {y : Entry} {n w p a k h : ℕ} → Placed i t y n → StandsFor i (running y n w p a k h) (underWay t w p a k h)
   finished : {x s h : ℕ} → StandsFor i (reported x s h) (ended x s h)
 
 -- the move that stands, if one does
-abbrev pub sessionMove : Image → Session → Move
+abbrev pub sessionMove : Image → SessionState → Move
 sessionMove i (running y n w p a k h) = moveAt i y n
 sessionMove i (reported x s h) = endMove
 
@@ -106,5 +106,5 @@ machineMove (ended x s h) = endMove
 -- the two agree step by step
 pub record Agrees (i : Image) : Type 0 where
   pub first : StandsFor i firstSession (firstMachine i)
-  pub move : (s : Session) (m : Machine) → StandsFor i s m → sessionMove i s ≡ machineMove m
-  pub answer : (s : Session) (m : Machine) (r : Answer) → StandsFor i s m → StandsFor i (stepOf i s r) (machineStep i m r)
+  pub move : (s : SessionState) (m : Machine) → StandsFor i s m → sessionMove i s ≡ machineMove m
+  pub answer : (s : SessionState) (m : Machine) (r : Answer) → StandsFor i s m → StandsFor i (stepOf i s r) (machineStep i m r)

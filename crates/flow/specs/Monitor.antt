@@ -2,7 +2,9 @@
 use mathlib.Core.Bool.{Bool, true, false, _||_, cond}
 use Prim.Native.Nat.{ℕ, suc, _+_, _*_, _/_, _%_}
 use lib.Dec.{eqb, ltb, leb}
-use Rattle.flow.specs.Map.{Place, inFlash, inLocks, inParams, atLevel, atSysreq, atSysarg, atTestMode, elsewhere, place}
+use Rattle.flow.specs.Map.{place}
+use Rattle.flow.specs.declared.Place.{Place}
+use Rattle.flow.specs.declared.Place.the-variants.{InFlash, InLocks, InParams, AtLevel, AtSysreq, AtSysarg, AtTestMode, Elsewhere}
 use Rattle.flow.specs.Packets.{Verdict, okay, again, broken, verdict}
 use Rattle.flow.specs.declared.Answer.{Answer}
 use Rattle.flow.specs.declared.Request.{Request}
@@ -69,15 +71,15 @@ passBy a t d = watching 0 0 a (record { tar = t .tar; counts = t .counts; pollin
 
 -- 'a Read of TEST_MODE that gives a word without bit 31 (17)'; a poll loop begins after the TEST_MODE Read
 unfoldable pub noticeRead : Place → (word polls attempts : ℕ) → Watch → Delays → Monitor
-noticeRead (inFlash o) w p a t d = passBy a t d
-noticeRead (inLocks o) w p a t d = passBy a t d
-noticeRead (inParams o) w p a t d = passBy a t d
-noticeRead atLevel w p a t d = passBy a t d
-noticeRead atSysreq w p a t d = noticePoll (t .polling) (stillBusy w) p a t d
-noticeRead atSysarg w p a t d = noticeStatus (t .due) w a t d
-noticeRead atTestMode w p a t d =
+noticeRead (InFlash o) w p a t d = passBy a t d
+noticeRead (InLocks o) w p a t d = passBy a t d
+noticeRead (InParams o) w p a t d = passBy a t d
+noticeRead AtLevel w p a t d = passBy a t d
+noticeRead AtSysreq w p a t d = noticePoll (t .polling) (stillBusy w) p a t d
+noticeRead AtSysarg w p a t d = noticeStatus (t .due) w a t d
+noticeRead AtTestMode w p a t d =
     withinLimit (eqb (w / 2147483648 % 2) 1) 17 (watching 0 0 a (record { tar = t .tar; counts = t .counts; polling = true; due = t .due }) d)
-noticeRead elsewhere w p a t d = passBy a t d
+noticeRead Elsewhere w p a t d = passBy a t d
 
 -- DRW reads come in turn: the stale word, then the one that counts
 abbrev pub noticeDrw : (counts : Bool) → Geometry → (word polls attempts : ℕ) → Watch → Delays → Monitor
@@ -88,14 +90,14 @@ noticeDrw true g w p a t d =
 -- a call's write of SYSREQ: a poll loop begins, and a Read of SYSARG is due
 abbrev pub noticeStore : (call : Bool) → Place → (polls attempts : ℕ) → Watch → Delays → Monitor
 noticeStore false c p a t d = watching 0 p a t d
-noticeStore true (inFlash o) p a t d = watching 0 p a t d
-noticeStore true (inLocks o) p a t d = watching 0 p a t d
-noticeStore true (inParams o) p a t d = watching 0 p a t d
-noticeStore true atLevel p a t d = watching 0 p a t d
-noticeStore true atSysreq p a t d = watching 0 0 a (record { tar = t .tar; counts = t .counts; polling = true; due = true }) d
-noticeStore true atSysarg p a t d = watching 0 p a t d
-noticeStore true atTestMode p a t d = watching 0 p a t d
-noticeStore true elsewhere p a t d = watching 0 p a t d
+noticeStore true (InFlash o) p a t d = watching 0 p a t d
+noticeStore true (InLocks o) p a t d = watching 0 p a t d
+noticeStore true (InParams o) p a t d = watching 0 p a t d
+noticeStore true AtLevel p a t d = watching 0 p a t d
+noticeStore true AtSysreq p a t d = watching 0 0 a (record { tar = t .tar; counts = t .counts; polling = true; due = true }) d
+noticeStore true AtSysarg p a t d = watching 0 p a t d
+noticeStore true AtTestMode p a t d = watching 0 p a t d
+noticeStore true Elsewhere p a t d = watching 0 p a t d
 
 -- a transfer answered OK, a read with right parity
 unfoldable pub noticed : Geometry → Request → (word polls attempts : ℕ) → Watch → Delays → Monitor

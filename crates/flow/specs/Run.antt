@@ -4,7 +4,7 @@ use Prim.Native.Nat.{ℕ, zero, suc}
 use Rattle.flow.specs.Exchange.{Met, meet}
 use Rattle.flow.specs.Packets.{packetOf}
 use Rattle.flow.specs.Plan.{Traffic, noTraffic, counting}
-use Rattle.flow.specs.Session.{Session, running, reported, moveAt, stepOf, firstSession}
+use Rattle.flow.specs.Session.{SessionState, running, reported, moveAt, stepOf, firstSession}
 use Rattle.flow.specs.Target.{Target, Lists}
 use Rattle.flow.specs.Monitor.{Monitor, watching, watch, noDelays}
 use Rattle.flow.specs.declared.Move.{Move}
@@ -12,13 +12,13 @@ use Rattle.image.specs.Image.{Image}
 
 -- the session, the target, what is left of the free lists, what the monitor has seen, and the requests answered
 pub record Run : Type 0 where
-  pub session : Session
+  pub session : SessionState
   pub target : Target
   pub lists : Lists
   pub monitor : Monitor
   pub traffic : Traffic
 
-abbrev pub served : Image → Session → Move → Met → Run → Run
+abbrev pub served : Image → SessionState → Move → Met → Run → Run
 served i s m r run = record {
   session = stepOf i s (r .answer);
   target = r .target;
@@ -28,7 +28,7 @@ served i s m r run = record {
 }
 
 -- the target's answer to the standing request, given to the session; after the report nothing changes
-abbrev pub advanceBy : Image → Session → Run → Run
+abbrev pub advanceBy : Image → SessionState → Run → Run
 advanceBy i (running y n w p a k h) run =
     let m = moveAt i y n in
     served i (running y n w p a k h) m (meet (i .geometry) (packetOf (m .request)) (run .lists) (run .target)) run
@@ -52,7 +52,7 @@ started b l = record {
 }
 
 -- the requests handed out: those answered, and the one that stands
-abbrev pub handedOutBy : Image → Session → Traffic → Traffic
+abbrev pub handedOutBy : Image → SessionState → Traffic → Traffic
 handedOutBy i (running y n w p a k h) t = counting ((moveAt i y n) .request) t
 handedOutBy i (reported x s h) t = t
 

@@ -70,6 +70,18 @@ pub enum Answer {
     Transferred(Reply),
 }
 
+// What is at an address of the target, with the offset there.
+pub enum Place {
+    InFlash(usize),
+    InLocks(usize),
+    InParams(usize),
+    AtLevel,
+    AtSysreq,
+    AtSysarg,
+    AtTestMode,
+    Elsewhere,
+}
+
 // A write with its word's parity.
 fn write_packet(r: Register, w: u32) -> Packet
     ensures { λ p. ⌜ p ≡ packetOf (Request.WriteSetup r w) ⌝ }

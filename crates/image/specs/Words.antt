@@ -1,7 +1,7 @@
 -- Sums and 32-bit words of bytes. Assumes nothing.
 use mathlib.Core.Bool.{Bool, true, _&&_}
 use mathlib.Core.List.{List, [], _∷_}
-use Prim.Native.Nat.{ℕ, zero, suc, _+_, _*_}
+use Prim.Native.Nat.{ℕ, zero, suc, _+_, _*_, _/_, _%_}
 use lib.Dec.{eqb}
 use lib.ListN.{getD}
 
@@ -16,6 +16,11 @@ allZero (x ∷ xs) = eqb x 0 && allZero xs
 -- 'Words have the low byte first': the word of the four bytes from offset o on
 unfoldable pub wordAt : List ℕ → (o : ℕ) → ℕ
 wordAt bytes o = getD bytes o 0 + 256 * getD bytes (o + 1) 0 + 65536 * getD bytes (o + 2) 0 + 16777216 * getD bytes (o + 3) 0
+
+-- a number in n bytes, the low byte first
+abbrev pub lowFirst : (n value : ℕ) → List ℕ
+lowFirst zero v = []
+lowFirst (suc n) v = v % 256 ∷ lowFirst n (v / 256)
 
 -- n words from offset o on
 unfoldable pub wordsAt : List ℕ → (o n : ℕ) → List ℕ

@@ -1,15 +1,11 @@
 -- Numbers and flags as bytes. Assumes nothing.
 use mathlib.Core.Bool.{Bool, true, false, cond}
-use mathlib.Core.List.{List, [], _∷_}
-use Prim.Native.Nat.{ℕ, zero, suc, _+_, _/_, _%_, _<_}
+use mathlib.Core.List.{List}
+use Prim.Native.Nat.{ℕ, _+_, _<_}
 use lib.Dec.{leb}
 use lib.ListN.{length}
 use lib.Seq.{sets}
-
--- 'Words have the low byte first': a number in n bytes
-abbrev pub lowFirst : (n value : ℕ) → List ℕ
-lowFirst zero v = []
-lowFirst (suc n) v = v % 256 ∷ lowFirst n (v / 256)
+use Rattle.image.specs.Words.{lowFirst}
 
 abbrev pub flagByte : Bool → ℕ
 flagByte true = 1

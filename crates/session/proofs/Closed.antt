@@ -36,7 +36,7 @@ pub record Within (i : Image) (y : Entry) (n w p a : ℕ) : Type 0 where
   pub attempts : a < 30
 
 -- what 13 asks of where a session stands
-abbrev pub Stands : Image → Flow.Session → Type 0
+abbrev pub Stands : Image → Flow.SessionState → Type 0
 Stands i (running y n w p a k h) = Within i y n w p a
 Stands i (reported x t h) = reportFits x t ≡ true
 
@@ -186,7 +186,7 @@ module _ (i : Image) (y : Entry) (n : ℕ) (inside : n < moveCount (i .geometry)
     reset-in false r t e = heard-in (isAttempt (m .request)) (verdict (m .request) r) (suc t) (line-verdict (m .request) r)
 
 -- a step keeps what 13 asks
-pub step-stands : (i : Image) (x : Flow.Session) (r : Answer) → Stands i x → Stands i (stepOf i x r)
+pub step-stands : (i : Image) (x : Flow.SessionState) (r : Answer) → Stands i x → Stands i (stepOf i x r)
 unfolding stepOf
 step-stands i (running y n w p a k t) r h = reset-in i y n (h .at) w p a k h (isReset ((moveAt i y n) .request)) r t refl
 step-stands i (reported x s t) r h = h

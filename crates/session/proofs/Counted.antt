@@ -22,13 +22,13 @@ use Rattle.session.specs.Sessions.{standOf, mostOf, resumed}
 use Rattle.session.specs.declared.Session.{Session}
 
 -- the transfers that a session of the flow has counted
-abbrev pub countIn : Flow.Session → ℕ
+abbrev pub countIn : Flow.SessionState → ℕ
 countIn (running y n w p a k h) = h
 countIn (reported x t h) = h
 
 -- ---- where the count is within the formula, nothing is cut off
 
-pub stand-resumed : (g : Geometry) (s : Session) (x : Flow.Session) → countIn x ≤ mostOf g → standOf (resumed g s x) ≡ x
+pub stand-resumed : (g : Geometry) (s : Session) (x : Flow.SessionState) → countIn x ≤ mostOf g → standOf (resumed g s x) ≡ x
 unfolding resumed
 stand-resumed g s (running y n w p a k h) c = let e : min h (mostOf g) ≡ h = omega arith in ap (running y n w p a k) e
 stand-resumed g s (reported x t h) c = let e : min h (mostOf g) ≡ h = omega arith in ap (reported x t) e
@@ -67,7 +67,7 @@ count-act i m (WriteTar x) r y n w p a k h t e = count-heard false i m (verdict 
 count-act i m (WriteDrw x) r y n w p a k h t e = count-heard false i m (verdict (WriteDrw x) r) y n w p a k (suc h) ∙ ap suc e
 count-act i m (WriteSetup g x) r y n w p a k h t e = count-heard false i m (verdict (WriteSetup g x) r) y n w p a k (suc h) ∙ ap suc e
 
-pub count-step : (i : Image) (x : Flow.Session) (run : Run) → countIn x ≡ run .traffic .transfers → x ≡ run .session
+pub count-step : (i : Image) (x : Flow.SessionState) (run : Run) → countIn x ≡ run .traffic .transfers → x ≡ run .session
     → countIn ((advanceBy i x run) .session) ≡ ((advanceBy i x run) .traffic) .transfers
 unfolding stepOf
 count-step i (running y n w p a k h) run e f = count-act i (moveAt i y n) ((moveAt i y n) .request) _ y n w p a k h (run .traffic) e

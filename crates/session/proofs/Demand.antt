@@ -96,7 +96,7 @@ grows (WriteTar w) t = omega arith
 grows (WriteDrw w) t = omega arith
 grows (WriteSetup r w) t = omega arith
 
-handed-more : (i : Image) (x : Flow.Session) (t : Traffic) → t .transfers ≤ (handedOutBy i x t) .transfers
+handed-more : (i : Image) (x : Flow.SessionState) (t : Traffic) → t .transfers ≤ (handedOutBy i x t) .transfers
 handed-more i (running y n w p a k h) t = grows ((moveAt i y n) .request) t
 handed-more i (reported x s h) t = omega arith
 
@@ -113,7 +113,7 @@ most-from g FromProtected = omega arith
 
 -- ---- a report that stands
 
-reported-session : (i : Image) (x : Flow.Session) (r : Report) → outcomeAt i x ≡ Reported r → x ≡ reported (r .number) (r .step) (r .transfers)
+reported-session : (i : Image) (x : Flow.SessionState) (r : Report) → outcomeAt i x ≡ Reported r → x ≡ reported (r .number) (r .step) (r .transfers)
 reported-session i (running y n w p a k h) r e = let z : _≡_ {A = ℕ} 0 1 = cc in absurd (omega arith)
 reported-session i (reported x t h) r e =
     let same : record { number = x; step = t; transfers = h } ≡ r = cc in

@@ -108,7 +108,7 @@ module _ (g : Geometry) (h : Header) (bytes : List ℕ) (found : lookupOf (h .pa
     stepped : stepOf (imageOf g (s .session .header) bytes) (standOf (s .session)) (x .answer) ≡ stepOf i (running y n w p a k t) (x .answer)
     stepped =
         ap (λ (j : Header). stepOf (imageOf g j bytes) (standOf (s .session)) (x .answer)) (f .header)
-        ∙ ap (λ (z : Flow.Session). stepOf i z (x .answer)) (f .session ∙ is)
+        ∙ ap (λ (z : Flow.SessionState). stepOf i z (x .answer)) (f .session ∙ is)
 
     gave : stepWith (s .session) bytes (x .answer) ≡ giving i (resumed g (s .session) (stepOf i (running y n w p a k t) (x .answer)))
     gave =
@@ -127,7 +127,7 @@ module _ (g : Geometry) (h : Header) (bytes : List ℕ) (found : lookupOf (h .pa
         rw (qe, ee, ve)
         (record {
           header = header-kept g (s .session) new ∙ f .header;
-          can = ap (λ (z : Flow.Session). possibleIn g (resumed g (s .session) z)) (sym stepped) ∙ step-possible g bytes (s .session) (x .answer) (f .can);
+          can = ap (λ (z : Flow.SessionState). possibleIn g (resumed g (s .session) z)) (sym stepped) ∙ step-possible g bytes (s .session) (x .answer) (f .can);
           session = stood;
           stands = rw stood (standing-new i (s .stands) new);
           target = refl;
@@ -143,13 +143,13 @@ module _ (g : Geometry) (h : Header) (bytes : List ℕ) (found : lookupOf (h .pa
   unfolding advance
   follow-answer s r p f e low = by (r .session) refl
     where
-      by : (z : Flow.Session) → r .session ≡ z
+      by : (z : Flow.SessionState) → r .session ≡ z
           → Follows (answered g p (reaction g p s) (stepWith (s .session) bytes ((reaction g p s) .answer)) s) (advanceBy i (r .session) r)
       by (running y n w q a k t) is =
           let same : p ≡ packetOf ((moveAt i y n) .request) = same-packet p _ (s .stands) e (f .stands ∙ ap (outcomeAt i) is) in
           let met : reaction g p s ≡ meet g (packetOf ((moveAt i y n) .request)) (r .lists) (r .target) = rw (same, f .lists, f .target) in
-          subst (λ (z : Flow.Session). Follows (answered g p (reaction g p s) (stepWith (s .session) bytes ((reaction g p s) .answer)) s) (advanceBy i z r)) (sym is)
-          (next s r f y n w q a k t is (subst (λ (z : Flow.Session). countIn ((advanceBy i z r) .session) ≤ mostOf g) is low) p same (reaction g p s) met
+          subst (λ (z : Flow.SessionState). Follows (answered g p (reaction g p s) (stepWith (s .session) bytes ((reaction g p s) .answer)) s) (advanceBy i z r)) (sym is)
+          (next s r f y n w q a k t is (subst (λ (z : Flow.SessionState). countIn ((advanceBy i z r) .session) ≤ mostOf g) is low) p same (reaction g p s) met
           (stepWith (s .session) bytes ((reaction g p s) .answer))
           (ap (λ (v : Met). stepWith (s .session) bytes (v .answer)) met ∙ gave s r f y n w q a k t is))
       by (reported x t c) is = absurd (no-packet p _ (s .stands) e (f .stands ∙ ap (outcomeAt i) is))
@@ -176,7 +176,7 @@ module _ (g : Geometry) (h : Header) (bytes : List ℕ) (found : lookupOf (h .pa
       → Follows (called (stepWith (s .session) bytes a) s) r
   follow-later s r a last-report f e = by (r .session) refl
     where
-      by : (z : Flow.Session) → r .session ≡ z → Follows (called (stepWith (s .session) bytes a) s) r
+      by : (z : Flow.SessionState) → r .session ≡ z → Follows (called (stepWith (s .session) bytes a) s) r
       by (running y n w p b k t) is = absurd (no-packet _ last-report (s .stands) (f .stands ∙ ap (outcomeAt i) is) e)
       by (reported x t c) is =
           let again : stepWith (s .session) bytes a ≡ giving i (s .session) =

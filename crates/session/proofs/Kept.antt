@@ -89,7 +89,7 @@ module _ (s : Session) (bytes : List ℕ) (a : Answer) where
   right-refusing : (k : ℕ) → Right (refusing s k)
   right-refusing k = record { header = refl; count = λ t e. let z : _≡_ {A = ℕ} 0 1 = cc in absurd (omega arith) }
 
-  reported-count : (i : Image) (x : Flow.Session) (t : Report) → outcomeAt i x ≡ Reported t → (c : ℕ) → countIn x ≡ c → t .transfers ≡ c
+  reported-count : (i : Image) (x : Flow.SessionState) (t : Report) → outcomeAt i x ≡ Reported t → (c : ℕ) → countIn x ≡ c → t .transfers ≡ c
   reported-count i (running y n w p b k h) t e c f = let z : _≡_ {A = ℕ} 0 1 = cc in absurd (omega arith)
   reported-count i (reported x r h) t e c f = let same : record { number = x; step = r; transfers = h } ≡ t = cc in ap (λ (q : Report). q .transfers) (sym same) ∙ f
 

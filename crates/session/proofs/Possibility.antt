@@ -56,7 +56,7 @@ module _ (g : Geometry) (h : Header) (bytes : List ℕ) where
           rw e w
 
   -- a session that is made to stand where 13 allows
-  pub resumed-parts : (s : Session) → headerFits g (s .header) ≡ true → (x : Flow.Session) → Stands (imageOf g h bytes) x → Parts g (resumed g s x)
+  pub resumed-parts : (s : Session) → headerFits g (s .header) ≡ true → (x : Flow.SessionState) → Stands (imageOf g h bytes) x → Parts g (resumed g s x)
   unfolding resumed
   resumed-parts s e (running y n w p a k t) q =
       record {

@@ -55,15 +55,15 @@ fits g (WriteSetup r w) l b = transfer-fits g (WriteSetup r w) (nextEvent (l .li
 
 -- ---- what stands, handed out
 
-pub handing-stands : (i : Image) (x : Flow.Session) (t : Traffic) → handing (outcomeAt i x) t ≡ handedOutBy i x t
+pub handing-stands : (i : Image) (x : Flow.SessionState) (t : Traffic) → handing (outcomeAt i x) t ≡ handedOutBy i x t
 handing-stands i (running y n w p a k h) t = refl
 handing-stands i (reported x s h) t = refl
 
-pub standing-new : (i : Image) (o : Outcome) (x : Flow.Session) → standing o (outcomeAt i x) ≡ outcomeAt i x
+pub standing-new : (i : Image) (o : Outcome) (x : Flow.SessionState) → standing o (outcomeAt i x) ≡ outcomeAt i x
 standing-new i o (running y n w p a k h) = refl
 standing-new i o (reported x s h) = refl
 
-pub header-kept : (g : Geometry) (s : Session) (x : Flow.Session) → (resumed g s x) .header ≡ s .header
+pub header-kept : (g : Geometry) (s : Session) (x : Flow.SessionState) → (resumed g s x) .header ≡ s .header
 unfolding resumed
 header-kept g s (running y n w p a k h) = refl
 header-kept g s (reported x t h) = refl
@@ -100,7 +100,7 @@ module _ (g : Geometry) (s : Session) (bytes : List ℕ) (a : Answer) (found : l
 
 -- ---- a refused step gives the session back
 
-pub not-refused : (i : Image) (x : Flow.Session) (n : ℕ) → outcomeAt i x ≡ Refused n → ⊥
+pub not-refused : (i : Image) (x : Flow.SessionState) (n : ℕ) → outcomeAt i x ≡ Refused n → ⊥
 not-refused i (running y k w p a q h) n e = let z : _≡_ {A = ℕ} 0 1 = cc in omega arith
 not-refused i (reported x t h) n e = let z : _≡_ {A = ℕ} 0 1 = cc in omega arith
 

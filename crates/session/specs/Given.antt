@@ -57,7 +57,7 @@ abbrev pub refusing : Session → (number : ℕ) → Given
 refusing s n = record { session = s; outcome = Outcomes.Refused n }
 
 -- what stands: a request, or the report
-abbrev pub outcomeAt : Image → Flow.Session → Outcome
+abbrev pub outcomeAt : Image → Flow.SessionState → Outcome
 outcomeAt i (running y n w p a k h) = Outcomes.Ask (packetOf ((moveAt i y n) .request))
 outcomeAt i (reported x t h) = Outcomes.Reported (record { number = x; step = t; transfers = h })
 

@@ -44,7 +44,7 @@ nextBy true i u (broken x) y p = tryNext y p
 nextBy false i u (broken x) y p = Stop x
 
 -- the session of the flow that an answer leads to
-abbrev pub standAfter : Next → (step transfers : ℕ) → Flow.Session
+abbrev pub standAfter : Next → (step transfers : ℕ) → Flow.SessionState
 standAfter (Run y p) s h = running y (p .at) (p .waits) (p .polls) (p .attempts) (p .kept) h
 standAfter (Stop x) s h = reported x s h
 
@@ -53,7 +53,7 @@ abbrev pub resetNext : Entry → Progress → Next
 resetNext y p = Run y (record { at = p .at + 1; waits = p .waits; polls = p .polls; attempts = p .attempts; kept = p .kept })
 
 -- the standing move m answered
-unfoldable pub actOn : Image → Move → Answer → Entry → Progress → (transfers : ℕ) → Flow.Session
+unfoldable pub actOn : Image → Move → Answer → Entry → Progress → (transfers : ℕ) → Flow.SessionState
 actOn i m a y p t =
     cond (isReset (m .request)) (standAfter (resetNext y p) (m .step) t)
     (standAfter (nextBy (isAttempt (m .request)) i (m .purpose) (verdict (m .request) a) y p) (m .step) (suc t))

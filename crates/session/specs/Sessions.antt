@@ -13,7 +13,7 @@ use Rattle.session.specs.declared.Progress.{Progress}
 use Rattle.session.specs.declared.Session.{Session}
 
 -- where the session stands in the flow
-abbrev pub standOf : Session → Flow.Session
+abbrev pub standOf : Session → Flow.SessionState
 standOf s =
     cond (s .finished) (reported (s .number) (s .step) (s .transfers))
     (running (s .entry) (s .progress .at) (s .progress .waits) (s .progress .polls) (s .progress .attempts) (s .progress .kept) (s .transfers))
@@ -41,7 +41,7 @@ abbrev pub reportedAt : Session → (number step transfers : ℕ) → Session
 reportedAt s x r t = record { header = s .header; entry = s .entry; progress = atStart; transfers = t; finished = true; number = x; step = r }
 
 -- a session of the same image that stands so; the count stops at document 01's formula, which no run from a start goes past
-unfoldable pub resumed : Geometry → Session → Flow.Session → Session
+unfoldable pub resumed : Geometry → Session → Flow.SessionState → Session
 resumed g s (running y n w p a k h) =
     runningAt s y (record { at = n; waits = w; polls = p; attempts = a; kept = k }) (min h (mostOf g))
 resumed g s (reported x t h) = reportedAt s x t (min h (mostOf g))

@@ -5,7 +5,7 @@ use native.Mathlib.Omega.{arith}
 use lib.ListN.{length, length-set}
 use lib.Seq.{sets}
 use Rattle.layout.proofs.Bytes.{sets-whole}
-use Rattle.layout.specs.Bytes.{lowFirst}
+use Rattle.image.specs.Words.{lowFirst}
 use Rattle.core_c.proofs.Putting.{put-more}
 use Rattle.core_c.proofs.encode.put_length.Statement.{statement}
 use Rattle.core_c.proofs.encode.put_length.Tie as tie

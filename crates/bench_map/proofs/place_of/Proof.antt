@@ -4,8 +4,8 @@ use Prim.Native.Nat.{_≤_}
 use borrow.Author.Needs.{needs}
 use Rattle.bench_map.proofs.Mapping.{covering-low, at-flash, at-sysreq, at-sysarg, at-test, at-params, at-level, at-locks}
 use Rattle.parts.specs.Sizes.{flashSize}
-use Rattle.bench_map.proofs.spot_of.Statement.{statement}
-use Rattle.bench_map.proofs.spot_of.Tie as tie
+use Rattle.bench_map.proofs.place_of.Statement.{statement}
+use Rattle.bench_map.proofs.place_of.Tie as tie
 
 returns : tie.Need-returns
 returns c =
@@ -70,12 +70,12 @@ returns-7 c =
     let e₁ = e₂ .before .before in
     let e₀ = e₁ .before .before in
     let x = e₀ .before .before .before .before .args in
-    c .lock-spot .ensures
+    c .lock-place .ensures
     ∙ sym (at-locks (x .g) (x .address) (past e₀) (sym (e₁ .before .covers .ensures) ∙ e₁ .if2 .left) (sym (e₂ .before .covers2 .ensures) ∙ e₂ .if3 .left)
     (sym (e₃ .before .covers3 .ensures) ∙ e₃ .if4 .left) (sym (e₄ .before .covers4 .ensures) ∙ e₄ .if5 .left) (sym (e₅ .before .covers5 .ensures) ∙ e₅ .if6 .left))
 
-pub spot-of-spec : {M : Type 1} → statement M
-spot-of-spec =
+pub place-of-spec : {M : Type 1} → statement M
+place-of-spec =
     tie.close
     (tie.spec
     (λ c. search needs)

@@ -4,8 +4,8 @@ use Prim.Native.Nat.{_+_, _*_, _/_, _≤_}
 use native.Mathlib.Omega.{arith}
 use borrow.Author.Needs.{needs}
 use Rattle.bench_map.proofs.Mapping.{lockFrom, lock-none, lock-hit, lock-miss, covering-low, covering-high, locks-found}
-use Rattle.bench_map.proofs.lock_spot.Statement.{statement}
-use Rattle.bench_map.proofs.lock_spot.Tie as tie
+use Rattle.bench_map.proofs.lock_place.Statement.{statement}
+use Rattle.bench_map.proofs.lock_place.Tie as tie
 
 abbrev Inv-loop : tie.InvT-loop
 Inv-loop a size step start₀ from₀ left₀ start from left =
@@ -76,8 +76,8 @@ returns-2 c =
     let z : l .left ≡ 0 = omega arith in
     sym (lock-none _ _ (l .start) (l .from) (x .a)) ∙ ((rw z at (l .inv .0)) ∙ sym (locks-found (x .g) (x .a)))
 
-pub lock-spot-spec : {M : Type 1} → statement M
-lock-spot-spec =
+pub lock-place-spec : {M : Type 1} → statement M
+lock-place-spec =
     tie.close
     (tie.spec
     Inv-loop
