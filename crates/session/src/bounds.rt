@@ -3,7 +3,6 @@ ghost use mathlib.Core.Path.{_≡_};
 ghost use Rattle.session.specs.Possible.{headerFits, progressFits, reportFits, possibleIn};
 use crate::Progress;
 use crate::Session;
-use crate::plan::most_of;
 use flow::Entry;
 use image::Header;
 use parts::Geometry;
@@ -54,7 +53,7 @@ pub(crate) fn possible_in(g: Geometry, s: Session) -> bool
     if !header_fits(g, h) {
         return false;
     }
-    if most_of(g) < (s.transfers as u64) {
+    if plan::most_transfers(g) < (s.transfers as u64) {
         return false;
     }
     if s.finished {

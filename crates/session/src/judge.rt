@@ -9,12 +9,6 @@ ghost use Rattle.session.specs.Nexts.{nextOf};
 ghost use Rattle.session.specs.Ranges.{InRange};
 use crate::Next;
 use crate::Progress;
-use crate::words::bit_set;
-use crate::words::call_succeeded;
-use crate::words::ids_fit;
-use crate::words::is_free;
-use crate::words::level_shown;
-use crate::words::sums_fit;
 use flow::Entry;
 use flow::Purpose;
 use image::Header;
@@ -63,7 +57,7 @@ fn polled_next(y: Entry, p: Progress, attempts: u32, w: u32) -> Next
     requires { ⌜ InRange p ⌝ }
     ensures { λ r. ⌜ r ≡ nextOf (polled (free w) (ltb (suc (p .polls)) 10000) (p .polls) (p .kept)) y (p .at) attempts ⌝ }
 {
-    if is_free(w) {
+    if words::is_free(w) {
         return onward(y, p, 0, attempts, p.kept);
     }
     let polls = p.polls + 1;
@@ -102,7 +96,7 @@ fn entered(g: Geometry, h: Header, y: Entry, p: Progress, attempts: u32, w: u32)
     requires { ⌜ InRange p ⌝ }
     ensures { λ r. ⌜ r ≡ nextOf (judge (imageOf g h []) Purpose.EntryLevel (p .polls) (p .kept) w) y (p .at) attempts ⌝ }
 {
-    if ids_fit(g, h, p.kept, w) {
+    if words::ids_fit(g, h, p.kept, w) {
         enter_next(y, p, attempts, w)
     } else {
         Next::Stop(20)
@@ -114,7 +108,7 @@ fn reopened(g: Geometry, h: Header, y: Entry, p: Progress, attempts: u32, w: u32
     requires { ⌜ InRange p ⌝ }
     ensures { λ r. ⌜ r ≡ nextOf (judge (imageOf g h []) Purpose.Reopened (p .polls) (p .kept) w) y (p .at) attempts ⌝ }
 {
-    if ids_fit(g, h, p.kept, w) {
+    if words::ids_fit(g, h, p.kept, w) {
         onward_if(w / 4096 % 16 == 1, 21, y, p, attempts)
     } else {
         Next::Stop(20)
@@ -125,7 +119,7 @@ fn reopened(g: Geometry, h: Header, y: Entry, p: Progress, attempts: u32, w: u32
 fn summed(g: Geometry, h: Header, y: Entry, p: Progress, attempts: u32, w: u32) -> Next
     ensures { λ r. ⌜ r ≡ nextOf (judge (imageOf g h []) Purpose.LastSum (p .polls) (p .kept) w) y (p .at) attempts ⌝ }
 {
-    if sums_fit(g, h, w, p.kept) {
+    if words::sums_fit(g, h, w, p.kept) {
         Next::Stop(0)
     } else {
         Next::Stop(25)
@@ -148,14 +142,14 @@ pub(crate) fn on_word(
     match u {
         Purpose::Sent => onward(y, p, p.polls, attempts, p.kept),
         Purpose::Idcode => onward_if(w == 0x0BB11477, 16, y, p, attempts),
-        Purpose::TestBit => onward_if(bit_set(w), 17, y, p, attempts),
+        Purpose::TestBit => onward_if(words::bit_set(w), 17, y, p, attempts),
         Purpose::Poll => polled_next(y, p, attempts, w),
-        Purpose::Status => onward_if(call_succeeded(w), 19, y, p, attempts),
+        Purpose::Status => onward_if(words::call_succeeded(w), 19, y, p, attempts),
         Purpose::Keep => onward(y, p, p.polls, attempts, w),
         Purpose::EntryLevel => entered(g, h, y, p, attempts, w),
         Purpose::Reopened => reopened(g, h, y, p, attempts, w),
         Purpose::Same(v, n) => onward_if(w == v, n, y, p, attempts),
-        Purpose::StoredLevel => onward_if(level_shown(w) == h.level, 24, y, p, attempts),
+        Purpose::StoredLevel => onward_if(words::level_shown(w) == h.level, 24, y, p, attempts),
         Purpose::LastSum => summed(g, h, y, p, attempts, w),
     }
 }

@@ -11,8 +11,6 @@ mod bounds;
 mod hear;
 mod judge;
 mod moving;
-mod plan;
-mod words;
 
 use bounds::possible_in;
 use flow::Answer;

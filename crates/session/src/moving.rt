@@ -13,7 +13,6 @@ use crate::hear::after_reset;
 use crate::hear::is_reset;
 use crate::hear::on_reply;
 use crate::hear::reply_in;
-use crate::plan::most_of;
 use flow::Answer;
 use flow::Entry;
 use flow::Move;
@@ -24,7 +23,7 @@ fn capped(g: Geometry, count: u64) -> u32
     requires { ⌜ mostOf g < 2 ^ 32 ⌝ }
     ensures { λ r. ⌜ r ≡ min count (mostOf g) ⌝ }
 {
-    let most = most_of(g);
+    let most = plan::most_transfers(g);
     if count <= most {
         count as u32
     } else {

@@ -12,29 +12,29 @@ returns : tie.Need-returns
 unfolding possibleIn
 returns c = simp (← c .before .header-fits .ensures, not-true (c .before .header-fits .result) (c .if1 .taken))
 
-most-of-requires : tie.Need-most-of-requires
-most-of-requires c κs = search needs
+most-transfers-requires : tie.Need-most-transfers-requires
+most-transfers-requires c κs = search needs
 
 cast-if2 : tie.Need-cast-if2
 cast-if2 c = search needs
 
 returns-2 : tie.Need-returns-2
 unfolding possibleIn
-returns-2 c = simp (← c .before .before .before .before .header-fits .ensures, not-false (c .before .before .before .before .header-fits .result) (c .before .before .before .if1 .left), ← c .before .before .most-of .ensures, lt-leb _ _ (c .if2 .taken))
+returns-2 c = simp (← c .before .before .before .before .header-fits .ensures, not-false (c .before .before .before .before .header-fits .result) (c .before .before .before .if1 .left), ← c .before .before .most-transfers .ensures, lt-leb _ _ (c .if2 .taken))
 
 report-fits-requires : tie.Need-report-fits-requires
 report-fits-requires c κs = search needs
 
 returns-3 : tie.Need-returns-3
 unfolding possibleIn
-returns-3 c = simp (← c .before .before .before .before .before .before .header-fits .ensures, not-false (c .before .before .before .before .before .before .header-fits .result) (c .before .before .before .before .before .if1 .left), ← c .before .before .before .before .most-of .ensures, le-leb _ _ (c .before .before .if2 .left), c .before .if3 .taken, ← c .report-fits .ensures)
+returns-3 c = simp (← c .before .before .before .before .before .before .header-fits .ensures, not-false (c .before .before .before .before .before .before .header-fits .result) (c .before .before .before .before .before .if1 .left), ← c .before .before .before .before .most-transfers .ensures, le-leb _ _ (c .before .before .if2 .left), c .before .if3 .taken, ← c .report-fits .ensures)
 
 progress-fits-requires : tie.Need-progress-fits-requires
 progress-fits-requires c κs = search needs
 
 returns-4 : tie.Need-returns-4
 unfolding possibleIn
-returns-4 c = simp (← c .before .before .before .before .before .before .before .header-fits .ensures, not-false (c .before .before .before .before .before .before .before .header-fits .result) (c .before .before .before .before .before .before .if1 .left), ← c .before .before .before .before .before .most-of .ensures, le-leb _ _ (c .before .before .before .if2 .left), c .before .before .if3 .left, ← c .progress-fits .ensures)
+returns-4 c = simp (← c .before .before .before .before .before .before .before .header-fits .ensures, not-false (c .before .before .before .before .before .before .before .header-fits .result) (c .before .before .before .before .before .before .if1 .left), ← c .before .before .before .before .before .most-transfers .ensures, le-leb _ _ (c .before .before .before .if2 .left), c .before .before .if3 .left, ← c .progress-fits .ensures)
 
 pub possible-in-spec : {M : Type 1} → statement M
 possible-in-spec =
@@ -42,7 +42,7 @@ possible-in-spec =
     (tie.spec
     header-fits-requires
     returns
-    most-of-requires
+    most-transfers-requires
     cast-if2
     returns-2
     report-fits-requires

@@ -1,10 +1,15 @@
 -- By the range that the number lies in. Assumes nothing.
+use mathlib.Core.Bool.{Bool, true, false, _||_}
+use mathlib.Core.Path.{_≡_, refl}
 use native.Mathlib.Omega.{arith}
 use lib.Dec.{eqb}
-use Rattle.session.proofs.Counts.{or-false}
 use borrow.Author.Tests.{ne-eqb, le-leb, lt-leb}
 use Rattle.session.proofs.bounds.report_fits.Statement.{statement}
 use Rattle.session.proofs.bounds.report_fits.Tie as tie
+
+or-false : (b : Bool) → b ≡ (b || false)
+or-false true = refl
+or-false false = refl
 
 returns : tie.Need-returns
 returns c = simp (c .match .keys1) (or-false (eqb (c .before .args .step) 9))

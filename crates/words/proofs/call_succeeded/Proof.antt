@@ -1,0 +1,12 @@
+-- The top digit. Assumes nothing.
+use mathlib.Core.Path.{refl}
+use Rattle.flow.specs.Judge.{succeeded}
+use Rattle.words.proofs.call_succeeded.Statement.{statement}
+use Rattle.words.proofs.call_succeeded.Tie as tie
+
+returns : tie.Need-returns
+unfolding succeeded
+returns c = refl
+
+pub call-succeeded-spec : {M : Type 1} → statement M
+call-succeeded-spec = tie.close (tie.spec returns)

@@ -1,0 +1,62 @@
+// What single words say: document 01, 'Flow'.
+ghost use mathlib.Core.List.{[]};
+ghost use mathlib.Core.Path.{_≡_};
+ghost use Rattle.flow.specs.Judge.{free, testBitSet, succeeded, idsFit, levelShown, sumsFit};
+ghost use Rattle.image.specs.Image.{imageOf};
+use image::Header;
+use parts::Geometry;
+
+// Whether a polled word has bits 31 and 28 clear.
+pub fn is_free(w: u32) -> bool
+    ensures { λ r. ⌜ r ≡ free w ⌝ }
+{
+    if w / 2147483648 % 2 == 0 {
+        return w / 268435456 % 2 == 0;
+    }
+    false
+}
+
+pub fn bit_set(w: u32) -> bool
+    ensures { λ r. ⌜ r ≡ testBitSet w ⌝ }
+{
+    w / 2147483648 % 2 == 1
+}
+
+pub fn call_succeeded(w: u32) -> bool
+    ensures { λ r. ⌜ r ≡ succeeded w ⌝ }
+{
+    w / 268435456 % 16 == 0xA
+}
+
+// Whether the silicon ID in SYSARG and SYSREQ is the image's and fits the part (20).
+pub fn ids_fit(g: Geometry, h: Header, sysarg: u32, sysreq: u32) -> bool
+    ensures { λ r. ⌜ r ≡ idsFit (imageOf g h []) sysarg sysreq ⌝ }
+{
+    let m = h.metadata;
+    let p = g.part;
+    if (sysarg / 256 % 256) as u8 == m[2] {
+        if (sysreq % 256) as u8 == m[5] {
+            return parts::low_fits(p, (sysarg % 256) as u8);
+        }
+    }
+    false
+}
+
+// The stored level in the word that step 8 reads, with 0 and 1 exchanged.
+pub fn level_shown(w: u32) -> u8
+    ensures { λ r. ⌜ r ≡ levelShown w ⌝ }
+{
+    let n = (w / 16777216 % 16) as u8;
+    match n {
+        0 => 1,
+        1 => 0,
+        _ => n,
+    }
+}
+
+// Whether the two privileged sums differ by the image's sum.
+pub fn sums_fit(g: Geometry, h: Header, this: u32, that: u32) -> bool
+    ensures { λ r. ⌜ r ≡ sumsFit (imageOf g h []) this that ⌝ }
+{
+    ((this % 268435456 + 268435456 - that % 268435456) % 65536) as u16 == h.sum
+}
