@@ -1,5 +1,5 @@
 -- Each arm is its section. Assumes nothing.
-use mathlib.Core.Path.{sym, _∙_}
+use mathlib.Core.Path.{refl, sym, _∙_}
 use Prim.Native.Nat.{_≤_}
 use native.Mathlib.Omega.{arith}
 use borrow.Author.Needs.{needs}
@@ -29,7 +29,7 @@ section-at-spec =
     (λ c κs. search needs)
     (λ c. rw (c .in-image .ensures, c .before .match .keys1, c .before .before .flash-size .ensures .0))
     (λ c. rw (c .in-header .ensures, c .before .match .keys2))
-    (λ c. rw (c .in-image2 .ensures, c .before .before .match .keys3, c .before .lock-total .ensures .0, c .before .before .before .flash-size .ensures .0))
+    (λ c. simp (c .in-image2 .ensures, c .before .before .match .keys3, c .before .lock-total .ensures .0, c .before .before .before .flash-size .ensures .0) refl)
     (λ c. rw (c .in-header2 .ensures, c .before .match .keys4))
     (λ c. rw (c .in-header3 .ensures, c .before .match .keys5))
     returns-6)
