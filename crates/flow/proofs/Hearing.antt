@@ -6,7 +6,7 @@ use native.Mathlib.Omega.{arith}
 use lib.Count.{ones, onesIn}
 use lib.Dec.{eqb, lit≤}
 use borrow.Author.Tests.{eq-eqb, ne-eqb}
-use Rattle.flow.specs.Exchange.{known, decode, carry, gives, barred, killed, callsOn, replyWith, silentReply, okayReply, wrongParityReply, replyTo, carriedOut, Met, met, transferred, meet}
+use Rattle.flow.specs.Exchange.{Decoded, known, unknown, decode, carry, gives, barred, killed, callsOn, replyWith, silentReply, okayReply, wrongParityReply, replyTo, carriedOut, Met, met, transferred, meet}
 use Rattle.flow.specs.Packets.{packetOf, isRead, okay, again, broken, heard, verdict}
 use Rattle.flow.specs.Target.{Target, Lists, LineEvent, TransferOutcome, clean, waits, faults, wrongParity, silent, nextEvent, nextOutcome, rest}
 use Rattle.flow.specs.declared.Answer.the-variants.{Transferred}
@@ -31,16 +31,20 @@ pub data Wired : Request → Type 0 where
   attempt : Wired ReadIdcode
   plain : {q : Request} → Plain q → Wired q
 
+-- a write whose parity bit is its word's
+understood : (w : ℕ) (d : Decoded) → cond (eqb (parity w) (parity w)) d unknown ≡ d
+understood w d = rw (eq-eqb (parity w) (parity w) refl)
+
 -- the target reads each request as it was meant
 pub decodes : {q : Request} → Wired q → decode (packetOf q) ≡ known q
 unfolding decode ones onesIn
 decodes attempt = refl
-decodes (plain (aTar {a = w})) = rw (eq-eqb (parity w) (parity w) refl)
-decodes (plain (aDrw {w = w})) = rw (eq-eqb (parity w) (parity w) refl)
+decodes (plain (aTar {a = w})) = understood w (known (WriteTar w))
+decodes (plain (aDrw {w = w})) = understood w (known (WriteDrw w))
 decodes (plain aRead) = refl
-decodes (plain (aCtrl {w = w})) = rw (eq-eqb (parity w) (parity w) refl)
-decodes (plain (aSelect {w = w})) = rw (eq-eqb (parity w) (parity w) refl)
-decodes (plain (aCsw {w = w})) = rw (eq-eqb (parity w) (parity w) refl)
+decodes (plain (aCtrl {w = w})) = understood w (known (WriteSetup CtrlStat w))
+decodes (plain (aSelect {w = w})) = understood w (known (WriteSetup Select w))
+decodes (plain (aCsw {w = w})) = understood w (known (WriteSetup Csw w))
 
 pub meets : (g : Geometry) {q : Request} → Wired q → (l : Lists) (b : Target) → meet g (packetOf q) l b ≡ transferred g q (nextEvent (l .line)) l b
 unfolding meet
