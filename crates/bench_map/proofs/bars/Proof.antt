@@ -8,7 +8,7 @@ pub bars-spec : {M : Type 1} → statement M
 bars-spec =
     tie.close
     (tie.spec
-    (λ c. simp (ne-eqb _ _ (c .if1 .taken)))
+    (λ c. simp (ne-eqb (c .before .args .effect) 2 (c .if1 .taken)))
     (λ c κs. search needs)
     (λ c κs. search needs)
     (λ c. let p = c .before .before in simp (eq-eqb _ _ (p .before .if1 .left), ← p .is-drw .ensures, c .before .if2 .taken, c .is-guarded .ensures))
