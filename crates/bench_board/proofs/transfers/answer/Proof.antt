@@ -7,7 +7,7 @@ use Rattle.bench_board.proofs.transfers.answer.Tie as tie
 
 returns : tie.Need-returns
 returns c x b =
-    c .silent-reply .ensures ∙ rw (eq-eqb _ _ (c .before .if1 .taken))
+    c .silent-reply .ensures ∙ rw (eq-eqb (c .before .before .before .before .args .r .effect) 4 (c .before .if1 .taken))
 
 returns-2 : tie.Need-returns-2
 returns-2 c x b =
