@@ -7,13 +7,13 @@ use native.Mathlib.Omega.{arith}
 use borrow.Author.Tests.{ne-eqb}
 use lib.Dec.{eqb}
 use Rattle.bench_board.specs.Meets.{ended, Fails, Succeeds, Answers, Resets, Alters}
-use Rattle.bench_board.specs.Board.{Buffers, Left, runningOf, siliconOf, memoryOf, targetOf}
+use Rattle.bench_board.specs.Board.{Buffers, Left, runningOf, memoryOf, targetOf}
 use Rattle.bench_board.specs.declared.Running.{Running}
 use Rattle.bench_board.specs.declared.Running.the-variants.{Idle, Busy}
 use Rattle.bench_board.specs.declared.CallOutcome.{CallOutcome}
 use Rattle.bench_board.specs.declared.Change.{Change}
 use Rattle.bench_board.specs.declared.Registers.{Registers}
-use Rattle.bench_board.specs.declared.Silicon.{Silicon}
+use Rattle.flow.specs.declared.Silicon.{Silicon}
 use Rattle.bench_memory.specs.Acts.{buffersAfter, Effects}
 use Rattle.bench_memory.specs.declared.Act.{Act}
 use Rattle.bench_memory.specs.declared.Act.the-variants.{Keep, Leave}
@@ -55,7 +55,7 @@ module _ (c : ℕ) (s : Silicon) (fs : List ℕ) where
 -- a successful call: the target with this memory, these PARAMS, SYSARG and SYSREQ
 abbrev endedWith : Registers → Memory → List ℕ → (sysarg sysreq : ℕ) → Target
 endedWith r m ps a q = record {
-  silicon = siliconOf (r .silicon);
+  silicon = (r .silicon);
   memory = m;
   effect = r .effect;
   params = ps;
@@ -68,7 +68,7 @@ endedWith r m ps a q = record {
 }
 
 pub succeeding : (g : Geometry) (r : Registers) (fs ps : List ℕ) (c arg req : ℕ) (e : Effect) → Effects g (r .effect) (r .sysarg) (r .stored) ps c e → Answers c (r .silicon) fs arg
-    → req ≡ sysreqAfter c (siliconOf (r .silicon)) (r .effect)
+    → req ≡ sysreqAfter c (r .silicon) (r .effect)
     → Succeeds g fs ps c r (ended r (e .stored) arg req (e .act))
 unfolding finish
 succeeding g r fs ps c arg req e f a q o x b h k =

@@ -4,16 +4,18 @@ use mathlib.Core.List.{List, [], _∷_}
 use mathlib.Core.Path.{_≡_, refl, sym, ap, _∙_}
 use Prim.Native.Nat.{ℕ}
 use lib.Dec.{eqb}
-use Rattle.bench_board.specs.Board.{Buffers, Left, callOutcomeOf, transferOutcomeOf, lineEventOf, targetOf}
+use Rattle.bench_board.specs.Board.{Buffers, Left, callOutcomeOf, targetOf}
 use Rattle.bench_board.specs.Meets.{keeping, Makes, MakesIn, Resets, Carries, Calls, Replies, Decides, metOf, listsOf}
 use Rattle.bench_board.specs.declared.CallOutcome.{CallOutcome}
 use Rattle.bench_board.specs.declared.Decision.{Decision}
-use Rattle.bench_board.specs.declared.LineEvent.{LineEvent}
+use Rattle.flow.specs.declared.LineEvent.{LineEvent}
 use Rattle.bench_board.specs.declared.Change.{Change}
 use Rattle.bench_board.specs.declared.Registers.{Registers}
 use Rattle.flow.specs.declared.Place.{Place}
 use Rattle.bench_memory.specs.Acts.{buffersAfter}
-use Rattle.flow.specs.Exchange.{Decoded, known, unknown, decode, fetch, store, carry, guarded, overDrw, carriedOut, gives, killed, silentReply, replyTo, barred, met, transferred, meetOn, meet}
+use Rattle.flow.specs.Exchange.{decode, fetch, store, carry, guarded, overDrw, carriedOut, gives, killed, silentReply, replyTo, barred, met, transferred, meetOn, meet}
+use Rattle.flow.specs.declared.Decoded.{Decoded}
+use Rattle.flow.specs.declared.Decoded.the-variants.{Known, Unknown}
 use Rattle.flow.specs.Exchange as Flow
 use Rattle.flow.specs.Map.{place}
 use Rattle.flow.specs.Packets.{isRead}
@@ -73,20 +75,20 @@ module _ (g : Geometry) (other : ℕ) (o : CallOutcome) (r : Registers) (x : Lef
 module _ (g : Geometry) (fs ks ps : List ℕ) (q : Request) (e : LineEvent) (o : CallOutcome) (p : Place) (r : Registers) (bars : Bool) (a : Reply)
     (at : p ≡ place g (r .tar)) (shut : bars ≡ (eqb (r .effect) 2 && overDrw q && guarded p)) (said : Replies q e bars r a) where
   abbrev through : Bool
-  through = not (eqb (r .effect) 4) && not bars && carriedOut (transferOutcomeOf (e .outcome))
+  through = not (eqb (r .effect) 4) && not bars && carriedOut (e .outcome)
 
   -- by whether it is barred
   abbrev metFor : (x : Left) (b : Buffers) → Bool → Flow.Met
   metFor x b z =
       let t = targetOf x r b in
-      met (not (killed t) && not z && carriedOut (transferOutcomeOf (e .outcome))) g q (lineEventOf e) (listsOf x e o)
-      (cond (killed t) (silentReply (e .filler)) (replyTo (transferOutcomeOf (e .outcome)) z (isRead q) (gives q t) (e .filler))) t
+      met (not (killed t) && not z && carriedOut (e .outcome)) g q e (listsOf x e o)
+      (cond (killed t) (silentReply (e .filler)) (replyTo (e .outcome) z (isRead q) (gives q t) (e .filler))) t
 
   barred-so : (x : Left) (b : Buffers) → barred g q (targetOf x r b) ≡ bars
   unfolding barred
   barred-so x b = ap (λ (s : Place). eqb (r .effect) 2 && overDrw q && guarded s) (sym at) ∙ sym shut
 
-  met-so : (x : Left) (b : Buffers) → transferred g q (lineEventOf e) (listsOf x e o) (targetOf x r b) ≡ metFor x b bars
+  met-so : (x : Left) (b : Buffers) → transferred g q e (listsOf x e o) (targetOf x r b) ≡ metFor x b bars
   unfolding transferred
   met-so x b = ap (λ (z : Bool). metFor x b z) (barred-so x b)
 
@@ -96,15 +98,15 @@ module _ (g : Geometry) (fs ks ps : List ℕ) (q : Request) (e : LineEvent) (o :
   abbrev metThrough : (x : Left) (b : Buffers) → Bool → Flow.Met
   metThrough x b z =
       let t = targetOf x r b in
-      met z g q (lineEventOf e) (listsOf x e o)
-      (cond (killed t) (silentReply (e .filler)) (replyTo (transferOutcomeOf (e .outcome)) bars (isRead q) (gives q t) (e .filler))) t
+      met z g q e (listsOf x e o)
+      (cond (killed t) (silentReply (e .filler)) (replyTo (e .outcome) bars (isRead q) (gives q t) (e .filler))) t
 
   abbrev saidBy : (x : Left) (b : Buffers) → Reply
   saidBy x b =
-      let t = targetOf x r b in cond (killed t) (silentReply (e .filler)) (replyTo (transferOutcomeOf (e .outcome)) bars (isRead q) (gives q t) (e .filler))
+      let t = targetOf x r b in cond (killed t) (silentReply (e .filler)) (replyTo (e .outcome) bars (isRead q) (gives q t) (e .filler))
 
   pub carried-out : (n : Change) (s : Bool) → through ≡ true → Carries g fs ks ps q (e .other) o p r n → Calls q p s
-      → Decides fs ks ps r e o (record { change = n; answer = Transferred a; «line_used» = true; «call_used» = s }) (λ l t. transferred g q (lineEventOf e) l t)
+      → Decides fs ks ps r e o (record { change = n; answer = Transferred a; «line_used» = true; «call_used» = s }) (λ l t. transferred g q e l t)
   carried-out n s h m k x b hf hk hp =
       ap (λ (t : Target). told x t a s) (m at x b hf hk hp)
       ∙ ap (λ (y : Reply). told x (carry g q (e .other) (callOutcomeOf x o) (targetOf x r b)) y s) (said x b)
@@ -113,7 +115,7 @@ module _ (g : Geometry) (fs ks ps : List ℕ) (q : Request) (e : LineEvent) (o :
       ∙ sym (met-so x b)
 
   pub left-out : through ≡ false
-      → Decides fs ks ps r e o (record { change = keeping r; answer = Transferred a; «line_used» = true; «call_used» = false }) (λ l t. transferred g q (lineEventOf e) l t)
+      → Decides fs ks ps r e o (record { change = keeping r; answer = Transferred a; «line_used» = true; «call_used» = false }) (λ l t. transferred g q e l t)
   left-out h x b hf hk hp =
       ap (λ (y : Reply). told x (targetOf x r b) y false) (said x b)
       ∙ sym (ap (λ (z : Bool). metThrough x b z) h)
@@ -122,15 +124,15 @@ module _ (g : Geometry) (fs ks ps : List ℕ) (q : Request) (e : LineEvent) (o :
 -- a packet
 module _ (g : Geometry) (fs ks ps : List ℕ) (q : Request) (e : LineEvent) (o : CallOutcome) (r : Registers) where
   -- the request as it is known
-  pub meet-as : (d : Decision) (k : Request) → q ≡ k → Decides fs ks ps r e o d (λ l t. meetOn g (known k) l t)
-      → Decides fs ks ps r e o d (λ l t. meetOn g (known q) l t)
+  pub meet-as : (d : Decision) (k : Request) → q ≡ k → Decides fs ks ps r e o d (λ l t. meetOn g (Known k) l t)
+      → Decides fs ks ps r e o d (λ l t. meetOn g (Known q) l t)
   meet-as d k h m x b hf hk hp =
-      m x b hf hk hp ∙ sym (ap (λ (t : Request). meetOn g (known t) (listsOf x e o) (targetOf x r b)) h)
+      m x b hf hk hp ∙ sym (ap (λ (t : Request). meetOn g (Known t) (listsOf x e o) (targetOf x r b)) h)
 
-  pub meet-transfer : (d : Decision) (k : Request) → q ≡ k → Decides fs ks ps r e o d (λ l t. transferred g q (lineEventOf e) l t)
-      → Decides fs ks ps r e o d (λ l t. transferred g k (lineEventOf e) l t)
+  pub meet-transfer : (d : Decision) (k : Request) → q ≡ k → Decides fs ks ps r e o d (λ l t. transferred g q e l t)
+      → Decides fs ks ps r e o d (λ l t. transferred g k e l t)
   meet-transfer d k h m x b hf hk hp =
-      m x b hf hk hp ∙ ap (λ (t : Request). transferred g t (lineEventOf e) (listsOf x e o) (targetOf x r b)) h
+      m x b hf hk hp ∙ ap (λ (t : Request). transferred g t e (listsOf x e o) (targetOf x r b)) h
 
   -- a reset: neither list is used
   abbrev resetMet : (x : Left) → Target → Flow.Met
@@ -139,11 +141,11 @@ module _ (g : Geometry) (fs ks ps : List ℕ) (q : Request) (e : LineEvent) (o :
   abbrev resetBy : Change → Decision
   resetBy n = record { change = n; answer = ResetDone; «line_used» = false; «call_used» = false }
 
-  pub meet-xres : (n : Change) → q ≡ Xres → Resets r n → Decides fs ks ps r e o (resetBy n) (λ l t. meetOn g (known q) l t)
+  pub meet-xres : (n : Change) → q ≡ Xres → Resets r n → Decides fs ks ps r e o (resetBy n) (λ l t. meetOn g (Known q) l t)
   meet-xres n h m =
       meet-as (resetBy n) Xres h (λ x b hf hk hp. ap (λ (t : Target). resetMet x t) (m g x b))
 
-  pub meet-line : q ≡ LineReset → Decides fs ks ps r e o (resetBy (keeping r)) (λ l t. meetOn g (known q) l t)
+  pub meet-line : q ≡ LineReset → Decides fs ks ps r e o (resetBy (keeping r)) (λ l t. meetOn g (Known q) l t)
   meet-line h = meet-as (resetBy (keeping r)) LineReset h (λ x b hf hk hp. refl)
 
 module _ (g : Geometry) (fs ks ps : List ℕ) (p : Packet) (e : LineEvent) (o : CallOutcome) (r : Registers) (d : Decision) where
@@ -152,11 +154,11 @@ module _ (g : Geometry) (fs ks ps : List ℕ) (p : Packet) (e : LineEvent) (o : 
   decoded-as k h m x b hf hk hp = m x b hf hk hp ∙ ap (λ (t : Decoded). meetOn g t (listsOf x e o) (targetOf x r b)) h
 
 -- a packet that is no request
-pub meet-unknown : (g : Geometry) (fs ks ps : List ℕ) (p : Packet) (e : LineEvent) (o : CallOutcome) (r : Registers) (a : Reply) → unknown ≡ decode p
+pub meet-unknown : (g : Geometry) (fs ks ps : List ℕ) (p : Packet) (e : LineEvent) (o : CallOutcome) (r : Registers) (a : Reply) → Unknown ≡ decode p
     → a ≡ silentReply (e .filler)
     → Decides fs ks ps r e o (record { change = keeping r; answer = Transferred a; «line_used» = true; «call_used» = false }) (λ l t. meet g p l t)
 meet-unknown g fs ks ps p e o r a k h =
-    decoded-as g fs ks ps p e o r (record { change = keeping r; answer = Transferred a; «line_used» = true; «call_used» = false }) unknown k
+    decoded-as g fs ks ps p e o r (record { change = keeping r; answer = Transferred a; «line_used» = true; «call_used» = false }) Unknown k
     (λ x b hf hk hp. rw h)
 
 -- once the act is performed

@@ -1,15 +1,12 @@
 -- The board's registers and lent buffers as flow's target, and what is handed in with a request. Assumes nothing.
 use Prim.Native.Nat.{_%_}
 use Rattle.bench_board.specs.declared.CallOutcome.{CallOutcome}
-use Rattle.bench_board.specs.declared.LineEvent.{LineEvent}
 use Rattle.bench_board.specs.declared.Registers.{Registers}
 use Rattle.bench_board.specs.declared.Running.{Running}
 use Rattle.bench_board.specs.declared.Running.the-variants.{Idle, Busy}
-use Rattle.bench_board.specs.declared.Silicon.{Silicon}
 use Rattle.flow.specs.Target.{Target, Residue, idle, busy}
 use Rattle.flow.specs.Target as Flow
--- the lent buffers and what is left in them stand in bench_memory, the outcomes in bench_lines
-pub use Rattle.bench_lines.specs.Lines.{transferOutcomeOf}
+-- the lent buffers and what is left in them stand in bench_memory
 pub use Rattle.bench_memory.specs.Lent.{Buffers, Left, lent, left, memoryOf}
 
 abbrev pub residueOf : Left → CallOutcome → Residue
@@ -22,23 +19,10 @@ abbrev pub runningOf : Left → Running → Flow.Running
 runningOf x Idle = idle
 runningOf x (Busy o c) = busy (o .«busy_reads») (o .succeeds) (residueOf x o) c
 
-abbrev pub lineEventOf : LineEvent → Flow.LineEvent
-lineEventOf e = record { outcome = transferOutcomeOf (e .outcome); filler = e .filler; other = e .other }
-
-abbrev pub siliconOf : Silicon → Flow.Silicon
-siliconOf s = record {
-  idcode = s .idcode;
-  high = s .high;
-  low = s .low;
-  revision = s .revision;
-  family = s .family;
-  privilegedSum = s .«privileged_sum»;
-}
-
 -- of the stored level the low four bits count
 abbrev pub targetOf : Left → Registers → Buffers → Target
 targetOf x r b = record {
-  silicon = siliconOf (r .silicon);
+  silicon = r .silicon;
   memory = memoryOf b (r .stored % 16);
   effect = r .effect;
   params = b .params;

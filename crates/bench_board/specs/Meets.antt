@@ -3,16 +3,16 @@ use mathlib.Core.Bool.{Bool, true, false, cond}
 use mathlib.Core.List.{List, [], _∷_}
 use mathlib.Core.Path.{_≡_}
 use Prim.Native.Nat.{ℕ}
-use Rattle.bench_board.specs.Board.{Buffers, Left, residueOf, siliconOf, callOutcomeOf, transferOutcomeOf, lineEventOf, targetOf}
+use Rattle.bench_board.specs.Board.{Buffers, Left, residueOf, callOutcomeOf, targetOf}
 use Rattle.bench_memory.specs.declared.Act.{Act}
 use Rattle.bench_memory.specs.declared.Act.the-variants.{Keep}
 use Rattle.bench_board.specs.declared.CallOutcome.{CallOutcome}
 use Rattle.bench_board.specs.declared.Decision.{Decision}
-use Rattle.bench_board.specs.declared.LineEvent.{LineEvent}
+use Rattle.flow.specs.declared.LineEvent.{LineEvent}
 use Rattle.bench_board.specs.declared.Met.{Met}
 use Rattle.bench_board.specs.declared.Change.{Change}
 use Rattle.bench_board.specs.declared.Registers.{Registers}
-use Rattle.bench_board.specs.declared.Silicon.{Silicon}
+use Rattle.flow.specs.declared.Silicon.{Silicon}
 use Rattle.bench_board.specs.declared.Running.{Running}
 use Rattle.bench_board.specs.declared.Running.the-variants.{Idle}
 use Rattle.flow.specs.declared.Place.{Place}
@@ -31,7 +31,7 @@ use Rattle.parts.specs.declared.Geometry.{Geometry}
 
 -- the lists that a call of `meet` is given
 abbrev pub listsOf : Left → LineEvent → CallOutcome → Lists
-listsOf x e o = record { line = lineEventOf e ∷ []; calls = callOutcomeOf x o ∷ [] }
+listsOf x e o = record { line = e ∷ []; calls = callOutcomeOf x o ∷ [] }
 
 -- what a call of `meet` gave, with the buffers as it left them
 abbrev pub metOf : Left → LineEvent → CallOutcome → Met → Buffers → Flow.Met
@@ -39,7 +39,7 @@ metOf x e o m b = record {
   target = targetOf x (m .registers) b;
   answer = m .answer;
   lists = record {
-    line = cond (m .«line_used») [] (lineEventOf e ∷ []);
+    line = cond (m .«line_used») [] (e ∷ []);
     calls = cond (m .«call_used») [] (callOutcomeOf x o ∷ []);
   };
 }
@@ -106,7 +106,7 @@ Alters n m f = (m .act ≡ n .act) × ((x : Left) (b : Buffers) → targetOf x (
 
 -- the word in SYSARG after a successful call, by the flash
 abbrev pub Answers : (c : ℕ) → Silicon → (flash : List ℕ) → (word : ℕ) → Type 0
-Answers c s fs w = (m : Memory) → m .flash ≡ fs → w ≡ sysargAfter c (siliconOf s) m
+Answers c s fs w = (m : Memory) → m .flash ≡ fs → w ≡ sysargAfter c s m
 
 -- a call that fails; its part does not matter
 abbrev pub Fails : CallOutcome → (c : ℕ) → Registers → Change → Type 0
@@ -138,7 +138,7 @@ Calls q p s = (g : Geometry) (t : Target) → p ≡ place g (t .tar) → s ≡ c
 abbrev pub Replies : Request → LineEvent → (bars : Bool) → Registers → Reply → Type 0
 Replies q e bars r a =
     (x : Left) (b : Buffers)
-    → a ≡ cond (killed (targetOf x r b)) (silentReply (e .filler)) (replyTo (transferOutcomeOf (e .outcome)) bars (isRead q) (gives q (targetOf x r b)) (e .filler))
+    → a ≡ cond (killed (targetOf x r b)) (silentReply (e .filler)) (replyTo (e .outcome) bars (isRead q) (gives q (targetOf x r b)) (e .filler))
 
 -- ---- packets
 

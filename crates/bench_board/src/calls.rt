@@ -3,7 +3,7 @@ ghost use mathlib.Core.Bool.{_||_};
 ghost use mathlib.Core.Path.{_≡_};
 ghost use Prim.Native.Nat.{_+_, _*_};
 ghost use lib.Dec.{eqb};
-ghost use Rattle.bench_board.specs.Board.{residueOf, siliconOf};
+ghost use Rattle.bench_board.specs.Board.{residueOf};
 ghost use Rattle.bench_board.specs.Meets.{ended, MakesOf, Fails, Succeeds, Answers, Resets, Alters};
 ghost use Rattle.flow.specs.Calls.{failedArg, sysreqAfter, finish};
 ghost use Rattle.flow.specs.Target.{setReset};
@@ -11,8 +11,8 @@ use crate::CallOutcome;
 use crate::Change;
 use crate::Registers;
 use crate::Running;
-use crate::Silicon;
 use bench_memory::Act;
+use flow::Silicon;
 use parts::Geometry;
 
 // The registers at a call's end.
@@ -96,7 +96,7 @@ fn sysarg_after(s: Silicon, flash: &[u8], c: u8) -> u32
 
 // SYSREQ after a successful call.
 fn sysreq_after(s: Silicon, effect: u8, c: u8) -> u32
-    ensures { λ w. ⌜ w ≡ sysreqAfter c (siliconOf s) effect ⌝ }
+    ensures { λ w. ⌜ w ≡ sysreqAfter c s effect ⌝ }
 {
     if c == 0 {
         return (effect as u32) * 4096 + (s.family as u32);

@@ -2,31 +2,22 @@
 ghost use mathlib.Core.Path.{_≡_};
 ghost use Rattle.bench_board.specs.Board.{lent, left, targetOf};
 ghost use Rattle.bench_board.specs.Meets.{Decides, listsOf, metOf};
-ghost use Rattle.flow.specs.Exchange.{known, meetOn};
+ghost use Rattle.flow.specs.Exchange.{meetOn};
+ghost use Rattle.flow.specs.declared.Decoded.the-variants.{Known};
 ghost use Rattle.flow.specs.Exchange as Flow;
 
 mod calls;
 mod transfers;
 mod words;
 
-use bench_lines::Decoded;
-pub use bench_lines::TransferOutcome;
 use bench_memory::Act;
 use flow::Answer;
+use flow::Decoded;
+use flow::LineEvent;
 use flow::Packet;
-use flow::Reply;
 use flow::Request;
+use flow::Silicon;
 use parts::Geometry;
-
-// What nothing alters: the IDs, and S.
-pub struct Silicon {
-    pub idcode: u32,
-    pub high: u8,
-    pub low: u8,
-    pub revision: u8,
-    pub family: u8,
-    pub privileged_sum: u32,
-}
 
 // How a call will go: busy reads, then success, or a failure that leaves this SYSARG and, of 0x0D, perhaps the level sent.
 pub struct CallOutcome {
@@ -40,13 +31,6 @@ pub struct CallOutcome {
 pub enum Running {
     Idle,
     Busy(CallOutcome, u8),
-}
-
-// A transfer's outcome, with what is free in its answer, and the word that is elsewhere.
-pub struct LineEvent {
-    pub outcome: TransferOutcome,
-    pub filler: Reply,
-    pub other: u32,
 }
 
 pub struct Registers {
@@ -83,7 +67,7 @@ pub struct Met {
     pub call_used: bool,
 }
 
-// How a known request is met.
+// How a Known request is met.
 fn meet_request(
     g: Geometry,
     r: Registers,
@@ -94,7 +78,7 @@ fn meet_request(
     e: LineEvent,
     o: CallOutcome,
 ) -> Decision
-    ensures { λ d. ⌜ Decides (now (flash .entry)) (now (locks .entry)) (now (params .entry)) r e o d (λ l t. meetOn g (known q) l t) ⌝ }
+    ensures { λ d. ⌜ Decides (now (flash .entry)) (now (locks .entry)) (now (params .entry)) r e o d (λ l t. meetOn g (Known q) l t) ⌝ }
 {
     match q {
         Request::Xres => Decision {

@@ -2,21 +2,20 @@
 ghost use mathlib.Core.Bool.{_&&_, not};
 ghost use mathlib.Core.Path.{_≡_};
 ghost use lib.Dec.{eqb};
-ghost use Rattle.bench_board.specs.Board.{lineEventOf, transferOutcomeOf};
 ghost use Rattle.bench_board.specs.Meets.{Makes, Decides, Carries, Gives, Calls, Replies};
 ghost use Rattle.flow.specs.Exchange.{carriedOut, transferred};
 ghost use Rattle.flow.specs.Target.{setTar};
 use crate::CallOutcome;
 use crate::Change;
 use crate::Decision;
-use crate::LineEvent;
 use crate::Registers;
 use crate::words;
-use bench_lines::TransferOutcome;
 use flow::Answer;
+use flow::LineEvent;
 use flow::Place;
 use flow::Reply;
 use flow::Request;
+use flow::TransferOutcome;
 use parts::Geometry;
 
 fn write_tar(r: Registers, a: u32) -> Change
@@ -97,7 +96,7 @@ fn answer(r: Registers, q: Request, e: LineEvent, barred: bool) -> Reply
 
 // Whether a transfer is carried out: the board is not KILLed, the place not shut, and the line lets it through.
 fn goes_through(effect: u8, barred: bool, outcome: TransferOutcome) -> bool
-    ensures { λ t. ⌜ t ≡ (not (eqb effect 4) && not barred && carriedOut (transferOutcomeOf outcome)) ⌝ }
+    ensures { λ t. ⌜ t ≡ (not (eqb effect 4) && not barred && carriedOut outcome) ⌝ }
 {
     if effect == 4 {
         return false;
@@ -119,7 +118,7 @@ pub(crate) fn transfer(
     e: LineEvent,
     o: CallOutcome,
 ) -> Decision
-    ensures { λ d. ⌜ Decides (now (flash .entry)) (now (locks .entry)) (now (params .entry)) r e o d (λ l t. transferred g q (lineEventOf e) l t) ⌝ }
+    ensures { λ d. ⌜ Decides (now (flash .entry)) (now (locks .entry)) (now (params .entry)) r e o d (λ l t. transferred g q e l t) ⌝ }
 {
     let at = bench_map::place_of(g, r.tar);
     let barred = bench_map::bars(r.effect, q, at);

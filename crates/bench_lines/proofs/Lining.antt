@@ -4,7 +4,8 @@ use mathlib.Core.Path.{_≡_, ap, sym, _∙_}
 use Prim.Native.Nat.{ℕ, _-_, _/_, _%_}
 use native.Mathlib.Omega.{arith}
 use borrow.Author.Tests.{eq-eqb, ne-eqb}
-use Rattle.flow.specs.Exchange.{unknown, wellFormed, readAt, writeAt, decode, wrongParityReply}
+use Rattle.flow.specs.Exchange.{wellFormed, readAt, writeAt, decode, wrongParityReply}
+use Rattle.flow.specs.declared.Decoded.the-variants.{Unknown}
 use Rattle.flow.specs.declared.Packet.the-variants.{Read, Write}
 use Rattle.flow.specs.declared.Reply.{Reply}
 use Rattle.wire.specs.Wire.{parity}
@@ -17,11 +18,11 @@ module _ (r : ℕ) (t : Bool) (e : t ≡ wellFormed r) where
   unfolding decode
   read-formed h q = let f : wellFormed r ≡ true = sym e ∙ h in rw (f, eq-eqb (r / 4 % 2) 1 q)
 
-  pub read-unlike : t ≡ true → (r / 4 % 2 ≡ 1 → ⊥) → decode (Read r) ≡ unknown
+  pub read-unlike : t ≡ true → (r / 4 % 2 ≡ 1 → ⊥) → decode (Read r) ≡ Unknown
   unfolding decode
   read-unlike h q = let f : wellFormed r ≡ true = sym e ∙ h in rw (f, ne-eqb (r / 4 % 2) 1 q)
 
-  pub read-malformed : t ≡ false → decode (Read r) ≡ unknown
+  pub read-malformed : t ≡ false → decode (Read r) ≡ Unknown
   unfolding decode
   read-malformed h = let f : wellFormed r ≡ false = sym e ∙ h in rw f
 
@@ -30,15 +31,15 @@ module _ (r : ℕ) (t : Bool) (e : t ≡ wellFormed r) where
     unfolding decode
     write-formed h q b = let f : wellFormed r ≡ true = sym e ∙ h in rw (f, eq-eqb (r / 4 % 2) 0 q, eq-eqb p (parity w) b)
 
-    pub write-odd : t ≡ true → r / 4 % 2 ≡ 0 → (p ≡ parity w → ⊥) → decode (Write r w p) ≡ unknown
+    pub write-odd : t ≡ true → r / 4 % 2 ≡ 0 → (p ≡ parity w → ⊥) → decode (Write r w p) ≡ Unknown
     unfolding decode
     write-odd h q b = let f : wellFormed r ≡ true = sym e ∙ h in rw (f, eq-eqb (r / 4 % 2) 0 q, ne-eqb p (parity w) b)
 
-    pub write-unlike : t ≡ true → (r / 4 % 2 ≡ 0 → ⊥) → decode (Write r w p) ≡ unknown
+    pub write-unlike : t ≡ true → (r / 4 % 2 ≡ 0 → ⊥) → decode (Write r w p) ≡ Unknown
     unfolding decode
     write-unlike h q = let f : wellFormed r ≡ true = sym e ∙ h in rw (f, ne-eqb (r / 4 % 2) 0 q)
 
-    pub write-malformed : t ≡ false → decode (Write r w p) ≡ unknown
+    pub write-malformed : t ≡ false → decode (Write r w p) ≡ Unknown
     unfolding decode
     write-malformed h = let f : wellFormed r ≡ false = sym e ∙ h in rw f
 

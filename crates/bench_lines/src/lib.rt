@@ -1,27 +1,13 @@
 // The board's side of the wire: packets read bit by bit, and answers.
 ghost use mathlib.Core.Bool.{true, false};
 ghost use mathlib.Core.Path.{_≡_};
-ghost use Rattle.bench_lines.specs.Lines.{decodedOf, transferOutcomeOf};
 ghost use Rattle.flow.specs.Exchange.{wellFormed, readAt, writeAt, decode, replyWith, silentReply, okayReply, wrongParityReply, replyTo, carriedOut};
+use flow::Decoded;
 use flow::Packet;
 use flow::Reply;
 use flow::Request;
+use flow::TransferOutcome;
 use wire::Register;
-
-// A packet that the board knows, or none.
-pub enum Decoded {
-    Known(Request),
-    Unknown,
-}
-
-// What becomes of a transfer; a silence may hide one that was carried out.
-pub enum TransferOutcome {
-    Clean,
-    Waits,
-    Faults,
-    WrongParity,
-    Silent(bool),
-}
 
 // Start bit 1, stop bit 0, park bit 1, and the parity bit that of the four bits between.
 fn well_formed(r: u8) -> bool
@@ -38,7 +24,7 @@ fn well_formed(r: u8) -> bool
 
 // A read by APnDP and the two address bits.
 fn read_at(ap: u8, address: u8) -> Decoded
-    ensures { λ d. ⌜ decodedOf d ≡ readAt ap address ⌝ }
+    ensures { λ d. ⌜ d ≡ readAt ap address ⌝ }
 {
     if ap == 0 {
         if address == 0 {
@@ -54,7 +40,7 @@ fn read_at(ap: u8, address: u8) -> Decoded
 
 // A write of the debug port.
 fn write_debug(address: u8, w: u32) -> Decoded
-    ensures { λ d. ⌜ decodedOf d ≡ writeAt 0 address w ⌝ }
+    ensures { λ d. ⌜ d ≡ writeAt 0 address w ⌝ }
 {
     if address == 1 {
         return Decoded::Known(Request::WriteSetup(Register::CtrlStat, w));
@@ -67,7 +53,7 @@ fn write_debug(address: u8, w: u32) -> Decoded
 
 // A write of the access port.
 fn write_access(address: u8, w: u32) -> Decoded
-    ensures { λ d. ⌜ decodedOf d ≡ writeAt 1 address w ⌝ }
+    ensures { λ d. ⌜ d ≡ writeAt 1 address w ⌝ }
 {
     if address == 0 {
         return Decoded::Known(Request::WriteSetup(Register::Csw, w));
@@ -82,7 +68,7 @@ fn write_access(address: u8, w: u32) -> Decoded
 }
 
 fn read_of(r: u8) -> Decoded
-    ensures { λ d. ⌜ decodedOf d ≡ decode (Packet.Read r) ⌝ }
+    ensures { λ d. ⌜ d ≡ decode (Packet.Read r) ⌝ }
 {
     if well_formed(r) {
         if r / 4 % 2 == 1 {
@@ -94,7 +80,7 @@ fn read_of(r: u8) -> Decoded
 
 // A write whose parity bit is not its word's is not understood.
 fn write_of(r: u8, w: u32, p: u8) -> Decoded
-    ensures { λ d. ⌜ decodedOf d ≡ decode (Packet.Write r w p) ⌝ }
+    ensures { λ d. ⌜ d ≡ decode (Packet.Write r w p) ⌝ }
 {
     if !well_formed(r) {
         return Decoded::Unknown;
@@ -113,7 +99,7 @@ fn write_of(r: u8, w: u32, p: u8) -> Decoded
 
 // The request that a packet is.
 pub fn request_in(p: Packet) -> Decoded
-    ensures { λ d. ⌜ decodedOf d ≡ decode p ⌝ }
+    ensures { λ d. ⌜ d ≡ decode p ⌝ }
 {
     match p {
         Packet::Xres => Decoded::Known(Request::Xres),
@@ -188,7 +174,7 @@ pub fn reply_to(
     word: u32,
     filler: Reply,
 ) -> Reply
-    ensures { λ r. ⌜ r ≡ replyTo (transferOutcomeOf outcome) bars reads word filler ⌝ }
+    ensures { λ r. ⌜ r ≡ replyTo outcome bars reads word filler ⌝ }
 {
     match outcome {
         TransferOutcome::Clean => if bars {
@@ -209,7 +195,7 @@ pub fn reply_to(
 
 // Whether a transfer of this outcome is carried out.
 pub fn carries_out(outcome: TransferOutcome) -> bool
-    ensures { λ t. ⌜ t ≡ carriedOut (transferOutcomeOf outcome) ⌝ }
+    ensures { λ t. ⌜ t ≡ carriedOut outcome ⌝ }
 {
     match outcome {
         TransferOutcome::Clean => true,

@@ -3,14 +3,14 @@ use crate::digest;
 use crate::reading::Override;
 use crate::reading::Overrides;
 use bench_board::CallOutcome;
-use bench_board::LineEvent;
 use bench_board::Registers;
 use bench_board::Running;
-use bench_board::Silicon;
-use bench_board::TransferOutcome;
 use flow::Answer;
+use flow::LineEvent;
 use flow::Packet;
 use flow::Reply;
+use flow::Silicon;
+use flow::TransferOutcome;
 use image::Header;
 use parts::Geometry;
 

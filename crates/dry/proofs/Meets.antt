@@ -4,7 +4,9 @@ use mathlib.Core.List.{List, []}
 use mathlib.Core.Path.{_≡_, refl, ap}
 use Rattle.bench_board.specs.Meets.{listsOf}
 use Rattle.dry.specs.Playing.{noLists, nothing, calmEvent, calmOutcome}
-use Rattle.flow.specs.Exchange.{Met, Decoded, known, unknown, decode, killed, barred, met, callsOn, transferred, meetOn, meet}
+use Rattle.flow.specs.Exchange.{Met, decode, killed, barred, met, callsOn, transferred, meetOn, meet}
+use Rattle.flow.specs.declared.Decoded.{Decoded}
+use Rattle.flow.specs.declared.Decoded.the-variants.{Known, Unknown}
 use Rattle.flow.specs.Target.{Target, Lists, nextEvent}
 use Rattle.flow.specs.declared.Packet.{Packet}
 use Rattle.flow.specs.declared.Reply.{Reply}
@@ -40,14 +42,14 @@ module _ (g : Geometry) (b : Target) where
   same-transfer q = by-outcome q (not (killed b) && not (barred g q b) && true) _
 
   by-request : (d : Decoded) → SameMet (meetOn g d handed b) (meetOn g d noLists b)
-  by-request (known Xres) = record { target = refl; answer = refl; lists = refl }
-  by-request (known LineReset) = record { target = refl; answer = refl; lists = refl }
-  by-request (known ReadIdcode) = same-transfer ReadIdcode
-  by-request (known ReadDrw) = same-transfer ReadDrw
-  by-request (known (WriteTar a)) = same-transfer (WriteTar a)
-  by-request (known (WriteDrw w)) = same-transfer (WriteDrw w)
-  by-request (known (WriteSetup r w)) = same-transfer (WriteSetup r w)
-  by-request unknown = record { target = refl; answer = refl; lists = refl }
+  by-request (Known Xres) = record { target = refl; answer = refl; lists = refl }
+  by-request (Known LineReset) = record { target = refl; answer = refl; lists = refl }
+  by-request (Known ReadIdcode) = same-transfer ReadIdcode
+  by-request (Known ReadDrw) = same-transfer ReadDrw
+  by-request (Known (WriteTar a)) = same-transfer (WriteTar a)
+  by-request (Known (WriteDrw w)) = same-transfer (WriteDrw w)
+  by-request (Known (WriteSetup r w)) = same-transfer (WriteSetup r w)
+  by-request Unknown = record { target = refl; answer = refl; lists = refl }
 
   pub same-met : (p : Packet) → SameMet (meet g p handed b) (meet g p noLists b)
   unfolding meet

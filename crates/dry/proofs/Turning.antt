@@ -5,7 +5,7 @@ use Prim.Native.Nat.{ℕ}
 use Rattle.bench_board.specs.Board.{Buffers, targetOf}
 use Rattle.bench_board.specs.Meets.{listsOf, metOf}
 use Rattle.bench_board.specs.declared.CallOutcome.{CallOutcome}
-use Rattle.bench_board.specs.declared.LineEvent.{LineEvent}
+use Rattle.flow.specs.declared.LineEvent.{LineEvent}
 use Rattle.bench_board.specs.declared.Met as Code
 use Rattle.bench_board.specs.declared.Registers.{Registers}
 use Rattle.dry.specs.Playing.{nothing, calmEvent, calmOutcome, meets, Turns}

@@ -12,13 +12,13 @@ ghost use Rattle.session.specs.Calls.{standing};
 mod lines;
 
 use bench_board::CallOutcome;
-use bench_board::LineEvent;
 use bench_board::Registers;
 use bench_board::Running;
-use bench_board::Silicon;
-use bench_board::TransferOutcome;
+use flow::LineEvent;
 use flow::Packet;
 use flow::Reply;
+use flow::Silicon;
+use flow::TransferOutcome;
 use image::Header;
 use parts::Geometry;
 use parts::Lookup;

@@ -15,7 +15,8 @@ use Rattle.flow.specs.Monitor.{watching, noticed, noticeRead}
 use Rattle.flow.specs.Run.{Run}
 use Rattle.flow.specs.Sequence.{move, key, write, read, poll, call, imoCall, acquire}
 use Rattle.flow.specs.Session.{judgedTo}
-use Rattle.flow.specs.Target.{Target, Silicon, Memory, Residue, idle, setReset}
+use Rattle.flow.specs.Target.{Target, Memory, Residue, idle, setReset}
+use Rattle.flow.specs.declared.Silicon.{Silicon}
 use Rattle.flow.specs.declared.Entry.{Entry}
 use Rattle.flow.specs.declared.Move.{Move}
 use Rattle.flow.specs.declared.Purpose.{Purpose}

@@ -16,7 +16,9 @@ use Rattle.flow.specs.Plan.{counting}
 use Rattle.flow.specs.Run.{Run, advance}
 use Rattle.flow.specs.Sequence.{move}
 use Rattle.flow.specs.Session.{running, judgedTo, heardBy, stepOf}
-use Rattle.flow.specs.Target.{Target, Silicon, Lists, idle, clean, nextEvent, setReset}
+use Rattle.flow.specs.Target.{Target, Lists, idle, nextEvent, setReset}
+use Rattle.flow.specs.declared.TransferOutcome.the-variants.{Clean}
+use Rattle.flow.specs.declared.Silicon.{Silicon}
 use Rattle.flow.specs.declared.Entry.{Entry}
 use Rattle.flow.specs.declared.Move.{Move}
 use Rattle.flow.specs.declared.Purpose.{Purpose}
@@ -115,7 +117,7 @@ module _ {i : Image} (f : Frame i) where
       met : Run
       met = tried s y (suc n) a k ((metBy b e₁) .target) t ((metBy b e₁) .lists) (verdict ReadIdcode ((metBy b e₁) .answer)) e₁
 
-      not-calm : ((nextEvent (e .lists .line)) .outcome ≡ clean → ⊥) → f .Still → ⊥
+      not-calm : ((nextEvent (e .lists .line)) .outcome ≡ Clean → ⊥) → f .Still → ⊥
       not-calm bad still = bad (calm-event ((st .calm still) .line))
 
       stood : Stood f y (suc n) (move s ReadIdcode Idcode ∷ ms) (afterLine m κ) e₁ → Stood f y (suc (suc n)) ms κ (passed (listsAfter (i .geometry) ReadIdcode b (e .lists)) e₁)

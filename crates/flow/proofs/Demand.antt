@@ -11,7 +11,8 @@ use Rattle.flow.specs.Monitor.{Monitor, linkError}
 use Rattle.flow.specs.Plan.{Traffic, plan, mostTraffic}
 use Rattle.flow.specs.Run.{Run, advanceBy, advance, runAfter, started, handedOutBy, handedOut}
 use Rattle.flow.specs.Session.{SessionState, running, reported, moveAt}
-use Rattle.flow.specs.Target.{Target, Silicon, Lists}
+use Rattle.flow.specs.Target.{Target, Lists}
+use Rattle.flow.specs.declared.Silicon.{Silicon}
 use Rattle.flow.proofs.Counting.{total, one-more}
 use Rattle.flow.proofs.Entering.{Goes, byOpen, byProtected, start-reaches}
 use Rattle.flow.proofs.Frames.{Sound, Why, mishap, otherId, otherPart, Stopped, Finished, frame, start-stands}

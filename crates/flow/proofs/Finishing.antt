@@ -14,7 +14,8 @@ use Rattle.flow.specs.Monitor.{watching, noticeRead}
 use Rattle.flow.specs.Run.{Run}
 use Rattle.flow.specs.Sequence.{key, call, read, privileged, inTurn, programRow, verifyFlash, lockMacro, verifyMacro, program}
 use Rattle.flow.specs.Session.{judgedTo}
-use Rattle.flow.specs.Target.{Target, Silicon, Memory, Residue}
+use Rattle.flow.specs.Target.{Target, Memory, Residue}
+use Rattle.flow.specs.declared.Silicon.{Silicon}
 use Rattle.flow.specs.declared.Entry.{Entry}
 use Rattle.flow.specs.declared.Move.{Move}
 use Rattle.flow.specs.declared.Purpose.{Purpose}
@@ -44,7 +45,7 @@ free-B x l = refl
 
 -- the privileged sum
 abbrev sumOf : Silicon → Memory → ℕ
-sumOf x m = (x .privilegedSum + total (m .flash)) % 268435456
+sumOf x m = (x .«privileged_sum» + total (m .flash)) % 268435456
 
 sysarg-B : (x : Silicon) (m : Memory) → sysargAfter 0x0B x m ≡ 0xA0000000 + sumOf x m
 unfolding sysargAfter
@@ -67,7 +68,7 @@ unfolding effectOf
 effect-B g l a ps m = refl
 
 -- the difference of the two sums is the flash's own sum
-sums-fit : (i : Image) (x : Silicon) (m : Memory) (k : ℕ) → k % 268435456 ≡ x .privilegedSum % 268435456 → m .flash ≡ i .flash → total (i .flash) % 65536 ≡ i .header .sum
+sums-fit : (i : Image) (x : Silicon) (m : Memory) (k : ℕ) → k % 268435456 ≡ x .«privileged_sum» % 268435456 → m .flash ≡ i .flash → total (i .flash) % 65536 ≡ i .header .sum
     → sumsFit i (sysargAfter 0x0B x m) k ≡ true
 unfolding sumsFit
 sums-fit i x m k hk hf hs = eq-eqb ((sysargAfter 0x0B x m % 268435456 + 268435456 - k % 268435456) % 65536) (i .header .sum) (rw (low-28 x m, hk, hf) (omega arith))

@@ -11,7 +11,8 @@ use Rattle.flow.specs.Plan.{noTraffic, trafficIn, isPoll, pollsIn, plan,
 use Rattle.flow.specs.Run.{Run}
 use Rattle.flow.specs.Sequence.{opening, afterwards, sequence}
 use Rattle.flow.specs.Session.{reported}
-use Rattle.flow.specs.Target.{Target, Memory, Silicon, Lists}
+use Rattle.flow.specs.Target.{Target, Memory, Lists}
+use Rattle.flow.specs.declared.Silicon.{Silicon}
 use Rattle.flow.specs.declared.Entry.the-variants.{FromOpen}
 use Rattle.flow.specs.declared.Move.{Move}
 use Rattle.flow.specs.declared.Purpose.{Purpose}

@@ -6,9 +6,14 @@ use native.Mathlib.Omega.{arith}
 use lib.Count.{ones, onesIn}
 use lib.Dec.{eqb, lit≤}
 use borrow.Author.Tests.{eq-eqb, ne-eqb}
-use Rattle.flow.specs.Exchange.{Decoded, known, unknown, decode, carry, gives, barred, killed, callsOn, replyWith, silentReply, okayReply, wrongParityReply, replyTo, carriedOut, Met, met, transferred, meet}
+use Rattle.flow.specs.Exchange.{decode, carry, gives, barred, killed, callsOn, replyWith, silentReply, okayReply, wrongParityReply, replyTo, carriedOut, Met, met, transferred, meet}
+use Rattle.flow.specs.declared.Decoded.{Decoded}
+use Rattle.flow.specs.declared.Decoded.the-variants.{Known, Unknown}
 use Rattle.flow.specs.Packets.{packetOf, isRead, okay, again, broken, heard, verdict}
-use Rattle.flow.specs.Target.{Target, Lists, LineEvent, TransferOutcome, clean, waits, faults, wrongParity, silent, nextEvent, nextOutcome, rest}
+use Rattle.flow.specs.Target.{Target, Lists, nextEvent, nextOutcome, rest}
+use Rattle.flow.specs.declared.TransferOutcome.{TransferOutcome}
+use Rattle.flow.specs.declared.TransferOutcome.the-variants.{Clean, Waits, Faults, WrongParity, Silent}
+use Rattle.flow.specs.declared.LineEvent.{LineEvent}
 use Rattle.flow.specs.declared.Answer.the-variants.{Transferred}
 use Rattle.flow.specs.declared.Reply.{Reply}
 use Rattle.flow.specs.declared.Request.{Request}
@@ -32,19 +37,19 @@ pub data Wired : Request → Type 0 where
   plain : {q : Request} → Plain q → Wired q
 
 -- a write whose parity bit is its word's
-understood : (w : ℕ) (d : Decoded) → cond (eqb (parity w) (parity w)) d unknown ≡ d
+understood : (w : ℕ) (d : Decoded) → cond (eqb (parity w) (parity w)) d Unknown ≡ d
 understood w d = rw (eq-eqb (parity w) (parity w) refl)
 
 -- the target reads each request as it was meant
-pub decodes : {q : Request} → Wired q → decode (packetOf q) ≡ known q
+pub decodes : {q : Request} → Wired q → decode (packetOf q) ≡ Known q
 unfolding decode ones onesIn
 decodes attempt = refl
-decodes (plain (aTar {a = w})) = understood w (known (WriteTar w))
-decodes (plain (aDrw {w = w})) = understood w (known (WriteDrw w))
+decodes (plain (aTar {a = w})) = understood w (Known (WriteTar w))
+decodes (plain (aDrw {w = w})) = understood w (Known (WriteDrw w))
 decodes (plain aRead) = refl
-decodes (plain (aCtrl {w = w})) = understood w (known (WriteSetup CtrlStat w))
-decodes (plain (aSelect {w = w})) = understood w (known (WriteSetup Select w))
-decodes (plain (aCsw {w = w})) = understood w (known (WriteSetup Csw w))
+decodes (plain (aCtrl {w = w})) = understood w (Known (WriteSetup CtrlStat w))
+decodes (plain (aSelect {w = w})) = understood w (Known (WriteSetup Select w))
+decodes (plain (aCsw {w = w})) = understood w (Known (WriteSetup Csw w))
 
 pub meets : (g : Geometry) {q : Request} → Wired q → (l : Lists) (b : Target) → meet g (packetOf q) l b ≡ transferred g q (nextEvent (l .line)) l b
 unfolding meet
@@ -64,19 +69,19 @@ listsAfter g q b l = record { line = rest (l .line); calls = cond (callsOn g q b
 pub data Heard (g : Geometry) (q : Request) (ev : LineEvent) (l : Lists) (b : Target) : Met → Type 0 where
   heardOkay : {m : Met} → m .target ≡ carry g q (ev .other) (nextOutcome (l .calls)) b → verdict q (m .answer) ≡ okay (gives q b) → m .lists ≡ listsAfter g q b l
       → Heard g q ev l b m
-  heardWait : {m : Met} → (ev .outcome ≡ clean → ⊥) → m .target ≡ b → verdict q (m .answer) ≡ again
+  heardWait : {m : Met} → (ev .outcome ≡ Clean → ⊥) → m .target ≡ b → verdict q (m .answer) ≡ again
       → m .lists ≡ record { line = rest (l .line); calls = l .calls } → Heard g q ev l b m
-  heardError : {m : Met} (n : ℕ) → 1 ≤ n → (ev .outcome ≡ clean → ⊥) → m .target ≡ b → verdict q (m .answer) ≡ broken n → Heard g q ev l b m
-  heardErrorDone : {m : Met} (n : ℕ) → 1 ≤ n → (ev .outcome ≡ clean → ⊥) → m .target ≡ carry g q (ev .other) (nextOutcome (l .calls)) b
+  heardError : {m : Met} (n : ℕ) → 1 ≤ n → (ev .outcome ≡ Clean → ⊥) → m .target ≡ b → verdict q (m .answer) ≡ broken n → Heard g q ev l b m
+  heardErrorDone : {m : Met} (n : ℕ) → 1 ≤ n → (ev .outcome ≡ Clean → ⊥) → m .target ≡ carry g q (ev .other) (nextOutcome (l .calls)) b
       → verdict q (m .answer) ≡ broken n → Heard g q ev l b m
 
 -- the other outcomes are not clean
 abbrev isClean : TransferOutcome → Bool
-isClean clean = true
-isClean waits = false
-isClean faults = false
-isClean wrongParity = false
-isClean (silent c) = false
+isClean Clean = true
+isClean Waits = false
+isClean Faults = false
+isClean WrongParity = false
+isClean (Silent c) = false
 
 silent-ack : (n : ℕ) → ackOf (cond (eqb n 1) 0 (cond (eqb n 2) 0 (cond (eqb n 4) 0 n))) ≡ Silence
 silent-ack n = by (eqb n 1) (eqb n 2) (eqb n 4) refl refl refl
@@ -116,11 +121,11 @@ wrong-parity-read : (q : Request) → isRead q ≡ true → (j : Reply) → verd
 unfolding verdict heard
 wrong-parity-read q h j = rw (h, wrong (j .word))
 
-not-clean : {x : TransferOutcome} → isClean x ≡ false → x ≡ clean → ⊥
+not-clean : {x : TransferOutcome} → isClean x ≡ false → x ≡ Clean → ⊥
 not-clean {x} h e = let no : false ≡ true = sym h ∙ ap isClean e in let z : _≡_ {A = ℕ} 0 1 = cc in omega arith
 
 module _ (g : Geometry) (l : Lists) (b : Target) where
-  wrong-parity-heard : {q : Request} → Wired q → (ev : LineEvent) → ev .outcome ≡ wrongParity → Heard g q ev l b (met true g q ev l (wrongParityReply (isRead q) (ev .filler)) b)
+  wrong-parity-heard : {q : Request} → Wired q → (ev : LineEvent) → ev .outcome ≡ WrongParity → Heard g q ev l b (met true g q ev l (wrongParityReply (isRead q) (ev .filler)) b)
   unfolding verdict heard
   wrong-parity-heard attempt ev e = heardErrorDone 30 (lit≤ tt) (not-clean (ap isClean e)) refl (wrong-parity-read ReadIdcode refl (ev .filler))
   wrong-parity-heard (plain aTar) ev e = heardOkay refl refl refl
@@ -136,9 +141,9 @@ module _ (g : Geometry) (l : Lists) (b : Target) where
   hears {q} h ev not-killed free = rw (not-killed, free) (by (ev .outcome) refl)
     where
       by : (x : TransferOutcome) → ev .outcome ≡ x → Heard g q ev l b (met (carriedOut x) g q ev l (replyTo x false (isRead q) (gives q b) (ev .filler)) b)
-      by clean e = heardOkay refl (okay-heard h b (ev .filler)) refl
-      by waits e = heardWait (not-clean (ap isClean e)) refl (waits-heard q (ev .filler)) refl
-      by faults e = heardError 28 (lit≤ tt) (not-clean (ap isClean e)) refl (faults-heard q (ev .filler))
-      by wrongParity e = wrong-parity-heard h ev e
-      by (silent true) e = heardErrorDone 29 (lit≤ tt) (not-clean (ap isClean e)) refl (silence-heard q (ev .filler))
-      by (silent false) e = heardError 29 (lit≤ tt) (not-clean (ap isClean e)) refl (silence-heard q (ev .filler))
+      by Clean e = heardOkay refl (okay-heard h b (ev .filler)) refl
+      by Waits e = heardWait (not-clean (ap isClean e)) refl (waits-heard q (ev .filler)) refl
+      by Faults e = heardError 28 (lit≤ tt) (not-clean (ap isClean e)) refl (faults-heard q (ev .filler))
+      by WrongParity e = wrong-parity-heard h ev e
+      by (Silent true) e = heardErrorDone 29 (lit≤ tt) (not-clean (ap isClean e)) refl (silence-heard q (ev .filler))
+      by (Silent false) e = heardError 29 (lit≤ tt) (not-clean (ap isClean e)) refl (silence-heard q (ev .filler))

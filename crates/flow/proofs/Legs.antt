@@ -4,7 +4,8 @@ use mathlib.Core.Path.{_≡_}
 use Prim.Native.Nat.{ℕ, zero, suc, _+_, _<_}
 use native.Mathlib.Omega.{arith}
 use Rattle.flow.specs.Sequence.{inTurn}
-use Rattle.flow.specs.Target.{Target, Silicon, Memory, Running}
+use Rattle.flow.specs.Target.{Target, Memory, Running}
+use Rattle.flow.specs.declared.Silicon.{Silicon}
 use Rattle.flow.specs.declared.Entry.{Entry}
 use Rattle.flow.specs.declared.Move.{Move}
 use Rattle.flow.proofs.Polling.{idleAt}

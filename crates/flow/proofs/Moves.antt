@@ -6,7 +6,8 @@ use native.Mathlib.Omega.{arith}
 use lib.Dec.{lit≤}
 use lib.ListN.{length, getD, length-append}
 use Rattle.flow.proofs.Hearing.{aTar, aDrw, aRead, aCtrl, aSelect, aCsw, attempt, plain, decodes}
-use Rattle.flow.specs.Exchange.{known, decode}
+use Rattle.flow.specs.Exchange.{decode}
+use Rattle.flow.specs.declared.Decoded.the-variants.{Known}
 use Rattle.flow.specs.Packets.{packetOf}
 use Rattle.flow.specs.Sequence.{move, write, read, call, writes, listed, inTurn, imoCall, acquire, silicon, privileged, programRow, lockMacro, verifyMacro, program, opening, afterwards, sequence, endMove, key}
 use Rattle.flow.specs.Session.{moveAt}
@@ -51,7 +52,7 @@ Reports E LastSum s = s ≡ 9
 
 -- the target reads the request as it was meant
 abbrev pub Meant : Request → Type 0
-Meant q = decode (packetOf q) ≡ known q
+Meant q = decode (packetOf q) ≡ Known q
 
 meant-xres : Meant Xres
 unfolding decode

@@ -9,7 +9,8 @@ use lib.Seq.{take-all}
 use Rattle.flow.specs.Calls.{finish, effectOf, sysargAfter, sysreqAfter, afterFailure}
 use Rattle.flow.specs.Judge.{free, succeeded}
 use Rattle.flow.specs.Sequence.{lockStart}
-use Rattle.flow.specs.Target.{Target, Silicon, Memory, Residue, idle}
+use Rattle.flow.specs.Target.{Target, Memory, Residue, idle}
+use Rattle.flow.specs.declared.Silicon.{Silicon}
 use Rattle.flow.proofs.Calling.{Command, Returned}
 use Rattle.flow.proofs.Legs.{Core, core}
 use Rattle.flow.proofs.Lists.{Small}
@@ -44,7 +45,7 @@ pub record Opened {i : Image} (f : Frame i) (c : Core) : Type 0 where
 
 -- the first sum is kept
 abbrev pub Kept : {i : Image} → Frame i → ℕ → Type 0
-Kept f k = k % 268435456 ≡ f .silicon .privilegedSum % 268435456
+Kept f k = k % 268435456 ≡ f .silicon .«privileged_sum» % 268435456
 
 -- the target's sizes
 pub record Sized {i : Image} (f : Frame i) (m : Memory) : Type 0 where

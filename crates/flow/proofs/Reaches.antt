@@ -13,7 +13,8 @@ use Rattle.flow.specs.Plan.{Traffic}
 use Rattle.flow.specs.Run.{Run, advance, handedOut}
 use Rattle.flow.specs.Sequence.{sequence, endMove}
 use Rattle.flow.specs.Session.{SessionState, running, reported, moveAt}
-use Rattle.flow.specs.Target.{Target, Memory, Silicon, Lists}
+use Rattle.flow.specs.Target.{Target, Memory, Lists}
+use Rattle.flow.specs.declared.Silicon.{Silicon}
 use Rattle.flow.specs.declared.Entry.{Entry}
 use Rattle.flow.specs.declared.Move.{Move}
 use Rattle.flow.specs.declared.Purpose.{Purpose}

@@ -15,7 +15,9 @@ use Rattle.flow.specs.Plan.{Traffic, counting}
 use Rattle.flow.specs.Run.{Run, advance, handedOut}
 use Rattle.flow.specs.Sequence.{move}
 use Rattle.flow.specs.Session.{judgedTo, heardBy, stepOf}
-use Rattle.flow.specs.Target.{Target, Lists, LineEvent, CallOutcome, clean, nextEvent, nextOutcome, rest}
+use Rattle.flow.specs.Target.{Target, Lists, CallOutcome, nextEvent, nextOutcome, rest}
+use Rattle.flow.specs.declared.TransferOutcome.the-variants.{Clean}
+use Rattle.flow.specs.declared.LineEvent.{LineEvent}
 use Rattle.flow.specs.declared.Entry.{Entry}
 use Rattle.flow.specs.declared.Move.{Move}
 use Rattle.flow.specs.declared.Purpose.{Purpose}
@@ -35,7 +37,7 @@ passed l e = record { lists = l; delays = e .delays; traffic = more (e .traffic)
 abbrev waiting : ℕ → Allowance → Allowance
 waiting v κ = record { due = suc (κ .due); room = suc v + κ .room; xres = κ .xres; lines = κ .lines }
 
-pub calm-event : {l : List LineEvent} → CalmLine l → (nextEvent l) .outcome ≡ clean
+pub calm-event : {l : List LineEvent} → CalmLine l → (nextEvent l) .outcome ≡ Clean
 calm-event calmEnd = refl
 calm-event (calmEvent h c) = h
 
@@ -111,7 +113,7 @@ module _ {i : Image} (f : Frame i) where
       steps f (sync y n w p a k b t e) met refl safe (bounded h v κ w p a k b t st) (clear w p a t (e .delays)) (arrives h w p a k b t st)
       (by (hears (i .geometry) (e .lists) b (plain h) (nextEvent (e .lists .line)) not-killed free))
     where
-      not-calm : ((nextEvent (e .lists .line)) .outcome ≡ clean → ⊥) → f .Still → ⊥
+      not-calm : ((nextEvent (e .lists .line)) .outcome ≡ Clean → ⊥) → f .Still → ⊥
       not-calm bad still = bad (calm-event ((st .calm still) .line))
 
       met : Run

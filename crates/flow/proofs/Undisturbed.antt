@@ -8,14 +8,17 @@ use native.Mathlib.Nat.{le-refl}
 use native.Mathlib.Omega.{arith}
 use lib.ListN.{length, length-append}
 use Rattle.flow.specs.Claim.{Used, UndisturbedHolds}
-use Rattle.flow.specs.Exchange.{Decoded, known, unknown, decode, carry, store, begin, isCall, isSysreq, killed, barred, carriedOut, callsOn, silentReply, replyTo, gives, Met, met, transferred, meetOn, meet}
+use Rattle.flow.specs.Exchange.{decode, carry, store, begin, isCall, isSysreq, killed, barred, carriedOut, callsOn, silentReply, replyTo, gives, Met, met, transferred, meetOn, meet}
+use Rattle.flow.specs.declared.Decoded.{Decoded}
+use Rattle.flow.specs.declared.Decoded.the-variants.{Known, Unknown}
 use Rattle.flow.specs.Map.{place}
 use Rattle.flow.specs.declared.Place.{Place}
 use Rattle.flow.specs.declared.Place.the-variants.{InFlash, InLocks, InParams, AtLevel, AtSysreq, AtSysarg, AtTestMode, Elsewhere}
 use Rattle.flow.specs.Packets.{packetOf, isRead}
 use Rattle.flow.specs.Run.{Run, advanceBy, advance, runAfter, started}
 use Rattle.flow.specs.Session.{SessionState, running, reported, moveAt}
-use Rattle.flow.specs.Target.{Target, LineEvent, CallOutcome, Lists, nextEvent, nextOutcome, rest}
+use Rattle.flow.specs.Target.{Target, CallOutcome, Lists, nextEvent, nextOutcome, rest}
+use Rattle.flow.specs.declared.LineEvent.{LineEvent}
 use Rattle.flow.specs.declared.Reply.{Reply}
 use Rattle.flow.specs.declared.Request.{Request}
 use Rattle.flow.specs.declared.Request.the-variants.{Xres, LineReset, ReadIdcode, ReadDrw, WriteTar, WriteDrw, WriteSetup}
@@ -112,17 +115,17 @@ module _ (g : Geometry) where
 
 module _ (g : Geometry) (x : Lists) where
   meet-alike : (d : Decoded) (l : Lists) (b : Target) → Alike x (meetOn g d l b) (meetOn g d (behind x l) b)
-  meet-alike (known Xres) l b = same refl
-  meet-alike (known LineReset) l b = same refl
-  meet-alike (known ReadIdcode) l b = transferred-alike g ReadIdcode (l .line) (x .line) (l .calls) (x .calls) b
-  meet-alike (known ReadDrw) l b = transferred-alike g ReadDrw (l .line) (x .line) (l .calls) (x .calls) b
-  meet-alike (known (WriteTar a)) l b = transferred-alike g (WriteTar a) (l .line) (x .line) (l .calls) (x .calls) b
-  meet-alike (known (WriteDrw w)) l b = transferred-alike g (WriteDrw w) (l .line) (x .line) (l .calls) (x .calls) b
-  meet-alike (known (WriteSetup r w)) l b = transferred-alike g (WriteSetup r w) (l .line) (x .line) (l .calls) (x .calls) b
-  meet-alike unknown l b = by (l .line) (x .line) refl
+  meet-alike (Known Xres) l b = same refl
+  meet-alike (Known LineReset) l b = same refl
+  meet-alike (Known ReadIdcode) l b = transferred-alike g ReadIdcode (l .line) (x .line) (l .calls) (x .calls) b
+  meet-alike (Known ReadDrw) l b = transferred-alike g ReadDrw (l .line) (x .line) (l .calls) (x .calls) b
+  meet-alike (Known (WriteTar a)) l b = transferred-alike g (WriteTar a) (l .line) (x .line) (l .calls) (x .calls) b
+  meet-alike (Known (WriteDrw w)) l b = transferred-alike g (WriteDrw w) (l .line) (x .line) (l .calls) (x .calls) b
+  meet-alike (Known (WriteSetup r w)) l b = transferred-alike g (WriteSetup r w) (l .line) (x .line) (l .calls) (x .calls) b
+  meet-alike Unknown l b = by (l .line) (x .line) refl
     where
       by : (line later : List LineEvent) → x .line ≡ later
-          → Alike x (meetOn g unknown (record { line = line; calls = l .calls }) b) (meetOn g unknown (behind x (record { line = line; calls = l .calls })) b)
+          → Alike x (meetOn g Unknown (record { line = line; calls = l .calls }) b) (meetOn g Unknown (behind x (record { line = line; calls = l .calls })) b)
       by (e ∷ es) later h = same refl
       by [] [] h = same (rw h)
       by [] (e ∷ es) h = into (inl (rw h (le-refl _)))
@@ -164,14 +167,14 @@ unfolding transferred
 transferred-used g q l b = met-used (flagOf g q (nextEvent (l .line)) b) g q (nextEvent (l .line)) l (replyOf g q (nextEvent (l .line)) b) b
 
 meet-used : (g : Geometry) (d : Decoded) (l : Lists) (b : Target) → Used l ((meetOn g d l b) .lists)
-meet-used g (known Xres) l b = used (whole (l .line)) (whole (l .calls))
-meet-used g (known LineReset) l b = used (whole (l .line)) (whole (l .calls))
-meet-used g (known ReadIdcode) l b = transferred-used g ReadIdcode l b
-meet-used g (known ReadDrw) l b = transferred-used g ReadDrw l b
-meet-used g (known (WriteTar a)) l b = transferred-used g (WriteTar a) l b
-meet-used g (known (WriteDrw w)) l b = transferred-used g (WriteDrw w) l b
-meet-used g (known (WriteSetup r w)) l b = transferred-used g (WriteSetup r w) l b
-meet-used g unknown l b = used (first (l .line)) (whole (l .calls))
+meet-used g (Known Xres) l b = used (whole (l .line)) (whole (l .calls))
+meet-used g (Known LineReset) l b = used (whole (l .line)) (whole (l .calls))
+meet-used g (Known ReadIdcode) l b = transferred-used g ReadIdcode l b
+meet-used g (Known ReadDrw) l b = transferred-used g ReadDrw l b
+meet-used g (Known (WriteTar a)) l b = transferred-used g (WriteTar a) l b
+meet-used g (Known (WriteDrw w)) l b = transferred-used g (WriteDrw w) l b
+meet-used g (Known (WriteSetup r w)) l b = transferred-used g (WriteSetup r w) l b
+meet-used g Unknown l b = used (first (l .line)) (whole (l .calls))
 
 advance-used : (i : Image) (r : Run) → Used (r .lists) ((advance i r) .lists)
 unfolding advance meet

@@ -113,7 +113,7 @@ module _ (g : Geometry) (s : Listed g) (level : ℕ) (lv : (level ≡ 1) ⊎ (le
 
   target : Target
   target = record {
-    silicon = record { idcode = 0x0BB11477; high = g .part .«id_high»; low = g .part .«id_low» .first; revision = 0; family = g .part .«id_family»; privilegedSum = 0 };
+    silicon = record { idcode = 0x0BB11477; high = g .part .«id_high»; low = g .part .«id_low» .first; revision = 0; family = g .part .«id_family»; «privileged_sum» = 0 };
     memory = record { flash = replicate (flashSize g) 0; locks = replicate (lockTotal g) 0; latch = replicate (rowBytes g) 0; stored = level };
     effect = 0;
     params = replicate (2 + rowBytes g / 4) 0;

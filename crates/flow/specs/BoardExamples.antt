@@ -5,10 +5,13 @@ use mathlib.Core.Path.{_≡_}
 use Prim.Native.Nat.{ℕ, _+_, _-_}
 use Rattle.flow.specs.Calls.{finish}
 use Rattle.flow.specs.Examples.{partOne}
-use Rattle.flow.specs.Exchange.{Met, meet, decode, known, unknown}
+use Rattle.flow.specs.Exchange.{Met, meet, decode}
+use Rattle.flow.specs.declared.Decoded.the-variants.{Known, Unknown}
 use Rattle.flow.specs.Mishaps.{answer, okayWith, SYSREQ, SYSARG}
 use Rattle.flow.specs.Packets.{packetOf}
-use Rattle.flow.specs.Target.{Memory, Residue, CallOutcome, Running, idle, busy, Target, TransferOutcome, clean, waits, faults, wrongParity, silent, Lists}
+use Rattle.flow.specs.Target.{Memory, Residue, CallOutcome, Running, idle, busy, Target, Lists}
+use Rattle.flow.specs.declared.TransferOutcome.{TransferOutcome}
+use Rattle.flow.specs.declared.TransferOutcome.the-variants.{Clean, Waits, Faults, WrongParity, Silent}
 use Rattle.flow.specs.declared.Answer.{Answer}
 use Rattle.flow.specs.declared.Answer.the-variants.{ResetDone}
 use Rattle.flow.specs.declared.Packet.the-variants as Packets
@@ -28,7 +31,7 @@ small l = memoryWith (1 ∷ 2 ∷ 3 ∷ 4 ∷ []) (5 ∷ 6 ∷ 7 ∷ 8 ∷ []) (
 -- what is not given: registers, PARAMS and the privileged sum
 abbrev pub boardWith : Memory → (effect tar posted sysarg sysreq : ℕ) → (params : List ℕ) → Running → Target
 boardWith m e a w g q ps r = record {
-  silicon = record { idcode = 0x0BB11477; high = 0x0A; low = 0x23; revision = 0x45; family = 0x9A; privilegedSum = 0x0FFFFFFE };
+  silicon = record { idcode = 0x0BB11477; high = 0x0A; low = 0x23; revision = 0x45; family = 0x9A; «privileged_sum» = 0x0FFFFFFE };
   memory = m;
   effect = e;
   params = ps;
@@ -79,50 +82,50 @@ pub record TransferExamples : Type 0 where
   -- 'flash, locks, the stored level as step 8 reads it, registers, PARAMS, elsewhere any word'
   pub flash : after ReadDrw none (board 1 0 7) ≡ becomes (board 1 0 0x04030201) (okayWith 7)
   pub locks : after ReadDrw none (board 1 (locksAt partOne 0) 7) ≡ becomes (board 1 (locksAt partOne 0) 0x08070605) (okayWith 7)
-  pub level : after ReadDrw (onLine clean) (board 1 (levelAt partOne) 7) ≡ becomes (board 1 (levelAt partOne) 0xF0DCBA98) (okayWith 7)
+  pub level : after ReadDrw (onLine Clean) (board 1 (levelAt partOne) 7) ≡ becomes (board 1 (levelAt partOne) 0xF0DCBA98) (okayWith 7)
   pub sysarg : after ReadDrw none (board 1 SYSARG 7) ≡ becomes (board 1 SYSARG 0x51) (okayWith 7)
   pub sysreq : after ReadDrw none (board 1 SYSREQ 7) ≡ becomes (board 1 SYSREQ 0x52) (okayWith 7)
   pub testMode : after ReadDrw none (board 1 TEST-MODE 7) ≡ becomes (board 1 TEST-MODE 0x80000000) (okayWith 7)
   pub params : after ReadDrw none (board 1 (PARAMS + 4) 7) ≡ becomes (board 1 (PARAMS + 4) 0x62) (okayWith 7)
-  pub pastParams : after ReadDrw (onLine clean) (board 1 (PARAMS + 72) 7) ≡ becomes (board 1 (PARAMS + 72) 0xFEDCBA98) (okayWith 7)
-  pub elsewhere : after ReadDrw (onLine clean) (board 1 0x30000000 7) ≡ becomes (board 1 0x30000000 0xFEDCBA98) (okayWith 7)
+  pub pastParams : after ReadDrw (onLine Clean) (board 1 (PARAMS + 72) 7) ≡ becomes (board 1 (PARAMS + 72) 0xFEDCBA98) (okayWith 7)
+  pub elsewhere : after ReadDrw (onLine Clean) (board 1 0x30000000 7) ≡ becomes (board 1 0x30000000 0xFEDCBA98) (okayWith 7)
   -- a write of PARAMS alters the word there, one of flash, locks or the level nothing; its answer's word and parity are free
   pub storesParams : after (WriteDrw 5) none (board 1 (PARAMS + 8) 7)
       ≡ becomes (withParams 1 (PARAMS + 8) 7 (0x61 ∷ 0x62 ∷ 5 ∷ [])) (answer 1 0 0)
-  pub storesFlash : after (WriteDrw 5) (onLine clean) (board 1 0 7) ≡ becomes (board 1 0 7) (answer 1 0 1)
+  pub storesFlash : after (WriteDrw 5) (onLine Clean) (board 1 0 7) ≡ becomes (board 1 0 7) (answer 1 0 1)
   pub storesLocks : after (WriteDrw 5) none (board 1 (locksAt partOne 0) 7) ≡ becomes (board 1 (locksAt partOne 0) 7) (answer 1 0 0)
   pub storesLevel : after (WriteDrw 5) none (board 1 (levelAt partOne) 7) ≡ becomes (board 1 (levelAt partOne) 7) (answer 1 0 0)
   -- 'OK; WAIT or FAULT, not carried out; silence, carried out or not; wrong parity on a read, carried out'
-  pub waited : after ReadDrw (onLine waits) (board 1 0 7) ≡ becomes (board 1 0 7) (answer 2 0 1)
-  pub faulted : after ReadDrw (onLine faults) (board 1 0 7) ≡ becomes (board 1 0 7) (answer 4 0 1)
-  pub silentDone : after ReadDrw (onLine (silent true)) (board 1 0 7) ≡ becomes (board 1 0 0x04030201) (answer 7 0 1)
-  pub silentNot : after ReadDrw (onLine (silent false)) (board 1 0 7) ≡ becomes (board 1 0 7) (answer 7 0 1)
-  pub wrongParityRead : after ReadDrw (onLine wrongParity) (board 1 0 7) ≡ becomes (board 1 0 0x04030201) (answer 1 0 (1 - parity 0))
-  pub wrongParityWrite : after (WriteTar 4) (onLine wrongParity) (board 1 0 7) ≡ becomes (board 1 4 7) (answer 1 0 1)
+  pub waited : after ReadDrw (onLine Waits) (board 1 0 7) ≡ becomes (board 1 0 7) (answer 2 0 1)
+  pub faulted : after ReadDrw (onLine Faults) (board 1 0 7) ≡ becomes (board 1 0 7) (answer 4 0 1)
+  pub silentDone : after ReadDrw (onLine (Silent true)) (board 1 0 7) ≡ becomes (board 1 0 0x04030201) (answer 7 0 1)
+  pub silentNot : after ReadDrw (onLine (Silent false)) (board 1 0 7) ≡ becomes (board 1 0 7) (answer 7 0 1)
+  pub wrongParityRead : after ReadDrw (onLine WrongParity) (board 1 0 7) ≡ becomes (board 1 0 0x04030201) (answer 1 0 (1 - parity 0))
+  pub wrongParityWrite : after (WriteTar 4) (onLine WrongParity) (board 1 0 7) ≡ becomes (board 1 4 7) (answer 1 0 1)
   -- 'PROTECTED in effect answers FAULT for flash and PARAMS; KILL is silent.'
-  pub protectedFlash : after ReadDrw (onLine clean) (board 2 0 7) ≡ becomes (board 2 0 7) (answer 4 0 1)
-  pub protectedParams : after (WriteDrw 5) (onLine clean) (board 2 PARAMS 7) ≡ becomes (board 2 PARAMS 7) (answer 4 0 1)
-  pub protectedSilent : after ReadDrw (onLine (silent true)) (board 2 0 7) ≡ becomes (board 2 0 7) (answer 7 0 1)
-  pub protectedWrongParity : after ReadDrw (onLine wrongParity) (board 2 0 7) ≡ becomes (board 2 0 7) (answer 4 0 1)
+  pub protectedFlash : after ReadDrw (onLine Clean) (board 2 0 7) ≡ becomes (board 2 0 7) (answer 4 0 1)
+  pub protectedParams : after (WriteDrw 5) (onLine Clean) (board 2 PARAMS 7) ≡ becomes (board 2 PARAMS 7) (answer 4 0 1)
+  pub protectedSilent : after ReadDrw (onLine (Silent true)) (board 2 0 7) ≡ becomes (board 2 0 7) (answer 7 0 1)
+  pub protectedWrongParity : after ReadDrw (onLine WrongParity) (board 2 0 7) ≡ becomes (board 2 0 7) (answer 4 0 1)
   pub protectedLocks : after ReadDrw none (board 2 (locksAt partOne 0) 7) ≡ becomes (board 2 (locksAt partOne 0) 0x08070605) (okayWith 7)
   pub protectedTar : after (WriteTar 0) none (board 2 4 7) ≡ becomes (board 2 0 7) (answer 1 0 0)
-  pub killed : after (WriteTar 4) (onLine clean) (board 4 0 7) ≡ becomes (board 4 0 7) (answer 7 0 1)
+  pub killed : after (WriteTar 4) (onLine Clean) (board 4 0 7) ≡ becomes (board 4 0 7) (answer 7 0 1)
   pub killedIdcode : after ReadIdcode none (board 4 0 7) ≡ becomes (board 4 0 7) (answer 0 0 0)
 
 -- request bytes that the target knows, and such as it answers by silence
 pub record PacketExamples : Type 0 where
-  pub idcode : decode (Packets.Read 0xA5) ≡ known ReadIdcode
-  pub tar : decode (Packets.Write 0x8B 3 0) ≡ known (WriteTar 3)
-  pub startBit : decode (Packets.Read 0xA4) ≡ unknown
-  pub parityBit : decode (Packets.Read 0x85) ≡ unknown
-  pub stopBit : decode (Packets.Read 0xE5) ≡ unknown
-  pub parkBit : decode (Packets.Read 0x25) ≡ unknown
+  pub idcode : decode (Packets.Read 0xA5) ≡ Known ReadIdcode
+  pub tar : decode (Packets.Write 0x8B 3 0) ≡ Known (WriteTar 3)
+  pub startBit : decode (Packets.Read 0xA4) ≡ Unknown
+  pub parityBit : decode (Packets.Read 0x85) ≡ Unknown
+  pub stopBit : decode (Packets.Read 0xE5) ≡ Unknown
+  pub parkBit : decode (Packets.Read 0x25) ≡ Unknown
   -- 0xA5 asks for a read, 0x8B for a write
-  pub notWrite : decode (Packets.Write 0xA5 3 0) ≡ unknown
-  pub notRead : decode (Packets.Read 0x8B) ≡ unknown
+  pub notWrite : decode (Packets.Write 0xA5 3 0) ≡ Unknown
+  pub notRead : decode (Packets.Read 0x8B) ≡ Unknown
   -- a write whose parity bit is not its word's
-  pub wordParity : decode (Packets.Write 0x8B 3 1) ≡ unknown
-  pub met : meet partOne (Packets.Write 0x8B 3 1) (onLine clean) (board 1 0 7) ≡ becomes (board 1 0 7) (answer 7 0 1)
+  pub wordParity : decode (Packets.Write 0x8B 3 1) ≡ Unknown
+  pub met : meet partOne (Packets.Write 0x8B 3 1) (onLine Clean) (board 1 0 7) ≡ becomes (board 1 0 7) (answer 7 0 1)
 
 -- 'XRES puts the stored level in effect, clears SYSREQ and drops a running call as failed.'
 pub record ResetExamples : Type 0 where
@@ -134,7 +137,7 @@ pub record ResetExamples : Type 0 where
   -- a dropped 0x0D that had stored its level: that level comes into effect
   pub dropsLevel : (after Xres none (boardWith (small 1) 1 4 7 0x2E0B6 0x8000000D [] (busy 0 true (residue 0 true) 0x0D))) .target .effect ≡ 2
   -- no reset takes an entry
-  pub takesNone : (after Xres (onLine faults) (board 1 4 7)) .lists ≡ onLine faults
+  pub takesNone : (after Xres (onLine Faults) (board 1 4 7)) .lists ≡ onLine Faults
   pub lineReset : after LineReset none (board 2 4 7) ≡ becomes (board 2 4 7) ResetDone
 
 -- call c on a board with this level in effect, this word in SYSARG and these words from PARAMS on
@@ -151,7 +154,7 @@ pub record CallExamples : Type 0 where
       ≡ becomes (boardWith (small 1) 1 SYSREQ 7 0x51 0x80000015 (0x61 ∷ 0x62 ∷ 0x63 ∷ []) (busy 2 true (residue 0 false) 0x15)) (answer 1 0 0)
   pub noCall : (after (WriteDrw 0x15) (onCall (outcome 2 true)) (board 1 SYSREQ 7)) .lists ≡ onCall (outcome 2 true)
   pub noCallStores : (after (WriteDrw 0x15) none (board 1 SYSREQ 7)) .target .sysreq ≡ 0x15
-  pub busyRead : after ReadDrw (onLine clean) (boardWith (small 1) 1 SYSREQ 7 0x51 0x80000015 [] (busy 1 true (residue 0 false) 0x15))
+  pub busyRead : after ReadDrw (onLine Clean) (boardWith (small 1) 1 SYSREQ 7 0x51 0x80000015 [] (busy 1 true (residue 0 false) 0x15))
       ≡ becomes (boardWith (small 1) 1 SYSREQ 0xFEDCBA98 0x51 0x80000015 [] (busy 0 true (residue 0 false) 0x15)) (okayWith 7)
   pub takesEffect : after ReadDrw none (boardWith (small 1) 1 SYSREQ 7 0x51 0x80000015 [] (busy 0 true (residue 0 false) 0x15))
       ≡ becomes (boardWith (small 1) 1 SYSREQ 0 0xA0000000 0 [] idle) (okayWith 7)

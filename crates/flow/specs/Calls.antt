@@ -5,7 +5,8 @@ use Prim.Native.Nat.{ℕ, _+_, _*_, _/_, _%_}
 use lib.Dec.{eqb}
 use lib.ListN.{length, getD, take, drop, replicate}
 use Rattle.flow.specs.Sequence.{lockStart}
-use Rattle.flow.specs.Target.{Memory, Silicon, Residue, Target, Running, idle, busy, lay, sized, setEnded, setReset}
+use Rattle.flow.specs.Target.{Memory, Residue, Target, Running, idle, busy, lay, sized, setEnded, setReset}
+use Rattle.flow.specs.declared.Silicon.{Silicon}
 use Rattle.image.specs.Words.{total, lowFirst}
 use Rattle.parts.specs.Sizes.{rowBytes, locksIn, PARAMS}
 use Rattle.parts.specs.declared.Geometry.{Geometry}
@@ -72,7 +73,7 @@ effectOf g c l arg ps m =
 unfoldable pub sysargAfter : (c : ℕ) → Silicon → Memory → ℕ
 sysargAfter c x m =
     cond (eqb c 0) (0xA0000000 + x .revision * 65536 + x .high * 256 + x .low)
-    (cond (eqb c 0x0B) (0xA0000000 + (x .privilegedSum + total (m .flash)) % 268435456) 0xA0000000)
+    (cond (eqb c 0x0B) (0xA0000000 + (x .«privileged_sum» + total (m .flash)) % 268435456) 0xA0000000)
 
 unfoldable pub sysreqAfter : (c : ℕ) → Silicon → (effect : ℕ) → ℕ
 sysreqAfter c x l = cond (eqb c 0) (l * 4096 + x .family) 0

@@ -9,7 +9,10 @@ use lib.ListN.{length, getD}
 use Rattle.flow.specs.Plan.{plan, mostTraffic}
 use Rattle.flow.specs.Run.{Run, runAfter, started, handedOut}
 use Rattle.flow.specs.Session.{running, reported}
-use Rattle.flow.specs.Target.{Target, Silicon, idle, clean, LineEvent, CallOutcome, Lists}
+use Rattle.flow.specs.Target.{Target, idle, CallOutcome, Lists}
+use Rattle.flow.specs.declared.TransferOutcome.the-variants.{Clean}
+use Rattle.flow.specs.declared.LineEvent.{LineEvent}
+use Rattle.flow.specs.declared.Silicon.{Silicon}
 use Rattle.flow.specs.Monitor.{Monitor, watching, linkError, delayed}
 use Rattle.flow.specs.declared.Entry.{Entry}
 use Rattle.flow.specs.declared.Entry.the-variants.{FromOpen, FromProtected}
@@ -54,7 +57,7 @@ NoError m = (number : ℕ) → ¬ (m ≡ linkError number)
 -- free lists without mishap and without delay
 pub data CalmLine : List LineEvent → Type 0 where
   calmEnd : CalmLine []
-  calmEvent : {e : LineEvent} {es : List LineEvent} → e .outcome ≡ clean → CalmLine es → CalmLine (e ∷ es)
+  calmEvent : {e : LineEvent} {es : List LineEvent} → e .outcome ≡ Clean → CalmLine es → CalmLine (e ∷ es)
 
 pub data CalmCalls : List CallOutcome → Type 0 where
   callsEnd : CalmCalls []

@@ -9,9 +9,14 @@ use Rattle.flow.specs.Map.{place}
 use Rattle.flow.specs.declared.Place.{Place}
 use Rattle.flow.specs.declared.Place.the-variants.{InFlash, InLocks, InParams, AtLevel, AtSysreq, AtSysarg, AtTestMode, Elsewhere}
 use Rattle.flow.specs.Packets.{isRead}
-use Rattle.flow.specs.Target.{Target, CallOutcome, Running, idle, busy, TransferOutcome, clean, waits, faults, wrongParity, silent, LineEvent, Lists, nextEvent, nextOutcome, rest, lay, setTar, setPosted, setParams, setSysarg, setTestMode, setSysreq}
+use Rattle.flow.specs.Target.{Target, CallOutcome, Running, idle, busy, Lists, nextEvent, nextOutcome, rest, lay, setTar, setPosted, setParams, setSysarg, setTestMode, setSysreq}
+use Rattle.flow.specs.declared.TransferOutcome.{TransferOutcome}
+use Rattle.flow.specs.declared.TransferOutcome.the-variants.{Clean, Waits, Faults, WrongParity, Silent}
+use Rattle.flow.specs.declared.LineEvent.{LineEvent}
 use Rattle.flow.specs.declared.Answer.{Answer}
 use Rattle.flow.specs.declared.Answer.the-variants.{ResetDone, Transferred}
+use Rattle.flow.specs.declared.Decoded.{Decoded}
+use Rattle.flow.specs.declared.Decoded.the-variants.{Known, Unknown}
 use Rattle.flow.specs.declared.Packet as Packets
 use Rattle.flow.specs.declared.Packet.{Packet}
 use Rattle.flow.specs.declared.Reply.{Reply}
@@ -24,32 +29,27 @@ use Rattle.wire.specs.declared.Register.the-variants.{CtrlStat, Select, Csw}
 
 -- ---- the wire, read bit by bit
 
--- a request that the target knows, or none
-pub data Decoded : Type 0 where
-  known : Request → Decoded
-  unknown : Decoded
-
 -- start bit 1, stop bit 0, park bit 1, and the parity bit that of the four bits between
 abbrev pub wellFormed : (byte : ℕ) → Bool
 wellFormed r = eqb (r % 2) 1 && eqb (r / 64) 2 && eqb (r / 32 % 2) ((r / 2 % 2 + r / 4 % 2 + r / 8 % 2 + r / 16 % 2) % 2)
 
 -- 004, Table 3-2, by APnDP and the two address bits
 abbrev pub readAt : (ap address : ℕ) → Decoded
-readAt ap a = cond (eqb ap 0) (cond (eqb a 0) (known ReadIdcode) unknown) (cond (eqb a 3) (known ReadDrw) unknown)
+readAt ap a = cond (eqb ap 0) (cond (eqb a 0) (Known ReadIdcode) Unknown) (cond (eqb a 3) (Known ReadDrw) Unknown)
 
 abbrev pub writeAt : (ap address word : ℕ) → Decoded
 writeAt ap a w =
     cond (eqb ap 0)
-    (cond (eqb a 1) (known (WriteSetup CtrlStat w)) (cond (eqb a 2) (known (WriteSetup Select w)) unknown))
-    (cond (eqb a 0) (known (WriteSetup Csw w)) (cond (eqb a 1) (known (WriteTar w)) (cond (eqb a 3) (known (WriteDrw w)) unknown)))
+    (cond (eqb a 1) (Known (WriteSetup CtrlStat w)) (cond (eqb a 2) (Known (WriteSetup Select w)) Unknown))
+    (cond (eqb a 0) (Known (WriteSetup Csw w)) (cond (eqb a 1) (Known (WriteTar w)) (cond (eqb a 3) (Known (WriteDrw w)) Unknown)))
 
 -- RnW is 1 on a read; a write whose parity bit is not its word's is not understood
 unfoldable pub decode : Packet → Decoded
-decode Packets.the-variants.Xres = known Xres
-decode Packets.the-variants.LineReset = known LineReset
-decode (Packets.the-variants.Read r) = cond (wellFormed r && eqb (r / 4 % 2) 1) (readAt (r / 2 % 2) (r / 8 % 4)) unknown
+decode Packets.the-variants.Xres = Known Xres
+decode Packets.the-variants.LineReset = Known LineReset
+decode (Packets.the-variants.Read r) = cond (wellFormed r && eqb (r / 4 % 2) 1) (readAt (r / 2 % 2) (r / 8 % 4)) Unknown
 decode (Packets.the-variants.Write r w p) =
-    cond (wellFormed r && eqb (r / 4 % 2) 0 && eqb p (parity w)) (writeAt (r / 2 % 2) (r / 8 % 4) w) unknown
+    cond (wellFormed r && eqb (r / 4 % 2) 0 && eqb p (parity w)) (writeAt (r / 2 % 2) (r / 8 % 4) w) Unknown
 
 -- ---- transfers
 
@@ -180,18 +180,18 @@ wrongParityReply false j = replyWith 1 j
 
 -- the answer to a transfer that is not silenced by KILL
 abbrev pub replyTo : TransferOutcome → (bars : Bool) → (reads : Bool) → (word : ℕ) → Reply → Reply
-replyTo clean bars r w j = cond bars (replyWith 4 j) (okayReply r w j)
-replyTo waits bars r w j = replyWith 2 j
-replyTo faults bars r w j = replyWith 4 j
-replyTo wrongParity bars r w j = cond bars (replyWith 4 j) (wrongParityReply r j)
-replyTo (silent c) bars r w j = silentReply j
+replyTo Clean bars r w j = cond bars (replyWith 4 j) (okayReply r w j)
+replyTo Waits bars r w j = replyWith 2 j
+replyTo Faults bars r w j = replyWith 4 j
+replyTo WrongParity bars r w j = cond bars (replyWith 4 j) (wrongParityReply r j)
+replyTo (Silent c) bars r w j = silentReply j
 
 abbrev pub carriedOut : TransferOutcome → Bool
-carriedOut clean = true
-carriedOut waits = false
-carriedOut faults = false
-carriedOut wrongParity = true
-carriedOut (silent c) = c
+carriedOut Clean = true
+carriedOut Waits = false
+carriedOut Faults = false
+carriedOut WrongParity = true
+carriedOut (Silent c) = c
 
 -- the target after a packet, its answer, and what is left of the lists
 pub record Met : Type 0 where
@@ -216,14 +216,14 @@ transferred g q e l b =
     b
 
 abbrev pub meetOn : Geometry → Decoded → Lists → Target → Met
-meetOn g (known Xres) l b = record { target = reset g b; answer = ResetDone; lists = l }
-meetOn g (known LineReset) l b = record { target = b; answer = ResetDone; lists = l }
-meetOn g (known ReadIdcode) l b = transferred g ReadIdcode (nextEvent (l .line)) l b
-meetOn g (known ReadDrw) l b = transferred g ReadDrw (nextEvent (l .line)) l b
-meetOn g (known (WriteTar a)) l b = transferred g (WriteTar a) (nextEvent (l .line)) l b
-meetOn g (known (WriteDrw w)) l b = transferred g (WriteDrw w) (nextEvent (l .line)) l b
-meetOn g (known (WriteSetup r w)) l b = transferred g (WriteSetup r w) (nextEvent (l .line)) l b
-meetOn g unknown l b =
+meetOn g (Known Xres) l b = record { target = reset g b; answer = ResetDone; lists = l }
+meetOn g (Known LineReset) l b = record { target = b; answer = ResetDone; lists = l }
+meetOn g (Known ReadIdcode) l b = transferred g ReadIdcode (nextEvent (l .line)) l b
+meetOn g (Known ReadDrw) l b = transferred g ReadDrw (nextEvent (l .line)) l b
+meetOn g (Known (WriteTar a)) l b = transferred g (WriteTar a) (nextEvent (l .line)) l b
+meetOn g (Known (WriteDrw w)) l b = transferred g (WriteDrw w) (nextEvent (l .line)) l b
+meetOn g (Known (WriteSetup r w)) l b = transferred g (WriteSetup r w) (nextEvent (l .line)) l b
+meetOn g Unknown l b =
     record { target = b; answer = Transferred (silentReply ((nextEvent (l .line)) .filler)); lists = record { line = rest (l .line); calls = l .calls } }
 
 -- 'The board meets every request once, in order, and nothing else.'

@@ -8,7 +8,9 @@ use lib.ListN.{length, getD}
 use Rattle.flow.specs.Claim.{Passes, Startable, Calm}
 use Rattle.flow.specs.Examples.{partOne, twoMacros}
 use Rattle.flow.specs.Plan.{mostTraffic}
-use Rattle.flow.specs.Target.{Target, Silicon, Memory, Residue, idle, clean}
+use Rattle.flow.specs.Target.{Target, Memory, Residue, idle}
+use Rattle.flow.specs.declared.TransferOutcome.the-variants.{Clean}
+use Rattle.flow.specs.declared.Silicon.{Silicon}
 use Rattle.flow.specs.declared.Entry.the-variants.{FromOpen, FromProtected}
 use Rattle.flow.specs.declared.Reply.{Reply}
 use Rattle.image.specs.Checks.{imageFault}
@@ -57,7 +59,7 @@ pub record FreeStarts : Type 0 where
   -- 'nothing waits or is busy': whatever is free in the entries
   pub calm : (filler : Reply) (other : ℕ) (residue : Residue)
       → Calm (record {
-        line = record { outcome = clean; filler = filler; other = other } ∷ [];
+        line = record { outcome = Clean; filler = filler; other = other } ∷ [];
         calls = record { busyReads = 0; succeeds = true; residue = residue } ∷ [];
       })
 

@@ -3,7 +3,9 @@ use mathlib.Core.Bool.{Bool, true, false}
 use mathlib.Core.List.{List, [], _∷_, _++_}
 use Prim.Native.Nat.{ℕ, _+_}
 use lib.ListN.{length, take, drop, replicate}
-use Rattle.flow.specs.declared.Reply.{Reply}
+use Rattle.flow.specs.declared.LineEvent.{LineEvent}
+use Rattle.flow.specs.declared.Silicon.{Silicon}
+use Rattle.flow.specs.declared.TransferOutcome.the-variants.{Clean}
 
 -- what calls alter: 'flash, locks, stored level, .. latch'
 pub record Memory : Type 0 where
@@ -11,15 +13,6 @@ pub record Memory : Type 0 where
   pub locks : List ℕ
   pub latch : List ℕ
   pub stored : ℕ
-
--- what nothing alters: 'IDs and S, a 28-bit privileged sum that no call alters'; 'the IDs (IDCODE, high, low, revision, family) are free'
-pub record Silicon : Type 0 where
-  pub idcode : ℕ
-  pub high : ℕ
-  pub low : ℕ
-  pub revision : ℕ
-  pub family : ℕ
-  pub privilegedSum : ℕ
 
 -- what a failed call leaves: 'any flash, locks and latch', a SYSARG, and whether a failed 0x0D stored the level sent
 pub record Residue : Type 0 where
@@ -52,24 +45,13 @@ pub record Target : Type 0 where
   pub posted : ℕ
   pub running : Running
 
--- 'Per transfer: OK; WAIT or FAULT, not carried out; silence, carried out or not; wrong parity on a read, carried out.'
-pub data TransferOutcome : Type 0 where
-  clean waits faults wrongParity : TransferOutcome
-  silent : (carriedOut : Bool) → TransferOutcome
-
--- a transfer's outcome, with what is free in its answer, and the word that is elsewhere
-pub record LineEvent : Type 0 where
-  pub outcome : TransferOutcome
-  pub filler : Reply
-  pub other : ℕ
-
 -- 'Two free lists drive it; past a list's end it is OK, and success without busy reads.'
 pub record Lists : Type 0 where
   pub line : List LineEvent
   pub calls : List CallOutcome
 
 abbrev pub nextEvent : List LineEvent → LineEvent
-nextEvent [] = record { outcome = clean; filler = record { ack = 0; word = 0; parity = 0 }; other = 0 }
+nextEvent [] = record { outcome = Clean; filler = record { ack = 0; word = 0; parity = 0 }; other = 0 }
 nextEvent (e ∷ es) = e
 
 abbrev pub nextOutcome : List CallOutcome → CallOutcome

@@ -82,6 +82,38 @@ pub enum Place {
     Elsewhere,
 }
 
+// What nothing alters of the target: 'IDs and S, a 28-bit privileged sum that no call alters'.
+pub struct Silicon {
+    pub idcode: u32,
+    pub high: u8,
+    pub low: u8,
+    pub revision: u8,
+    pub family: u8,
+    pub privileged_sum: u32,
+}
+
+// 'Per transfer: OK; WAIT or FAULT, not carried out; silence, carried out or not; wrong parity on a read, carried out.'
+pub enum TransferOutcome {
+    Clean,
+    Waits,
+    Faults,
+    WrongParity,
+    Silent(bool),
+}
+
+// A transfer's outcome, with what is free in its answer, and the word that is elsewhere.
+pub struct LineEvent {
+    pub outcome: TransferOutcome,
+    pub filler: Reply,
+    pub other: u32,
+}
+
+// A request that the target knows, or none.
+pub enum Decoded {
+    Known(Request),
+    Unknown,
+}
+
 // A write with its word's parity.
 fn write_packet(r: Register, w: u32) -> Packet
     ensures { λ p. ⌜ p ≡ packetOf (Request.WriteSetup r w) ⌝ }

@@ -5,7 +5,8 @@ use mathlib.Core.Path.{_≡_, refl, sym, ap, subst, _∙_}
 use Prim.Native.Nat.{ℕ, suc, _≤_}
 use native.Mathlib.Omega.{arith}
 use lib.ListN.{length}
-use Rattle.flow.specs.Exchange.{known, decode, Met, meet}
+use Rattle.flow.specs.Exchange.{decode, Met, meet}
+use Rattle.flow.specs.declared.Decoded.the-variants.{Known}
 use Rattle.flow.specs.Packets.{packetOf}
 use Rattle.flow.specs.Plan.{counting}
 use Rattle.flow.specs.Run.{Run, served, advanceBy, advance, runAfter, handedOut}
@@ -98,7 +99,7 @@ module _ (g : Geometry) (h : Header) (bytes : List ℕ) (found : lookupOf (h .pa
     inside : Within i y n w p a
     inside = rw (f .session ∙ is) at (stands-of g h bytes (s .session) (parts g (s .session) (f .can)))
 
-    meant : decode (packetOf (m .request)) ≡ known (m .request)
+    meant : decode (packetOf (m .request)) ≡ Known (m .request)
     meant = (proper-at i y n) .meant
 
     fitting : answers (m .request) (x .answer) ≡ true

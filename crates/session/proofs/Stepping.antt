@@ -7,13 +7,15 @@ use native.Mathlib.Omega.{arith}
 use borrow.Author.Tests.{eq-eqb}
 use lib.Dec.{eqb}
 use lib.ListN.{length}
-use Rattle.flow.specs.Exchange.{known, meetOn, transferred, met, killed, barred, carriedOut}
+use Rattle.flow.specs.Exchange.{meetOn, transferred, met, killed, barred, carriedOut}
+use Rattle.flow.specs.declared.Decoded.the-variants.{Known}
 use Rattle.flow.specs.Monitor.{isReset}
 use Rattle.flow.specs.Plan.{Traffic}
 use Rattle.flow.specs.Run.{handedOutBy}
 use Rattle.flow.specs.Session.{running, reported, moveAt, stepOf}
 use Rattle.flow.specs.Session as Flow
-use Rattle.flow.specs.Target.{Target, LineEvent, Lists, nextEvent}
+use Rattle.flow.specs.Target.{Target, Lists, nextEvent}
+use Rattle.flow.specs.declared.LineEvent.{LineEvent}
 use Rattle.flow.specs.declared.Answer.{Answer}
 use Rattle.flow.specs.declared.Reply.{Reply}
 use Rattle.flow.specs.declared.Request.{Request}
@@ -44,7 +46,7 @@ transfer-fits : (g : Geometry) (q : Request) (e : LineEvent) (l : Lists) (b : Ta
 unfolding transferred
 transfer-fits g q e l b = met-fits (not (killed b) && not (barred g q b) && carriedOut (e .outcome)) g q e l _ b
 
-pub fits : (g : Geometry) (q : Request) (l : Lists) (b : Target) → answers q ((meetOn g (known q) l b) .answer) ≡ true
+pub fits : (g : Geometry) (q : Request) (l : Lists) (b : Target) → answers q ((meetOn g (Known q) l b) .answer) ≡ true
 fits g Xres l b = refl
 fits g LineReset l b = refl
 fits g ReadIdcode l b = transfer-fits g ReadIdcode (nextEvent (l .line)) l b

@@ -3,7 +3,9 @@
 use mathlib.Core.List.{List}
 use mathlib.Core.Path.{_≡_}
 use Prim.Native.Nat.{ℕ, suc}
-use Rattle.flow.specs.Exchange.{Decoded, known, unknown, decode, Met, meet}
+use Rattle.flow.specs.Exchange.{decode, Met, meet}
+use Rattle.flow.specs.declared.Decoded.{Decoded}
+use Rattle.flow.specs.declared.Decoded.the-variants.{Known, Unknown}
 use Rattle.flow.specs.Monitor.{Monitor, linkError, watch}
 use Rattle.flow.specs.Plan.{Traffic, noTraffic, countingPacket}
 use Rattle.flow.specs.Run.{started}
@@ -32,8 +34,8 @@ standing before (Reported r) = Reported r
 
 -- the mishaps are told by what is on the wire; a packet that is no request is met by silence (29)
 abbrev pub watchPacket : Geometry → Decoded → Answer → Monitor → Monitor
-watchPacket g (known q) a m = watch g q a m
-watchPacket g unknown a m = linkError 29
+watchPacket g (Known q) a m = watch g q a m
+watchPacket g Unknown a m = linkError 29
 
 -- the session that the last call gave, the request or report that stands, the target, what is left of its free lists, what the
 -- monitor has seen, and the requests handed out, the standing one included
