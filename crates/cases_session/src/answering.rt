@@ -1,5 +1,6 @@
 // The board of a case, and the answers that the case puts in the place of the board's own.
 use crate::digest;
+use crate::reading;
 use crate::reading::Override;
 use crate::reading::Overrides;
 use bench_board::CallOutcome;
@@ -12,30 +13,19 @@ use flow::Reply;
 use flow::Silicon;
 use flow::TransferOutcome;
 use image::Header;
-use parts::Geometry;
-
-// The board's registers after a request, and the answer that the session hears.
-pub struct Heard {
-    pub registers: Registers,
-    pub answer: Answer,
-}
-
-fn silicon_of(h: Header, privileged: u32) -> Silicon {
-    let metadata = h.metadata;
-    Silicon {
-        idcode: 0x0BB11477,
-        high: metadata[2],
-        low: metadata[3],
-        revision: metadata[4],
-        family: metadata[5],
-        privileged_sum: privileged,
-    }
-}
 
 // The registers of a blank board with the image's IDs.
 pub(crate) fn blank(h: Header, stored: u8, privileged: u32) -> Registers {
+    let metadata = h.metadata;
     Registers {
-        silicon: silicon_of(h, privileged),
+        silicon: Silicon {
+            idcode: 0x0BB11477,
+            high: metadata[2],
+            low: metadata[3],
+            revision: metadata[4],
+            family: metadata[5],
+            privileged_sum: privileged,
+        },
         stored: stored,
         effect: stored,
         sysarg: 0,
@@ -47,60 +37,13 @@ pub(crate) fn blank(h: Header, stored: u8, privileged: u32) -> Registers {
     }
 }
 
-// Past the line's list a transfer is OK; all else is free and as in tests/, where a silence is 7.
-fn calm_line() -> LineEvent {
-    LineEvent {
-        outcome: TransferOutcome::Clean,
-        filler: Reply {
-            ack: 7,
-            word: 0,
-            parity: 0,
-        },
-        other: 0,
-    }
-}
-
 // Past the calls' list a call succeeds without busy reads; the rest counts where XRES drops it.
-fn calm_call() -> CallOutcome {
+pub(crate) fn calm_call() -> CallOutcome {
     CallOutcome {
         busy_reads: 0,
         succeeds: true,
         sysarg: 0xF0000001,
         new_level: false,
-    }
-}
-
-// The board meets a request, with both free lists at their end.
-fn meet_calmly(
-    g: Geometry,
-    r: Registers,
-    flash: &mut [u8],
-    locks: &mut [u8],
-    latch: &mut [u8],
-    params: &mut [u32],
-    packet: Packet,
-) -> Heard {
-    let e = calm_line();
-    let o = calm_call();
-    let met = bench_board::meet(
-        g,
-        r,
-        flash,
-        locks,
-        latch,
-        params,
-        b"",
-        b"",
-        b"",
-        packet,
-        e,
-        o,
-    );
-    let registers = met.registers;
-    let answer = met.answer;
-    Heard {
-        registers: registers,
-        answer: answer,
     }
 }
 
@@ -115,59 +58,48 @@ fn covers(o: Override, transfer: u32) -> bool {
     past % o.stride == 0 && past / o.stride < o.count
 }
 
-// The override of a transfer, or one that does not cover it.
-fn override_at(o: Overrides, transfer: u32) -> Override {
+// The override of a request, or the one that says nothing.
+fn override_of(o: Overrides, packet: Packet, transfer: u32) -> Override {
     let first = o.first;
     let second = o.second;
-    if covers(first, transfer) {
-        first
-    } else {
-        second
+    if digest::is_transfer(packet) {
+        if covers(first, transfer) {
+            return first;
+        }
+        if covers(second, transfer) {
+            return second;
+        }
+    }
+    reading::no_override()
+}
+
+// Past its list the line lets a request through; one that the case keeps from the board falls to a silence that nobody hears.
+pub(crate) fn line_at(overrides: Overrides, packet: Packet, transfer: u32) -> LineEvent {
+    let o = override_of(overrides, packet, transfer);
+    LineEvent {
+        outcome: if o.carried {
+            TransferOutcome::Clean
+        } else {
+            TransferOutcome::Silent(false)
+        },
+        filler: Reply {
+            ack: 7,
+            word: 0,
+            parity: 0,
+        },
+        other: 0,
     }
 }
 
-fn answer_of(o: Override) -> Answer {
+// The answer that the session hears: the board's own, or the case's, whose count is not 0 where it covers a transfer.
+pub(crate) fn heard(overrides: Overrides, packet: Packet, transfer: u32, own: Answer) -> Answer {
+    let o = override_of(overrides, packet, transfer);
+    if o.count == 0 {
+        return own;
+    }
     Answer::Transferred(Reply {
         ack: o.ack,
         word: o.word,
         parity: o.parity,
     })
-}
-
-// Whether the board meets a request, and whether its own answer is heard.
-fn is_met(o: Override, over: bool) -> bool {
-    if over { o.carried } else { true }
-}
-
-fn heard_answer(o: Override, over: bool, own: Answer) -> Answer {
-    if over { answer_of(o) } else { own }
-}
-
-// The answer to a request, overridden where the case says so.
-pub(crate) fn answered(
-    g: Geometry,
-    r: Registers,
-    overrides: Overrides,
-    flash: &mut [u8],
-    locks: &mut [u8],
-    latch: &mut [u8],
-    params: &mut [u32],
-    transfers: u32,
-    packet: Packet,
-) -> Heard {
-    let o = override_at(overrides, transfers);
-    let over = digest::is_transfer(packet) && covers(o, transfers);
-    if is_met(o, over) {
-        let met = meet_calmly(g, r, flash, locks, latch, params, packet);
-        let registers = met.registers;
-        let own = met.answer;
-        return Heard {
-            registers: registers,
-            answer: heard_answer(o, over, own),
-        };
-    }
-    Heard {
-        registers: r,
-        answer: answer_of(o),
-    }
 }

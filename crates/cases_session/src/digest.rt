@@ -58,17 +58,10 @@ fn wrong_kind(packet: Packet) -> Answer {
     })
 }
 
-// A step with the image a byte short.
-fn step_short(s: Session, image: &[u8], a: Answer) -> Given {
-    if 1 <= image.len() {
-        return session::step(s, &image[1..], a);
-    }
-    session::step(s, image, a)
-}
-
 // Two steps that are refused: the image a byte short, then the wrong kind of answer.
 fn refused_twice(h: u64, s: Session, image: &[u8], packet: Packet, a: Answer) -> u64 {
-    let short = step_short(s, image, a);
+    let cut = crate::at_most(1, image.len());
+    let short = session::step(s, &image[cut..], a);
     let once = mixed_refusal(h, short);
     let wrong = wrong_kind(packet);
     let other = session::step(s, image, wrong);

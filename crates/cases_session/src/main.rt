@@ -7,28 +7,28 @@ mod printing;
 mod reading;
 
 ghost use mathlib.Core.Path.{_≡_};
+ghost use Prim.Native.Nat.{_≤_};
 ghost use lib.ListN.{length};
-use reading::Case;
 
-// Room for an image.
-fn blank_image() -> [u8; 131200]
+// Room for an image, or the flash of any part.
+pub(crate) fn blank_image() -> [u8; 131200]
     ensures { λ r. ⌜ 131200 ≡ length r ⌝ }
 {
     [0; 131200]
 }
 
-// The case on the first bytes, so many.
-fn print_part(c: Case, image: &[u8], size: usize) {
-    if size <= image.len() {
-        play::print_case(c, &image[..size]);
-    }
+pub(crate) fn at_most(n: usize, most: usize) -> usize
+    ensures { λ r. ⌜ r ≤ most ⌝ }
+{
+    if n < most { n } else { most }
 }
 
 fn take_case(part: u8) {
     let c = reading::read_case(part);
     let mut image = blank_image();
     filling::fill(&mut image, c.seed);
-    print_part(c, &image, c.length as usize);
+    let size = at_most(c.length as usize, 131200);
+    play::print_case(c, &image[..size]);
 }
 
 // Reads a case and prints its line; false where the input has ended.

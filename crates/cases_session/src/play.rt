@@ -1,13 +1,12 @@
 // A session played to its report, on the board of its part.
 ghost use mathlib.Core.Path.{_≡_};
-ghost use Prim.Native.Nat.{_≤_};
 ghost use lib.ListN.{length};
 use crate::answering;
-use crate::answering::Heard;
 use crate::digest;
 use crate::printing;
 use crate::reading::Case;
 use crate::reading::Overrides;
+use bench_board::Met;
 use bench_board::Registers;
 use flow::Answer;
 use flow::Packet;
@@ -66,43 +65,16 @@ fn bench_after(given: Given, r: Registers, h: u64, transfers: u32) -> Bench {
     }
 }
 
-// The step with the answer that was heard.
-fn stepped(bench: Bench, heard: Heard, image: &[u8], turn: u32) -> Bench {
+// The step with the answer that is heard.
+fn stepped(bench: Bench, met: Met, overrides: Overrides, image: &[u8], turn: u32) -> Bench {
     let s = bench.session;
     let packet = bench.packet;
-    let a = heard.answer;
-    let r = heard.registers;
+    let r = met.registers;
+    let own = met.answer;
+    let a = answering::heard(overrides, packet, bench.transfers, own);
     let h = digest::after_request(bench.digest, s, image, packet, a, turn);
     let given = session::step(s, image, a);
     bench_after(given, r, h, transfers_after(bench.transfers, packet))
-}
-
-// A request met, and the step with its answer.
-fn turned(
-    bench: Bench,
-    g: Geometry,
-    overrides: Overrides,
-    image: &[u8],
-    flash: &mut [u8],
-    locks: &mut [u8],
-    latch: &mut [u8],
-    params: &mut [u32],
-    turn: u32,
-) -> Bench {
-    let r = bench.registers;
-    let packet = bench.packet;
-    let heard = answering::answered(
-        g,
-        r,
-        overrides,
-        flash,
-        locks,
-        latch,
-        params,
-        bench.transfers,
-        packet,
-    );
-    stepped(bench, heard, image, turn)
 }
 
 // Steps to the report; the turns are counted, for nothing here says that it comes.
@@ -115,24 +87,30 @@ fn played(
     locks: &mut [u8],
     latch: &mut [u8],
     params: &mut [u32],
+    left: &[u8],
 ) -> Bench {
     let mut bench = first;
     let mut turn: u32 = 0;
-    while turn < 4000000000 {
-        bench = turned(
-            bench,
+    while turn < 4000000000 && !bench.finished {
+        let r = bench.registers;
+        let packet = bench.packet;
+        let e = answering::line_at(overrides, packet, bench.transfers);
+        let o = answering::calm_call();
+        let met = bench_board::meet(
             g,
-            overrides,
-            image,
+            r,
             flash,
             locks,
             latch,
             params,
-            turn,
+            left,
+            left,
+            left,
+            packet,
+            e,
+            o,
         );
-        if bench.finished {
-            return bench;
-        }
+        bench = stepped(bench, met, overrides, image, turn);
         turn += 1;
     }
     bench
@@ -150,13 +128,6 @@ fn print_last(bench: Bench, image: &[u8]) {
     }
 }
 
-// Room for the flash of any part.
-fn blank_flash() -> [u8; 131072]
-    ensures { λ r. ⌜ 131072 ≡ length r ⌝ }
-{
-    [0; 131072]
-}
-
 // Room for the locks, or the latch, of any part.
 fn blank_bytes() -> [u8; 128]
     ensures { λ r. ⌜ 128 ≡ length r ⌝ }
@@ -171,19 +142,13 @@ fn blank_words() -> [u32; 34]
     [0; 34]
 }
 
-fn at_most(n: usize, most: usize) -> usize
-    ensures { λ r. ⌜ r ≤ most ⌝ }
-{
-    if n < most { n } else { most }
-}
-
 // The board's memory has the sizes of its part.
 fn play_from(first: Bench, g: Geometry, overrides: Overrides, image: &[u8]) {
     let p = g.part;
-    let row = at_most(p.row_bytes as usize, 128);
-    let size = at_most(parts::flash_size(g), 131072);
-    let total = at_most(parts::lock_total(g), 128);
-    let mut flash = blank_flash();
+    let row = crate::at_most(p.row_bytes as usize, 128);
+    let size = crate::at_most(parts::flash_size(g), 131072);
+    let total = crate::at_most(parts::lock_total(g), 128);
+    let mut flash = crate::blank_image();
     let mut locks = blank_bytes();
     let mut latch = blank_bytes();
     let mut params = blank_words();
@@ -196,13 +161,16 @@ fn play_from(first: Bench, g: Geometry, overrides: Overrides, image: &[u8]) {
         &mut locks[..total],
         &mut latch[..row],
         &mut params[..2 + row / 4],
+        b"",
     );
     print_last(last, image);
 }
 
-fn play(c: Case, g: Geometry, s: Session, packet: Packet, image: &[u8]) {
+// A session that has started, on the board of its part.
+fn play_on(c: Case, s: Session, packet: Packet, image: &[u8]) {
     let h = c.header;
     let overrides = c.overrides;
+    let found = parts::find(h.part, h.macros);
     let first = Bench {
         registers: answering::blank(h, c.stored, c.privileged),
         session: s,
@@ -211,15 +179,8 @@ fn play(c: Case, g: Geometry, s: Session, packet: Packet, image: &[u8]) {
         transfers: 0,
         finished: false,
     };
-    play_from(first, g, overrides, image);
-}
-
-// A session that has started, on the board of its part.
-fn play_on(c: Case, s: Session, packet: Packet, image: &[u8]) {
-    let h = c.header;
-    let found = parts::find(h.part, h.macros);
     match found {
-        Lookup::Found(g) => play(c, g, s, packet, image),
+        Lookup::Found(g) => play_from(first, g, overrides, image),
         Lookup::Refused(n) => printing::print_refusal(n),
     }
 }

@@ -1,12 +1,8 @@
 // The lines that are printed.
 use session::Report;
 
-fn print_space() {
-    io::write_all(1, b" ");
-}
-
 fn print_number(n: u64) {
-    print_space();
+    io::write_all(1, b" ");
     io::print_decimal(1, n);
 }
 
@@ -21,7 +17,7 @@ pub(crate) fn print_report(r: Report, digest: u64) {
     print_number(r.number as u64);
     print_number(r.step as u64);
     print_number(r.transfers as u64);
-    print_space();
+    io::write_all(1, b" ");
     io::print_hex(1, digest, 16);
     io::write_all(1, b"\n");
 }

@@ -50,12 +50,12 @@ fn read_override() -> Override {
 }
 
 // An override that covers no transfer.
-fn no_override() -> Override {
+pub(crate) fn no_override() -> Override {
     Override {
         at: 0,
         stride: 1,
         count: 0,
-        carried: false,
+        carried: true,
         ack: 0,
         word: 0,
         parity: 0,

@@ -10,7 +10,7 @@ use Rattle.cases_session.proofs.play.play_from.Tie as tie
 slice-aggregate-played : tie.Need-slice-aggregate-played
 slice-aggregate-played c =
     let d = c .before in
-    sym (length-take-le (d .before .before .before .before .before .before .at-most2 .result) (d .before .before .before .blank-flash .result) (omega arith))
+    sym (length-take-le (d .before .before .before .before .before .before .at-most2 .result) (d .before .before .before .blank-image .result) (omega arith))
 
 slice-aggregate-played-2 : tie.Need-slice-aggregate-played-2
 slice-aggregate-played-2 c =
@@ -50,6 +50,7 @@ play-from-spec =
     (λ c. search needs)
     (λ c. search needs)
     slice-aggregate-played-4
+    (λ c. search needs)
     (λ c κs. search needs)
     (λ c κs. search needs)
     (λ c. search needs))
