@@ -58,17 +58,7 @@ fn wrong_kind(packet: Packet) -> Answer {
     })
 }
 
-// Two steps that are refused: the image a byte short, then the wrong kind of answer.
-fn refused_twice(h: u64, s: Session, image: &[u8], packet: Packet, a: Answer) -> u64 {
-    let cut = crate::at_most(1, image.len());
-    let short = session::step(s, &image[cut..], a);
-    let once = mixed_refusal(h, short);
-    let wrong = wrong_kind(packet);
-    let other = session::step(s, image, wrong);
-    mixed_refusal(once, other)
-}
-
-// The digest after a request, with the refused steps after each 509th.
+// The digest after a request; after each 509th, also of two steps that are refused: the image a byte short, then the wrong kind of answer.
 pub(crate) fn after_request(
     h: u64,
     s: Session,
@@ -78,8 +68,13 @@ pub(crate) fn after_request(
     turn: u32,
 ) -> u64 {
     let asked = mixed_packet(h, packet);
-    if turn % 509 == 0 {
-        return refused_twice(asked, s, image, packet, a);
+    if turn % 509 != 0 {
+        return asked;
     }
-    asked
+    let cut = crate::at_most(1, image.len());
+    let short = session::step(s, &image[cut..], a);
+    let once = mixed_refusal(asked, short);
+    let wrong = wrong_kind(packet);
+    let other = session::step(s, image, wrong);
+    mixed_refusal(once, other)
 }

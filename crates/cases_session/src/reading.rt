@@ -37,18 +37,6 @@ fn small() -> u8 {
     n.value as u8
 }
 
-fn read_override() -> Override {
-    Override {
-        at: number(),
-        stride: number(),
-        count: number(),
-        carried: number() == 1,
-        ack: small(),
-        word: number(),
-        parity: small(),
-    }
-}
-
 // An override that covers no transfer.
 pub(crate) fn no_override() -> Override {
     Override {
@@ -62,18 +50,19 @@ pub(crate) fn no_override() -> Override {
     }
 }
 
-fn override_if(there: bool) -> Override {
-    if there {
-        read_override()
-    } else {
-        no_override()
+// The next override of a case, where it has one more.
+fn read_override(there: bool) -> Override {
+    if !there {
+        return no_override();
     }
-}
-
-fn read_overrides(count: u32) -> Overrides {
-    Overrides {
-        first: override_if(1 <= count),
-        second: override_if(2 <= count),
+    Override {
+        at: number(),
+        stride: number(),
+        count: number(),
+        carried: number() == 1,
+        ack: small(),
+        word: number(),
+        parity: small(),
     }
 }
 
@@ -106,7 +95,11 @@ pub(crate) fn read_case(part: u8) -> Case {
     let leave = number() == 1;
     let stored = small();
     let privileged = number();
-    let overrides = read_overrides(number());
+    let count = number();
+    let overrides = Overrides {
+        first: read_override(1 <= count),
+        second: read_override(2 <= count),
+    };
     Case {
         header: header,
         length: size.value,
