@@ -1,5 +1,5 @@
 -- Laws of putting the bench board into bytes, and of its call. Assumes nothing.
-use mathlib.Core.Bool.{Bool, true, false, not, cond}
+use mathlib.Core.Bool.{Bool, true, false, false≢true, not, cond}
 use mathlib.Core.List.{List, [], _∷_, _++_}
 use mathlib.Core.Path.{_≡_, refl, sym, ap, _∙_}
 use Prim.Native.Nat.{ℕ, suc, _+_, _%_, _≤_}
@@ -18,7 +18,11 @@ use Rattle.bench_board.specs.declared.Running.{Running}
 use Rattle.bench_board.specs.declared.Running.the-variants.{Idle, Busy}
 use Rattle.bench_board.specs.declared.Silicon.{Silicon}
 use Rattle.bench_c.specs.BoardBytes.{callOutcomeAt, isCallOutcome, registersIn, isBoard, eventIn, isEvent, packetIn, isPacket, siliconBytes, runBytes, runningBytes, wordsBytes, boardBytes, replyBytes, answerBytes, usedOf, emptied, RunningPut, BoardPut}
-use Rattle.bench_c.specs.BoardCalls.{Bench, benchOf, Benched, benched, benchAfter, meetInto, isBench, sizesFit, meetFor, meetCall}
+use Rattle.bench_c.specs.BoardCalls.{Bench, benchOf, Benched, benched, benchAfter, isBench, sizesFit, meetFor, meetCall}
+use Rattle.bench_c.specs.BoardAsked.{meetingIn, askedFor, askedOf, metWith, answeredFor}
+use Rattle.bench_c.specs.declared.Asked.{Asked}
+use Rattle.bench_c.specs.declared.Asked.the-variants.{Returned, Meets}
+use Rattle.bench_c.specs.declared.Meeting.{Meeting}
 use Rattle.flow.specs.Exchange as Flow
 use Rattle.flow.specs.Target as Target
 use Rattle.flow.specs.Target.{idle, busy}
@@ -33,7 +37,7 @@ use Rattle.parts.proofs.Table.{both}
 use Rattle.parts.specs.Parts.{lookupOf}
 use Rattle.parts.specs.declared.Geometry.{Geometry}
 use Rattle.parts.specs.declared.Lookup.{Lookup}
-use Rattle.parts.specs.declared.Lookup.the-variants.{Found}
+use Rattle.parts.specs.declared.Lookup.the-variants.{Found, Refused}
 
 -- ---- putting
 
@@ -150,19 +154,17 @@ used-same true false a b = refl
 used-same false true a b = refl
 used-same false false a b = refl
 
-module _ (g : Geometry) (p : Packet) (e : LineEvent) (o : CallOutcome) (x : Left) (b b′ : Bench) (r : Registers) (m : Met) where
-  pub met-bench : r ≡ registersIn (b .board)
-      → metOf x e o m (lent (b′ .flash) (b′ .locks) (b′ .latch) (b′ .params))
-      ≡ Flow.meet g p (listsOf x e o) (targetOf x r (lent (b .flash) (b .locks) (b .latch) (b .params)))
+module _ (w : Meeting) (x : Left) (b b′ : Bench) (m : Met) where
+  pub met-bench : metOf x (w .event) (w .outcome) m (lent (b′ .flash) (b′ .locks) (b′ .latch) (b′ .params))
+      ≡ Flow.meet (w .geometry) (w .packet) (listsOf x (w .event) (w .outcome)) (targetOf x (w .registers) (lent (b .flash) (b .locks) (b .latch) (b .params)))
       → BoardPut (m .registers) (b′ .board)
       → b′ .answer ≡ answerBytes (m .answer) (usedOf (m .«line_used») (m .«call_used»))
-      → b′ ≡ meetInto g p e o x b
+      → b′ ≡ metWith w x b
   unfolding benchAfter
-  met-bench found met put says =
+  met-bench met put says =
       ap (λ (n : List ℕ). benchOf n (b′ .flash) (b′ .locks) (b′ .latch) (b′ .params) (b′ .answer)) (put x (lent (b′ .flash) (b′ .locks) (b′ .latch) (b′ .params)))
       ∙ ap (λ (n : List ℕ). benchOf (boardBytes (targetOf x (m .registers) (lent (b′ .flash) (b′ .locks) (b′ .latch) (b′ .params)))) (b′ .flash) (b′ .locks) (b′ .latch) (b′ .params) n) (says ∙ ap (answerBytes (m .answer)) (used-same (m .«line_used») (m .«call_used») _ _))
       ∙ ap benchAfter met
-      ∙ ap (λ (q : Registers). benchAfter (Flow.meet g p (listsOf x e o) (targetOf x q (lent (b .flash) (b .locks) (b .latch) (b .params))))) found
 
 -- a test that said no, one that said yes
 pub says-no : (r t : Bool) → r ≡ t → not r ≡ true → t ≡ false
@@ -196,28 +198,63 @@ sized b e c q a h =
     let v = both (eqb (length q) 8) _ (u .1) in
     (eqb-true _ _ (s .0), (eqb-true _ _ (t .0), (eqb-true _ _ (u .0), (eqb-true _ _ (v .0), eqb-true _ _ (v .1)))))
 
-module _ (g : Geometry) (e c q : List ℕ) (x : Left) (b : Bench) where
-  pub meet-other : isBench (b .board) e c q ≡ false → benched 13 b ≡ meetFor (Found g) e c q x b
-  meet-other h = rw h
+-- ---- what is asked for
 
-  pub meet-taken : (p : Packet) (v : LineEvent) (o : CallOutcome) (b′ : Bench) → isBench (b .board) e c q ≡ true → p ≡ packetIn q → v ≡ eventIn e
+module _ (b e c q : List ℕ) where
+  pub asked-other : (g : Geometry) → isBench b e c q ≡ false → Returned 13 ≡ askedFor (Found g) b e c q
+  asked-other g h = rw h
+
+  pub asked-meeting : (g : Geometry) (r : Registers) (p : Packet) (v : LineEvent) (o : CallOutcome) → isBench b e c q ≡ true → r ≡ registersIn b → p ≡ packetIn q
+      → v ≡ eventIn e
       → o ≡ callOutcomeAt c 0
-      → b′ ≡ meetInto g p v o x b
-      → benched 0 b′ ≡ meetFor (Found g) e c q x b
-  meet-taken p v o b′ h ep ev eo k =
-      let k′ : b′ ≡ meetInto g (packetIn q) (eventIn e) (callOutcomeAt c 0) x b
-      = k
-      ∙ ap (λ (y : Packet). meetInto g y v o x b) ep
-      ∙ ap (λ (y : LineEvent). meetInto g (packetIn q) y o x b) ev
-      ∙ ap (λ (y : CallOutcome). meetInto g (packetIn q) (eventIn e) y x b) eo in
-      ap (benched 0) k′ ∙ rw h
+      → Meets (record { geometry = g; registers = r; packet = p; event = v; outcome = o }) ≡ askedFor (Found g) b e c q
+  asked-meeting g r p v o h er ep ev eo = rw (er, ep, ev, eo, h)
 
-module _ (part macros : ℕ) (e c q : List ℕ) (x : Left) (b : Bench) where
-  pub call-wrong : sizesFit (b .board) e c q (b .answer) ≡ false → benched 12 b ≡ meetCall part macros e c q x b
-  unfolding meetCall
-  call-wrong h = rw h
+module _ (part macros : ℕ) (b e c q a : List ℕ) where
+  pub asked-wrong : sizesFit b e c q a ≡ false → Returned 12 ≡ askedOf part macros b e c q a
+  asked-wrong h = rw h
 
-  pub call-right : (l : Lookup) (z : Benched) → sizesFit (b .board) e c q (b .answer) ≡ true → lookupOf part macros ≡ l → z ≡ meetFor l e c q x b
-      → z ≡ meetCall part macros e c q x b
+  pub asked-right : (l : Lookup) (y : Asked) → sizesFit b e c q a ≡ true → lookupOf part macros ≡ l → y ≡ askedFor l b e c q → y ≡ askedOf part macros b e c q a
+  asked-right l y h f k = k ∙ ap (λ (z : Lookup). askedFor z b e c q) (sym f) ∙ rw h
+
+-- ---- what is asked for, answered
+
+abbrev meets : Asked → Bool
+meets (Returned n) = false
+meets (Meets w) = true
+
+-- only bytes of the right lengths ask for a request to be met
+pub meets-sized : (part macros : ℕ) (b e c q a : List ℕ) (y : Asked) (w : Meeting) → y ≡ askedOf part macros b e c q a → y ≡ Meets w
+    → (length b ≡ 46) × ((length e ≡ 11) × ((length c ≡ 10) × ((length q ≡ 8) × (length a ≡ 8))))
+meets-sized part macros b e c q a y w h k = sized b e c q a (by (sizesFit b e c q a) (ap meets (sym k ∙ h)))
+  where
+    by : (t : Bool) → true ≡ meets (cond t (askedFor (lookupOf part macros) b e c q) (Returned 12)) → t ≡ true
+    by true k = refl
+    by false k = absurd (false≢true (sym k))
+
+module _ (e c q : List ℕ) (x : Left) (b : Bench) where
+  answered-test : (k : Bool) (w : Meeting) → cond k (benched 0 (metWith w x b)) (benched 13 b) ≡ answeredFor (cond k (Meets w) (Returned 13)) x b
+  answered-test true w = refl
+  answered-test false w = refl
+
+  answered-lookup : (l : Lookup) → meetFor l e c q x b ≡ answeredFor (askedFor l (b .board) e c q) x b
+  answered-lookup (Refused n) = refl
+  answered-lookup (Found g) = answered-test (isBench (b .board) e c q) (meetingIn g (b .board) e c q)
+
+  answered-sizes : (k : Bool) (l : Lookup)
+      → cond k (meetFor l e c q x b) (benched 12 b) ≡ answeredFor (cond k (askedFor l (b .board) e c q) (Returned 12)) x b
+  answered-sizes true l = answered-lookup l
+  answered-sizes false l = refl
+
+  call-answered : (part macros : ℕ) → answeredFor (askedOf part macros (b .board) e c q (b .answer)) x b ≡ meetCall part macros e c q x b
   unfolding meetCall
-  call-right l z h f k = k ∙ ap (λ (y : Lookup). meetFor y e c q x b) (sym f) ∙ rw h
+  call-answered part macros = sym (answered-sizes (sizesFit (b .board) e c q (b .answer)) (lookupOf part macros))
+
+  pub call-returned : (part macros : ℕ) (y : Asked) (n : ℕ) → y ≡ askedOf part macros (b .board) e c q (b .answer) → y ≡ Returned n
+      → benched n b ≡ meetCall part macros e c q x b
+  call-returned part macros y n h k = ap (λ (z : Asked). answeredFor z x b) (sym k ∙ h) ∙ call-answered part macros
+
+  pub call-met : (part macros : ℕ) (y : Asked) (w : Meeting) (b′ : Bench) → y ≡ askedOf part macros (b .board) e c q (b .answer) → y ≡ Meets w
+      → b′ ≡ metWith w x b
+      → benched 0 b′ ≡ meetCall part macros e c q x b
+  call-met part macros y w b′ h k m = ap (benched 0) m ∙ ap (λ (z : Asked). answeredFor z x b) (sym k ∙ h) ∙ call-answered part macros

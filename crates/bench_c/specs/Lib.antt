@@ -1,3 +1,4 @@
 pub mod BoardBytes
 pub mod BoardCalls
 pub mod BoardClaims
+pub mod BoardAsked

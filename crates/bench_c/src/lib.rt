@@ -1,15 +1,16 @@
 // The bench board as a call, for tests of hosts: registers, events and answers stand in the caller's bytes (include/halzuqeen_bench.h).
-ghost use mathlib.Core.Bool.{true};
 ghost use mathlib.Core.Path.{_≡_};
 ghost use lib.ListN.{length};
 ghost use Rattle.bench_board.specs.Board.{left};
-ghost use Rattle.bench_c.specs.BoardCalls.{benchOf, benched, isBench, sizesFit, meetInto, meetFor, meetCall};
+ghost use Rattle.bench_c.specs.BoardAsked.{askedFor, askedOf, metWith};
+ghost use Rattle.bench_c.specs.BoardCalls.{benchOf, benched, isBench, sizesFit, meetCall};
 
 mod board_in;
 mod board_out;
 
 use bench_board::CallOutcome;
 use bench_board::LineEvent;
+use bench_board::Registers;
 use board_in::call_outcome_at;
 use board_in::event_in;
 use board_in::is_board;
@@ -60,9 +61,66 @@ fn is_bench(board: &[u8], event: &[u8], call: &[u8], request: &[u8]) -> bool
     is_packet(request)
 }
 
-// A packet met, on bytes of a board's length.
+// A request to meet, with all that it is met with.
+struct Meeting {
+    geometry: Geometry,
+    registers: Registers,
+    packet: Packet,
+    event: LineEvent,
+    outcome: CallOutcome,
+}
+
+// What bytes ask for: a number to return at once, or a request to meet.
+enum Asked {
+    Returned(u32),
+    Meets(Meeting),
+}
+
+// What bytes of the right lengths ask for.
+fn asked_on(g: Geometry, board: &[u8], event: &[u8], call: &[u8], request: &[u8]) -> Asked
+    requires { ⌜ (length (now board) ≡ 46) × ((length (now event) ≡ 11) × ((length (now call) ≡ 10) × (length (now request) ≡ 8))) ⌝ }
+    ensures { λ r. ⌜ r ≡ askedFor (Lookup.Found g) (now (board .entry)) (now (event .entry)) (now (call .entry)) (now (request .entry)) ⌝ }
+{
+    if !is_bench(board, event, call, request) {
+        return Asked::Returned(13);
+    }
+    let r = registers_in(board);
+    let p = packet_in(request);
+    let e = event_in(event);
+    let o = call_outcome_at(call, 0);
+    Asked::Meets(Meeting {
+        geometry: g,
+        registers: r,
+        packet: p,
+        event: e,
+        outcome: o,
+    })
+}
+
+fn asked_of(
+    part: u8,
+    macros: u8,
+    board: &[u8],
+    event: &[u8],
+    call: &[u8],
+    request: &[u8],
+    answer: &[u8],
+) -> Asked
+    ensures { λ r. ⌜ r ≡ askedOf part macros (now (board .entry)) (now (event .entry)) (now (call .entry)) (now (request .entry)) (now (answer .entry)) ⌝ }
+{
+    if !sizes_fit(board, event, call, request, answer) {
+        return Asked::Returned(12);
+    }
+    let found = parts::find(part, macros);
+    match found {
+        Lookup::Found(g) => asked_on(g, board, event, call, request),
+        Lookup::Refused(n) => Asked::Returned(n as u32),
+    }
+}
+
+// A request met, on bytes of a board's length.
 fn meet_on(
-    g: Geometry,
+    m: Meeting,
     board: &mut [u8],
     flash: &mut [u8],
     locks: &mut [u8],
@@ -71,16 +129,17 @@ fn meet_on(
     left_flash: &[u8],
     left_locks: &[u8],
     left_latch: &[u8],
-    p: Packet,
-    e: LineEvent,
-    o: CallOutcome,
     answer: &mut [u8],
 )
     requires { ⌜ (length (now board) ≡ 46) × (length (now answer) ≡ 8) ⌝ }
-    ensures { λ _. ⌜ benchOf (now (board .exit)) (now (flash .exit)) (now (locks .exit)) (now (latch .exit)) (now (params .exit)) (now (answer .exit)) ≡ meetInto g p e o (left (now («left_flash» .entry)) (now («left_locks» .entry)) (now («left_latch» .entry))) (benchOf (now (board .entry)) (now (flash .entry)) (now (locks .entry)) (now (latch .entry)) (now (params .entry)) (now (answer .entry))) ⌝ }
+    ensures { λ _. ⌜ benchOf (now (board .exit)) (now (flash .exit)) (now (locks .exit)) (now (latch .exit)) (now (params .exit)) (now (answer .exit)) ≡ metWith m (left (now («left_flash» .entry)) (now («left_locks» .entry)) (now («left_latch» .entry))) (benchOf (now (board .entry)) (now (flash .entry)) (now (locks .entry)) (now (latch .entry)) (now (params .entry)) (now (answer .entry))) ⌝ }
 {
-    let r = registers_in(board);
-    let m = bench_board::meet(
+    let g = m.geometry;
+    let r = m.registers;
+    let p = m.packet;
+    let e = m.event;
+    let o = m.outcome;
+    let met = bench_board::meet(
         g,
         r,
         flash,
@@ -94,53 +153,10 @@ fn meet_on(
         e,
         o,
     );
-    let registers = m.registers;
-    let a = m.answer;
+    let registers = met.registers;
+    let a = met.answer;
     put_board(board, registers);
-    put_answer(answer, a, m.line_used, m.call_used);
-}
-
-// A request met, or 13.
-fn meet_in(
-    g: Geometry,
-    board: &mut [u8],
-    flash: &mut [u8],
-    locks: &mut [u8],
-    latch: &mut [u8],
-    params: &mut [u32],
-    left_flash: &[u8],
-    left_locks: &[u8],
-    left_latch: &[u8],
-    event: &[u8],
-    call: &[u8],
-    request: &[u8],
-    answer: &mut [u8],
-) -> u32
-    requires { ⌜ sizesFit (now board) (now event) (now call) (now request) (now answer) ≡ true ⌝ }
-    ensures { λ r. ⌜ benched r (benchOf (now (board .exit)) (now (flash .exit)) (now (locks .exit)) (now (latch .exit)) (now (params .exit)) (now (answer .exit))) ≡ meetFor (Lookup.Found g) (now (event .entry)) (now (call .entry)) (now (request .entry)) (left (now («left_flash» .entry)) (now («left_locks» .entry)) (now («left_latch» .entry))) (benchOf (now (board .entry)) (now (flash .entry)) (now (locks .entry)) (now (latch .entry)) (now (params .entry)) (now (answer .entry))) ⌝ }
-{
-    if !is_bench(board, event, call, request) {
-        return 13;
-    }
-    let p = packet_in(request);
-    let e = event_in(event);
-    let o = call_outcome_at(call, 0);
-    meet_on(
-        g,
-        board,
-        flash,
-        locks,
-        latch,
-        params,
-        left_flash,
-        left_locks,
-        left_latch,
-        p,
-        e,
-        o,
-        answer,
-    );
-    0
+    put_answer(answer, a, met.line_used, met.call_used);
 }
 
 // The board meets a request.
@@ -163,26 +179,23 @@ pub extern "C" fn halzuqeen_bench_meet(
 ) -> u32
     ensures { λ r. ⌜ benched r (benchOf (now (board .exit)) (now (flash .exit)) (now (locks .exit)) (now (latch .exit)) (now (params .exit)) (now (answer .exit))) ≡ meetCall part macros (now (event .entry)) (now (call .entry)) (now (request .entry)) (left (now («left_flash» .entry)) (now («left_locks» .entry)) (now («left_latch» .entry))) (benchOf (now (board .entry)) (now (flash .entry)) (now (locks .entry)) (now (latch .entry)) (now (params .entry)) (now (answer .entry))) ⌝ }
 {
-    if !sizes_fit(board, event, call, request, answer) {
-        return 12;
-    }
-    let found = parts::find(part, macros);
-    match found {
-        Lookup::Found(g) => meet_in(
-            g,
-            board,
-            flash,
-            locks,
-            latch,
-            params,
-            left_flash,
-            left_locks,
-            left_latch,
-            event,
-            call,
-            request,
-            answer,
-        ),
-        Lookup::Refused(n) => n as u32,
+    let asked = asked_of(part, macros, board, event, call, request, answer);
+    match asked {
+        Asked::Returned(n) => n,
+        Asked::Meets(m) => {
+            meet_on(
+                m,
+                board,
+                flash,
+                locks,
+                latch,
+                params,
+                left_flash,
+                left_locks,
+                left_latch,
+                answer,
+            );
+            0
+        }
     }
 }
