@@ -6,13 +6,13 @@ use Prim.Native.Nat.{ℕ, _+_, _*_, _%_, _<_}
 use native.Mathlib.Omega.{arith}
 use borrow.Author.Tests.{ne-eqb}
 use lib.Dec.{eqb}
-use Rattle.bench_board.specs.Meets.{ended, Fails, Succeeds, Answers, Resets, Alters}
 use Rattle.bench_board.specs.Board.{Buffers, Left, runningOf, memoryOf, targetOf}
-use Rattle.bench_board.specs.declared.Running.{Running}
-use Rattle.bench_board.specs.declared.Running.the-variants.{Idle, Busy}
+use Rattle.bench_board.specs.Meets.{ended, Fails, Succeeds, Answers, Resets, Alters}
 use Rattle.bench_board.specs.declared.CallOutcome.{CallOutcome}
 use Rattle.bench_board.specs.declared.Change.{Change}
 use Rattle.bench_board.specs.declared.Registers.{Registers}
+use Rattle.bench_board.specs.declared.Running.{Running}
+use Rattle.bench_board.specs.declared.Running.the-variants.{Idle, Busy}
 use Rattle.flow.specs.declared.Silicon.{Silicon}
 use Rattle.bench_memory.specs.Acts.{buffersAfter, Effects}
 use Rattle.bench_memory.specs.declared.Act.{Act}

@@ -14,13 +14,13 @@ use Rattle.bench_board.specs.declared.Registers.{Registers}
 use Rattle.flow.specs.declared.Place.{Place}
 use Rattle.bench_memory.specs.Acts.{buffersAfter}
 use Rattle.flow.specs.Exchange.{decode, fetch, store, carry, guarded, overDrw, carriedOut, gives, killed, silentReply, replyTo, barred, met, transferred, meetOn, meet}
-use Rattle.flow.specs.declared.Decoded.{Decoded}
-use Rattle.flow.specs.declared.Decoded.the-variants.{Known, Unknown}
 use Rattle.flow.specs.Exchange as Flow
 use Rattle.flow.specs.Map.{place}
 use Rattle.flow.specs.Packets.{isRead}
 use Rattle.flow.specs.Target.{Target, setTar}
 use Rattle.flow.specs.declared.Answer.the-variants.{ResetDone, Transferred}
+use Rattle.flow.specs.declared.Decoded.{Decoded}
+use Rattle.flow.specs.declared.Decoded.the-variants.{Known, Unknown}
 use Rattle.flow.specs.declared.Packet.{Packet}
 use Rattle.flow.specs.declared.Reply.{Reply}
 use Rattle.flow.specs.declared.Request.{Request}

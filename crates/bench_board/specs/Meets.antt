@@ -9,8 +9,8 @@ use Rattle.bench_memory.specs.declared.Act.the-variants.{Keep}
 use Rattle.bench_board.specs.declared.CallOutcome.{CallOutcome}
 use Rattle.bench_board.specs.declared.Decision.{Decision}
 use Rattle.flow.specs.declared.LineEvent.{LineEvent}
-use Rattle.bench_board.specs.declared.Met.{Met}
 use Rattle.bench_board.specs.declared.Change.{Change}
+use Rattle.bench_board.specs.declared.Met.{Met}
 use Rattle.bench_board.specs.declared.Registers.{Registers}
 use Rattle.flow.specs.declared.Silicon.{Silicon}
 use Rattle.bench_board.specs.declared.Running.{Running}

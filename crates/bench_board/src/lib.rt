@@ -3,8 +3,8 @@ ghost use mathlib.Core.Path.{_≡_};
 ghost use Rattle.bench_board.specs.Board.{lent, left, targetOf};
 ghost use Rattle.bench_board.specs.Meets.{Decides, listsOf, metOf};
 ghost use Rattle.flow.specs.Exchange.{meetOn};
-ghost use Rattle.flow.specs.declared.Decoded.the-variants.{Known};
 ghost use Rattle.flow.specs.Exchange as Flow;
+ghost use Rattle.flow.specs.declared.Decoded.the-variants.{Known};
 
 mod calls;
 mod transfers;

@@ -8,18 +8,18 @@ use borrow.Author.Tests.{eqb-true, not-true, not-false}
 use lib.Dec.{eqb}
 use lib.ListN.{length, set, length-set, length-append}
 use lib.Seq.{sets, length-sets}
-use Rattle.bench_board.specs.Board.{Left, lent, targetOf, runningOf, siliconOf}
+use Rattle.bench_board.specs.Board.{Left, lent, targetOf, runningOf}
 use Rattle.bench_board.specs.Meets.{listsOf, metOf}
 use Rattle.bench_board.specs.declared.CallOutcome.{CallOutcome}
-use Rattle.bench_board.specs.declared.LineEvent.{LineEvent}
+use Rattle.flow.specs.declared.LineEvent.{LineEvent}
 use Rattle.bench_board.specs.declared.Met.{Met}
 use Rattle.bench_board.specs.declared.Registers.{Registers}
 use Rattle.bench_board.specs.declared.Running.{Running}
 use Rattle.bench_board.specs.declared.Running.the-variants.{Idle, Busy}
-use Rattle.bench_board.specs.declared.Silicon.{Silicon}
+use Rattle.flow.specs.declared.Silicon.{Silicon}
+use Rattle.bench_c.specs.BoardAsked.{meetingIn, askedFor, askedOf, metWith, answeredFor}
 use Rattle.bench_c.specs.BoardBytes.{callOutcomeAt, isCallOutcome, registersIn, isBoard, eventIn, isEvent, packetIn, isPacket, siliconBytes, runBytes, runningBytes, wordsBytes, boardBytes, replyBytes, answerBytes, usedOf, emptied, RunningPut, BoardPut}
 use Rattle.bench_c.specs.BoardCalls.{Bench, benchOf, Benched, benched, benchAfter, isBench, sizesFit, meetFor, meetCall}
-use Rattle.bench_c.specs.BoardAsked.{meetingIn, askedFor, askedOf, metWith, answeredFor}
 use Rattle.bench_c.specs.declared.Asked.{Asked}
 use Rattle.bench_c.specs.declared.Asked.the-variants.{Returned, Meets}
 use Rattle.bench_c.specs.declared.Meeting.{Meeting}
@@ -65,7 +65,7 @@ module _ (b b₁ b₂ b₃ : List ℕ) where
   pub silicon-put : (b₄ : List ℕ) (s : Silicon) → length b ≡ 46 → b₁ ≡ wordPut b 0 (s .idcode) → b₂ ≡ sets b₁ 4 (s .high ∷ s .low ∷ [])
       → b₃ ≡ sets b₂ 6 (s .revision ∷ s .family ∷ [])
       → b₄ ≡ wordPut b₃ 8 (s .«privileged_sum»)
-      → b₄ ≡ sets b 0 (siliconBytes (siliconOf s))
+      → b₄ ≡ sets b 0 (siliconBytes s)
   silicon-put b₄ s n e f g h =
       let u = s .high ∷ s .low ∷ [] in
       let v = s .revision ∷ s .family ∷ [] in
@@ -116,14 +116,14 @@ board-length t =
 
 -- the IDs, the levels, the words, what is under way
 module _ (b b₁ b₂ b₃ b₄ : List ℕ) (r : Registers) where
-  pub board-put : length b ≡ 46 → b₁ ≡ sets b 0 (siliconBytes (siliconOf (r .silicon))) → b₂ ≡ sets b₁ 12 (r .stored % 16 ∷ r .effect ∷ [])
+  pub board-put : length b ≡ 46 → b₁ ≡ sets b 0 (siliconBytes (r .silicon)) → b₂ ≡ sets b₁ 12 (r .stored % 16 ∷ r .effect ∷ [])
       → b₃ ≡ sets b₂ 14 (wordsBytes (r .sysarg) (r .sysreq) (r .«test_mode») (r .tar) (r .posted))
       → ((x : Left) → b₄ ≡ sets b₃ 34 (runningBytes (runningOf x (r .running))))
       → BoardPut r b₄
   unfolding boardBytes
   board-put n e₁ e₂ e₃ e₄ x d =
       let t = targetOf x r d in
-      let whole : b₄ ≡ sets b 0 (boardBytes t) = four b b₁ b₂ b₃ 0 12 14 (siliconBytes (siliconOf (r .silicon))) (r .stored % 16 ∷ r .effect ∷ []) (wordsBytes (r .sysarg) (r .sysreq) (r .«test_mode») (r .tar) (r .posted)) b₄ 34 (runningBytes (runningOf x (r .running))) e₁ e₂ e₃ (e₄ x) in
+      let whole : b₄ ≡ sets b 0 (boardBytes t) = four b b₁ b₂ b₃ 0 12 14 (siliconBytes (r .silicon)) (r .stored % 16 ∷ r .effect ∷ []) (wordsBytes (r .sysarg) (r .sysreq) (r .«test_mode») (r .tar) (r .posted)) b₄ 34 (runningBytes (runningOf x (r .running))) e₁ e₂ e₃ (e₄ x) in
       whole ∙ sets-whole b (boardBytes t) (board-length t ∙ sym n)
 
 module _ (l m : List ℕ) (r : Running) where

@@ -8,19 +8,19 @@ use lib.ListN.{getD}
 use lib.Seq.{sets}
 use Rattle.bench_board.specs.Board.{Buffers, Left, runningOf, targetOf}
 use Rattle.bench_board.specs.declared.CallOutcome.{CallOutcome}
-use Rattle.bench_lines.specs.declared.TransferOutcome.{TransferOutcome}
-use Rattle.bench_lines.specs.declared.TransferOutcome.the-variants.{Clean, Waits, Faults, WrongParity, Silent}
-use Rattle.bench_board.specs.declared.LineEvent.{LineEvent}
+use Rattle.flow.specs.declared.LineEvent.{LineEvent}
+use Rattle.flow.specs.declared.TransferOutcome.{TransferOutcome}
+use Rattle.flow.specs.declared.TransferOutcome.the-variants.{Clean, Waits, Faults, WrongParity, Silent}
 use Rattle.bench_board.specs.declared.Registers.{Registers}
 use Rattle.bench_board.specs.declared.Running.{Running}
 use Rattle.bench_board.specs.declared.Running.the-variants.{Idle, Busy}
-use Rattle.bench_board.specs.declared.Silicon.{Silicon}
 use Rattle.flow.specs.Target as Flow
 use Rattle.flow.specs.Target.{Target, Lists, idle, busy}
 use Rattle.flow.specs.declared.Answer.{Answer}
 use Rattle.flow.specs.declared.Answer.the-variants.{ResetDone, Transferred}
 use Rattle.flow.specs.declared.Packet.{Packet}
 use Rattle.flow.specs.declared.Packet.the-variants.{Xres, LineReset, Read, Write}
+use Rattle.flow.specs.declared.Silicon.{Silicon}
 use Rattle.image.specs.Words.{wordAt, lowFirst}
 use Rattle.layout.specs.Bytes.{flagByte}
 
@@ -98,8 +98,8 @@ isPacket bs = leb 1 (getD bs 0 0) && leb (getD bs 0 0) 4
 
 -- ---- put into bytes
 
-abbrev pub siliconBytes : Flow.Silicon → List ℕ
-siliconBytes s = lowFirst 4 (s .idcode) ++ (s .high ∷ s .low ∷ s .revision ∷ s .family ∷ lowFirst 4 (s .privilegedSum))
+abbrev pub siliconBytes : Silicon → List ℕ
+siliconBytes s = lowFirst 4 (s .idcode) ++ (s .high ∷ s .low ∷ s .revision ∷ s .family ∷ lowFirst 4 (s .«privileged_sum»))
 
 abbrev pub runBytes : (state reads succeeds sysarg level number : ℕ) → List ℕ
 runBytes state reads succeeds sysarg level number = state ∷ (lowFirst 4 reads ++ (succeeds ∷ (lowFirst 4 sysarg ++ (level ∷ number ∷ []))))

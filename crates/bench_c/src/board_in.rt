@@ -4,13 +4,13 @@ ghost use Prim.Native.Nat.{_+_, _≤_};
 ghost use lib.ListN.{length};
 ghost use Rattle.bench_c.specs.BoardBytes.{callOutcomeAt, isCallOutcome, siliconIn, runningIn, registersIn, isBoard, transferOutcomeIn, eventIn, isEvent, packetIn, isPacket};
 use bench_board::CallOutcome;
-use bench_board::LineEvent;
 use bench_board::Registers;
 use bench_board::Running;
-use bench_board::Silicon;
-use bench_board::TransferOutcome;
+use flow::LineEvent;
 use flow::Packet;
 use flow::Reply;
+use flow::Silicon;
+use flow::TransferOutcome;
 
 // How a call will go, from a place on.
 pub(crate) fn call_outcome_at(bytes: &[u8], at: usize) -> CallOutcome

@@ -4,13 +4,12 @@ ghost use mathlib.Core.Path.{_≡_};
 ghost use Prim.Native.Nat.{_+_, _≤_};
 ghost use lib.ListN.{length};
 ghost use lib.Seq.{sets};
-ghost use Rattle.bench_board.specs.Board.{siliconOf};
 ghost use Rattle.bench_c.specs.BoardBytes.{siliconBytes, runBytes, wordsBytes, replyBytes, answerBytes, usedOf, RunningPut, BoardPut};
 ghost use Rattle.image.specs.Words.{lowFirst};
 use bench_board::Registers;
 use bench_board::Running;
-use bench_board::Silicon;
 use flow::Answer;
+use flow::Silicon;
 use layout::flag_byte;
 use layout::put_word;
 
@@ -34,7 +33,7 @@ fn put_flagged(bytes: &mut [u8], at: usize, flag: u8, word: u32)
 
 fn put_silicon(bytes: &mut [u8], s: Silicon)
     requires { ⌜ length (now bytes) ≡ 46 ⌝ }
-    ensures { λ _. ⌜ now (bytes .exit) ≡ sets (now (bytes .entry)) 0 (siliconBytes (siliconOf s)) ⌝ }
+    ensures { λ _. ⌜ now (bytes .exit) ≡ sets (now (bytes .entry)) 0 (siliconBytes s) ⌝ }
 {
     put_word(bytes, 0, s.idcode);
     put_pair(bytes, 4, s.high, s.low);

@@ -9,7 +9,6 @@ mod board_in;
 mod board_out;
 
 use bench_board::CallOutcome;
-use bench_board::LineEvent;
 use bench_board::Registers;
 use board_in::call_outcome_at;
 use board_in::event_in;
@@ -21,6 +20,7 @@ use board_in::packet_in;
 use board_in::registers_in;
 use board_out::put_answer;
 use board_out::put_board;
+use flow::LineEvent;
 use flow::Packet;
 use parts::Geometry;
 use parts::Lookup;

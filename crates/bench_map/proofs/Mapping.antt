@@ -7,9 +7,9 @@ use native.Mathlib.Omega.{arith}
 use lib.Dec.{leb, ltb}
 use borrow.Author.Tests.{ltb-true, leb-true, ltb-false, lt-ltb, le-ltb, le-leb}
 use Rattle.flow.specs.Map.{paramsSize, search, lockRegions, regions, place}
+use Rattle.flow.specs.Sequence.{lockStart}
 use Rattle.flow.specs.declared.Place.{Place}
 use Rattle.flow.specs.declared.Place.the-variants.{InFlash, InLocks, InParams, AtLevel, AtSysreq, AtSysarg, AtTestMode, Elsewhere}
-use Rattle.flow.specs.Sequence.{lockStart}
 use Rattle.parts.specs.Sizes.{rowsPerMacro, macrosOf, flashSize, locksIn, sysreqOf, sysargOf, PARAMS, TEST-MODE, locksAt, levelAt}
 use Rattle.parts.specs.declared.Geometry.{Geometry}
 

@@ -6,10 +6,10 @@ use Prim.Native.Nat.{ℕ}
 use borrow.Author.Tests.{eq-eqb, ne-eqb}
 use lib.ListN.{length}
 use lib.Seq.{sets}
-use Rattle.core_c.specs.Outcomes.{outcomeBytes}
-use Rattle.core_c.specs.Sessions.{sessionIn, isSession}
 use Rattle.core_c.specs.Calls.{CallResult, callResult, wrongLength, readInto, readCall, writeInto, writeCall, yes, givenInto, startCall, stepInto, stepCall}
+use Rattle.core_c.specs.Outcomes.{outcomeBytes}
 use Rattle.core_c.specs.Records.{recordBytes, recordIn}
+use Rattle.core_c.specs.Sessions.{sessionIn, isSession}
 use Rattle.flow.specs.declared.Answer.{Answer}
 use Rattle.hex.specs.Texts.{hexReading}
 use Rattle.hex_writer.specs.Writing.{writeOf, textAfter}

@@ -5,9 +5,9 @@ use mathlib.Core.Path.{_≡_, refl, ap}
 use Rattle.bench_board.specs.Meets.{listsOf}
 use Rattle.dry.specs.Playing.{noLists, nothing, calmEvent, calmOutcome}
 use Rattle.flow.specs.Exchange.{Met, decode, killed, barred, met, callsOn, transferred, meetOn, meet}
+use Rattle.flow.specs.Target.{Target, Lists, nextEvent}
 use Rattle.flow.specs.declared.Decoded.{Decoded}
 use Rattle.flow.specs.declared.Decoded.the-variants.{Known, Unknown}
-use Rattle.flow.specs.Target.{Target, Lists, nextEvent}
 use Rattle.flow.specs.declared.Packet.{Packet}
 use Rattle.flow.specs.declared.Reply.{Reply}
 use Rattle.flow.specs.declared.Request.{Request}

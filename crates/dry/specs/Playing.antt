@@ -6,8 +6,8 @@ use mathlib.Core.Path.{_≡_}
 use Prim.Native.Nat.{ℕ, _<_}
 use Rattle.bench_board.specs.Board.{Buffers, Left, left, targetOf}
 use Rattle.bench_board.specs.declared.CallOutcome.{CallOutcome}
-use Rattle.flow.specs.declared.TransferOutcome.the-variants.{Clean}
 use Rattle.flow.specs.declared.LineEvent.{LineEvent}
+use Rattle.flow.specs.declared.TransferOutcome.the-variants.{Clean}
 use Rattle.bench_board.specs.declared.Registers.{Registers}
 use Rattle.bench_board.specs.declared.Running.the-variants.{Idle}
 use Rattle.dry.specs.declared.AfterTurn.{AfterTurn}

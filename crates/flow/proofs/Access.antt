@@ -9,8 +9,6 @@ use mathlib.Core.Logic.{_⊎_, inl, inr}
 use Rattle.flow.specs.Exchange.{carry, barred, guarded, isSysreq, isCall, store, begin, fetch}
 use Rattle.flow.specs.Judge.{judge}
 use Rattle.flow.specs.Map.{place}
-use Rattle.flow.specs.declared.Place.{Place}
-use Rattle.flow.specs.declared.Place.the-variants.{InFlash, InLocks, InParams, AtLevel, AtSysreq, AtSysarg, AtTestMode, Elsewhere}
 use Rattle.flow.specs.Monitor.{watching, Watch, Delays, noticed, noticeRead, noticeStore}
 use Rattle.flow.specs.Run.{Run}
 use Rattle.flow.specs.Sequence.{write, read}
@@ -18,6 +16,8 @@ use Rattle.flow.specs.Session.{running, judgedTo}
 use Rattle.flow.specs.Target.{Target, CallOutcome, nextOutcome, rest, setTar}
 use Rattle.flow.specs.declared.Entry.{Entry}
 use Rattle.flow.specs.declared.Move.{Move}
+use Rattle.flow.specs.declared.Place.{Place}
+use Rattle.flow.specs.declared.Place.the-variants.{InFlash, InLocks, InParams, AtLevel, AtSysreq, AtSysarg, AtTestMode, Elsewhere}
 use Rattle.flow.specs.declared.Purpose.{Purpose}
 use Rattle.flow.specs.declared.Request.the-variants.{ReadDrw, WriteTar, WriteDrw}
 use Rattle.flow.proofs.Hearing.{aTar, aDrw, aRead}

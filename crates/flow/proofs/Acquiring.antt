@@ -10,18 +10,18 @@ use borrow.Author.Tests.{eq-eqb}
 use Rattle.flow.specs.Calls.{finish, effectOf, sysargAfter, sysreqAfter, afterFailure}
 use Rattle.flow.specs.Exchange.{carry}
 use Rattle.flow.specs.Judge.{free, succeeded, testBitSet, idsFit, levelIn, judge}
-use Rattle.flow.specs.declared.Place.the-variants.{AtSysreq, AtSysarg, AtTestMode}
 use Rattle.flow.specs.Monitor.{watching, noticed, noticeRead}
 use Rattle.flow.specs.Run.{Run}
 use Rattle.flow.specs.Sequence.{move, key, write, read, poll, call, imoCall, acquire}
 use Rattle.flow.specs.Session.{judgedTo}
 use Rattle.flow.specs.Target.{Target, Memory, Residue, idle, setReset}
-use Rattle.flow.specs.declared.Silicon.{Silicon}
 use Rattle.flow.specs.declared.Entry.{Entry}
 use Rattle.flow.specs.declared.Move.{Move}
+use Rattle.flow.specs.declared.Place.the-variants.{AtSysreq, AtSysarg, AtTestMode}
 use Rattle.flow.specs.declared.Purpose.{Purpose}
 use Rattle.flow.specs.declared.Purpose.the-variants.{Sent, Idcode, TestBit, Poll, Keep}
 use Rattle.flow.specs.declared.Request.the-variants.{LineReset, ReadIdcode, WriteSetup}
+use Rattle.flow.specs.declared.Silicon.{Silicon}
 use Rattle.flow.proofs.Access.{Answering, admits, write-reaches, read-still}
 use Rattle.flow.proofs.Attempts.{barred-off, xres-reaches, trying, attempts}
 use Rattle.flow.proofs.Calling.{Command, calling, free-zero}

@@ -17,14 +17,14 @@ use Rattle.flow.specs.Run.{Run, advance}
 use Rattle.flow.specs.Sequence.{move}
 use Rattle.flow.specs.Session.{running, judgedTo, heardBy, stepOf}
 use Rattle.flow.specs.Target.{Target, Lists, idle, nextEvent, setReset}
-use Rattle.flow.specs.declared.TransferOutcome.the-variants.{Clean}
-use Rattle.flow.specs.declared.Silicon.{Silicon}
 use Rattle.flow.specs.declared.Entry.{Entry}
 use Rattle.flow.specs.declared.Move.{Move}
 use Rattle.flow.specs.declared.Purpose.{Purpose}
 use Rattle.flow.specs.declared.Purpose.the-variants.{Sent, Idcode}
 use Rattle.flow.specs.declared.Request.{Request}
 use Rattle.flow.specs.declared.Request.the-variants.{Xres, LineReset, ReadIdcode}
+use Rattle.flow.specs.declared.Silicon.{Silicon}
+use Rattle.flow.specs.declared.TransferOutcome.the-variants.{Clean}
 use Rattle.flow.proofs.Hearing.{attempt, meets, listsAfter, Heard, heardOkay, heardWait, heardError, heardErrorDone, hears}
 use Rattle.flow.proofs.Reaches.{Allowance, Env, sync, Frame, Stood, at-move, at-next, Reaches, stop, steps, clear}
 use Rattle.flow.proofs.Transfer.{more, passed, calm-event, calm-rest}

@@ -9,12 +9,12 @@ use Rattle.flow.specs.Calls.{finish, effectOf, sysargAfter, sysreqAfter,
 use Rattle.flow.specs.Claim.{CalmCalls, callsEnd, calmCall}
 use Rattle.flow.specs.Exchange.{isCall}
 use Rattle.flow.specs.Judge.{free, succeeded, judge}
-use Rattle.flow.specs.declared.Place.the-variants.{AtSysreq, AtSysarg}
 use Rattle.flow.specs.Monitor.{Watch, noticeRead}
 use Rattle.flow.specs.Sequence.{call, poll, read, write}
 use Rattle.flow.specs.Target.{Target, Residue, CallOutcome, idle, busy, nextOutcome}
 use Rattle.flow.specs.declared.Entry.{Entry}
 use Rattle.flow.specs.declared.Move.{Move}
+use Rattle.flow.specs.declared.Place.the-variants.{AtSysreq, AtSysarg}
 use Rattle.flow.specs.declared.Purpose.the-variants.{Status}
 use Rattle.flow.proofs.Access.{aim, Answering, admits, write-reaches, call-reaches, read-still}
 use Rattle.flow.proofs.Places.{place-sysreq, place-sysarg}

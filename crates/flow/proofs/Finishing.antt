@@ -9,17 +9,17 @@ use native.Mathlib.Omega.{arith}
 use borrow.Author.Tests.{eq-eqb}
 use Rattle.flow.specs.Calls.{finish, effectOf, sysargAfter, sysreqAfter, afterFailure}
 use Rattle.flow.specs.Judge.{free, succeeded, sumsFit, judge}
-use Rattle.flow.specs.declared.Place.the-variants.{AtSysarg}
 use Rattle.flow.specs.Monitor.{watching, noticeRead}
 use Rattle.flow.specs.Run.{Run}
 use Rattle.flow.specs.Sequence.{key, call, read, privileged, inTurn, programRow, verifyFlash, lockMacro, verifyMacro, program}
 use Rattle.flow.specs.Session.{judgedTo}
 use Rattle.flow.specs.Target.{Target, Memory, Residue}
-use Rattle.flow.specs.declared.Silicon.{Silicon}
 use Rattle.flow.specs.declared.Entry.{Entry}
 use Rattle.flow.specs.declared.Move.{Move}
+use Rattle.flow.specs.declared.Place.the-variants.{AtSysarg}
 use Rattle.flow.specs.declared.Purpose.{Purpose}
 use Rattle.flow.specs.declared.Purpose.the-variants.{Keep, StoredLevel, LastSum}
+use Rattle.flow.specs.declared.Silicon.{Silicon}
 use Rattle.flow.proofs.Access.{admits-open, read-still}
 use Rattle.flow.proofs.Calling.{Command, calling}
 use Rattle.flow.proofs.Legs.{Core, core, Leg}

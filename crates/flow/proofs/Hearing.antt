@@ -7,17 +7,17 @@ use lib.Count.{ones, onesIn}
 use lib.Dec.{eqb, lit≤}
 use borrow.Author.Tests.{eq-eqb, ne-eqb}
 use Rattle.flow.specs.Exchange.{decode, carry, gives, barred, killed, callsOn, replyWith, silentReply, okayReply, wrongParityReply, replyTo, carriedOut, Met, met, transferred, meet}
-use Rattle.flow.specs.declared.Decoded.{Decoded}
-use Rattle.flow.specs.declared.Decoded.the-variants.{Known, Unknown}
 use Rattle.flow.specs.Packets.{packetOf, isRead, okay, again, broken, heard, verdict}
 use Rattle.flow.specs.Target.{Target, Lists, nextEvent, nextOutcome, rest}
-use Rattle.flow.specs.declared.TransferOutcome.{TransferOutcome}
-use Rattle.flow.specs.declared.TransferOutcome.the-variants.{Clean, Waits, Faults, WrongParity, Silent}
-use Rattle.flow.specs.declared.LineEvent.{LineEvent}
 use Rattle.flow.specs.declared.Answer.the-variants.{Transferred}
+use Rattle.flow.specs.declared.Decoded.{Decoded}
+use Rattle.flow.specs.declared.Decoded.the-variants.{Known, Unknown}
+use Rattle.flow.specs.declared.LineEvent.{LineEvent}
 use Rattle.flow.specs.declared.Reply.{Reply}
 use Rattle.flow.specs.declared.Request.{Request}
 use Rattle.flow.specs.declared.Request.the-variants.{ReadIdcode, ReadDrw, WriteTar, WriteDrw, WriteSetup}
+use Rattle.flow.specs.declared.TransferOutcome.{TransferOutcome}
+use Rattle.flow.specs.declared.TransferOutcome.the-variants.{Clean, Waits, Faults, WrongParity, Silent}
 use Rattle.parts.specs.declared.Geometry.{Geometry}
 use Rattle.wire.specs.Wire.{parity, ackOf}
 use Rattle.wire.specs.declared.Ack.the-variants.{Silence}

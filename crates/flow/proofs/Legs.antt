@@ -5,9 +5,9 @@ use Prim.Native.Nat.{ℕ, zero, suc, _+_, _<_}
 use native.Mathlib.Omega.{arith}
 use Rattle.flow.specs.Sequence.{inTurn}
 use Rattle.flow.specs.Target.{Target, Memory, Running}
-use Rattle.flow.specs.declared.Silicon.{Silicon}
 use Rattle.flow.specs.declared.Entry.{Entry}
 use Rattle.flow.specs.declared.Move.{Move}
+use Rattle.flow.specs.declared.Silicon.{Silicon}
 use Rattle.flow.proofs.Polling.{idleAt}
 use Rattle.flow.proofs.Reaches.{Allowance, withMoves, Env, sync, Frame, Stood, Stands, split, Reaches}
 use Rattle.image.specs.Image.{Image}

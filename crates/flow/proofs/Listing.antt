@@ -8,11 +8,11 @@ use native.Mathlib.Omega.{arith}
 use lib.ListN.{length, drop, length-append}
 use Rattle.flow.specs.Calls.{finish, effectOf, sysargAfter, sysreqAfter}
 use Rattle.flow.specs.Judge.{free, succeeded}
-use Rattle.flow.specs.declared.Place.the-variants.{InParams}
 use Rattle.flow.specs.Sequence.{call, write, writes, listed}
 use Rattle.flow.specs.Target.{Target, Residue, idle}
 use Rattle.flow.specs.declared.Entry.{Entry}
 use Rattle.flow.specs.declared.Move.{Move}
+use Rattle.flow.specs.declared.Place.the-variants.{InParams}
 use Rattle.flow.proofs.Access.{admits-open, write-reaches}
 use Rattle.flow.proofs.Calling.{Command, calling}
 use Rattle.flow.proofs.Lists.{lay-next, length-lay}

@@ -7,10 +7,10 @@ use lib.Dec.{lit≤}
 use lib.ListN.{length, getD, length-append}
 use Rattle.flow.proofs.Hearing.{aTar, aDrw, aRead, aCtrl, aSelect, aCsw, attempt, plain, decodes}
 use Rattle.flow.specs.Exchange.{decode}
-use Rattle.flow.specs.declared.Decoded.the-variants.{Known}
 use Rattle.flow.specs.Packets.{packetOf}
 use Rattle.flow.specs.Sequence.{move, write, read, call, writes, listed, inTurn, imoCall, acquire, silicon, privileged, programRow, lockMacro, verifyMacro, program, opening, afterwards, sequence, endMove, key}
 use Rattle.flow.specs.Session.{moveAt}
+use Rattle.flow.specs.declared.Decoded.the-variants.{Known}
 use Rattle.flow.specs.declared.Entry.{Entry}
 use Rattle.flow.specs.declared.Entry.the-variants.{FromOpen, FromProtected}
 use Rattle.flow.specs.declared.Move.{Move}

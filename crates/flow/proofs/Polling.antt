@@ -10,12 +10,12 @@ use Rattle.flow.specs.Calls.{finish}
 use Rattle.flow.specs.Exchange.{fetch}
 use Rattle.flow.specs.Judge.{free, judge}
 use Rattle.flow.specs.Map.{place}
-use Rattle.flow.specs.declared.Place.the-variants.{AtSysreq}
 use Rattle.flow.specs.Monitor.{Watch, oneBusy, stillBusy, noticeRead}
 use Rattle.flow.specs.Sequence.{poll}
 use Rattle.flow.specs.Target.{Target, Residue, Running, idle, busy, setSysreq}
 use Rattle.flow.specs.declared.Entry.{Entry}
 use Rattle.flow.specs.declared.Move.{Move}
+use Rattle.flow.specs.declared.Place.the-variants.{AtSysreq}
 use Rattle.flow.specs.declared.Purpose.the-variants.{Poll}
 use Rattle.flow.proofs.Access.{aim, Admits, read-any, read-still}
 use Rattle.flow.proofs.Reaches.{Allowance, withTransfer, Env, sync, Frame, Stood, less-room, Reaches, stop}

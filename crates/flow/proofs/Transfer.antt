@@ -16,12 +16,12 @@ use Rattle.flow.specs.Run.{Run, advance, handedOut}
 use Rattle.flow.specs.Sequence.{move}
 use Rattle.flow.specs.Session.{judgedTo, heardBy, stepOf}
 use Rattle.flow.specs.Target.{Target, Lists, CallOutcome, nextEvent, nextOutcome, rest}
-use Rattle.flow.specs.declared.TransferOutcome.the-variants.{Clean}
-use Rattle.flow.specs.declared.LineEvent.{LineEvent}
 use Rattle.flow.specs.declared.Entry.{Entry}
+use Rattle.flow.specs.declared.LineEvent.{LineEvent}
 use Rattle.flow.specs.declared.Move.{Move}
 use Rattle.flow.specs.declared.Purpose.{Purpose}
 use Rattle.flow.specs.declared.Request.{Request}
+use Rattle.flow.specs.declared.TransferOutcome.the-variants.{Clean}
 use Rattle.flow.proofs.Hearing.{Plain, aTar, aDrw, aRead, aCtrl, aSelect, aCsw, plain, meets, listsAfter, Heard, heardOkay, heardWait, heardError, heardErrorDone, hears}
 use Rattle.flow.proofs.Reaches.{Allowance, withTransfer, Env, sync, Frame, Stood, at-move, at-next, Bounded, Reaches, stop, steps, clear}
 use Rattle.image.specs.Image.{Image}

@@ -9,16 +9,16 @@ use native.Mathlib.Omega.{arith}
 use lib.ListN.{length, length-append}
 use Rattle.flow.specs.Claim.{Used, UndisturbedHolds}
 use Rattle.flow.specs.Exchange.{decode, carry, store, begin, isCall, isSysreq, killed, barred, carriedOut, callsOn, silentReply, replyTo, gives, Met, met, transferred, meetOn, meet}
-use Rattle.flow.specs.declared.Decoded.{Decoded}
-use Rattle.flow.specs.declared.Decoded.the-variants.{Known, Unknown}
 use Rattle.flow.specs.Map.{place}
-use Rattle.flow.specs.declared.Place.{Place}
-use Rattle.flow.specs.declared.Place.the-variants.{InFlash, InLocks, InParams, AtLevel, AtSysreq, AtSysarg, AtTestMode, Elsewhere}
 use Rattle.flow.specs.Packets.{packetOf, isRead}
 use Rattle.flow.specs.Run.{Run, advanceBy, advance, runAfter, started}
 use Rattle.flow.specs.Session.{SessionState, running, reported, moveAt}
 use Rattle.flow.specs.Target.{Target, CallOutcome, Lists, nextEvent, nextOutcome, rest}
+use Rattle.flow.specs.declared.Decoded.{Decoded}
+use Rattle.flow.specs.declared.Decoded.the-variants.{Known, Unknown}
 use Rattle.flow.specs.declared.LineEvent.{LineEvent}
+use Rattle.flow.specs.declared.Place.{Place}
+use Rattle.flow.specs.declared.Place.the-variants.{InFlash, InLocks, InParams, AtLevel, AtSysreq, AtSysarg, AtTestMode, Elsewhere}
 use Rattle.flow.specs.declared.Reply.{Reply}
 use Rattle.flow.specs.declared.Request.{Request}
 use Rattle.flow.specs.declared.Request.the-variants.{Xres, LineReset, ReadIdcode, ReadDrw, WriteTar, WriteDrw, WriteSetup}

@@ -10,12 +10,12 @@ use borrow.Author.Tests.{eq-eqb}
 use Rattle.flow.specs.Exchange.{levelWord}
 use Rattle.flow.specs.Judge.{judge, levelShown}
 use Rattle.flow.specs.Map.{place}
-use Rattle.flow.specs.declared.Place.the-variants.{InFlash, InLocks, AtLevel}
 use Rattle.flow.specs.Monitor.{noticeRead}
 use Rattle.flow.specs.Sequence.{read, inTurn, compareWord, verifyFlash, lockStart, verifyMacro}
 use Rattle.flow.specs.Target.{Target}
 use Rattle.flow.specs.declared.Entry.{Entry}
 use Rattle.flow.specs.declared.Move.{Move}
+use Rattle.flow.specs.declared.Place.the-variants.{InFlash, InLocks, AtLevel}
 use Rattle.flow.specs.declared.Purpose.the-variants.{Same, StoredLevel}
 use Rattle.flow.proofs.Access.{aim, admits-open, read-still}
 use Rattle.flow.proofs.Legs.{Core, core, Known, Leg, leg-pieces}

@@ -6,16 +6,16 @@ use mathlib.Core.Path.{_≡_}
 use Prim.Native.Nat.{ℕ, _+_, _/_, _≤_, _<_}
 use lib.Dec.{eqb}
 use lib.ListN.{length, getD}
+use Rattle.flow.specs.Monitor.{Monitor, watching, linkError, delayed}
 use Rattle.flow.specs.Plan.{plan, mostTraffic}
 use Rattle.flow.specs.Run.{Run, runAfter, started, handedOut}
 use Rattle.flow.specs.Session.{running, reported}
 use Rattle.flow.specs.Target.{Target, idle, CallOutcome, Lists}
-use Rattle.flow.specs.declared.TransferOutcome.the-variants.{Clean}
-use Rattle.flow.specs.declared.LineEvent.{LineEvent}
-use Rattle.flow.specs.declared.Silicon.{Silicon}
-use Rattle.flow.specs.Monitor.{Monitor, watching, linkError, delayed}
 use Rattle.flow.specs.declared.Entry.{Entry}
 use Rattle.flow.specs.declared.Entry.the-variants.{FromOpen, FromProtected}
+use Rattle.flow.specs.declared.LineEvent.{LineEvent}
+use Rattle.flow.specs.declared.Silicon.{Silicon}
+use Rattle.flow.specs.declared.TransferOutcome.the-variants.{Clean}
 use Rattle.image.specs.Checks.{metadataAt, imageFault}
 use Rattle.image.specs.Image.{Image, imageOf}
 use Rattle.image.specs.declared.Header.{Header}

@@ -6,22 +6,22 @@ use lib.Dec.{eqb, leb}
 use lib.ListN.{getD}
 use Rattle.flow.specs.Calls.{finish, reset}
 use Rattle.flow.specs.Map.{place}
-use Rattle.flow.specs.declared.Place.{Place}
-use Rattle.flow.specs.declared.Place.the-variants.{InFlash, InLocks, InParams, AtLevel, AtSysreq, AtSysarg, AtTestMode, Elsewhere}
 use Rattle.flow.specs.Packets.{isRead}
 use Rattle.flow.specs.Target.{Target, CallOutcome, Running, idle, busy, Lists, nextEvent, nextOutcome, rest, lay, setTar, setPosted, setParams, setSysarg, setTestMode, setSysreq}
-use Rattle.flow.specs.declared.TransferOutcome.{TransferOutcome}
-use Rattle.flow.specs.declared.TransferOutcome.the-variants.{Clean, Waits, Faults, WrongParity, Silent}
-use Rattle.flow.specs.declared.LineEvent.{LineEvent}
 use Rattle.flow.specs.declared.Answer.{Answer}
 use Rattle.flow.specs.declared.Answer.the-variants.{ResetDone, Transferred}
 use Rattle.flow.specs.declared.Decoded.{Decoded}
 use Rattle.flow.specs.declared.Decoded.the-variants.{Known, Unknown}
+use Rattle.flow.specs.declared.LineEvent.{LineEvent}
 use Rattle.flow.specs.declared.Packet as Packets
 use Rattle.flow.specs.declared.Packet.{Packet}
+use Rattle.flow.specs.declared.Place.{Place}
+use Rattle.flow.specs.declared.Place.the-variants.{InFlash, InLocks, InParams, AtLevel, AtSysreq, AtSysarg, AtTestMode, Elsewhere}
 use Rattle.flow.specs.declared.Reply.{Reply}
 use Rattle.flow.specs.declared.Request.{Request}
 use Rattle.flow.specs.declared.Request.the-variants.{Xres, LineReset, ReadIdcode, ReadDrw, WriteTar, WriteDrw, WriteSetup}
+use Rattle.flow.specs.declared.TransferOutcome.{TransferOutcome}
+use Rattle.flow.specs.declared.TransferOutcome.the-variants.{Clean, Waits, Faults, WrongParity, Silent}
 use Rattle.image.specs.Words.{wordAt}
 use Rattle.parts.specs.declared.Geometry.{Geometry}
 use Rattle.wire.specs.Wire.{parity}

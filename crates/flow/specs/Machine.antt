@@ -7,10 +7,10 @@ use Prim.Native.Nat.{ℕ, suc}
 use lib.Dec.{ltb}
 use lib.ListN.{length, getD}
 use Rattle.flow.specs.Judge.{Judged, go, pollAgain, enter, report, judge}
+use Rattle.flow.specs.Monitor.{isAttempt, isReset}
 use Rattle.flow.specs.Packets.{Verdict, okay, again, broken, verdict}
 use Rattle.flow.specs.Sequence.{sequence, afterwards, endMove}
 use Rattle.flow.specs.Session.{SessionState, running, reported, moveAt, stepOf, firstSession}
-use Rattle.flow.specs.Monitor.{isAttempt, isReset}
 use Rattle.flow.specs.declared.Answer.{Answer}
 use Rattle.flow.specs.declared.Entry.{Entry}
 use Rattle.flow.specs.declared.Entry.the-variants.{FromOpen}

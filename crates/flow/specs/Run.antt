@@ -2,11 +2,11 @@
 use mathlib.Core.Bool.{false}
 use Prim.Native.Nat.{ℕ, zero, suc}
 use Rattle.flow.specs.Exchange.{Met, meet}
+use Rattle.flow.specs.Monitor.{Monitor, watching, watch, noDelays}
 use Rattle.flow.specs.Packets.{packetOf}
 use Rattle.flow.specs.Plan.{Traffic, noTraffic, counting}
 use Rattle.flow.specs.Session.{SessionState, running, reported, moveAt, stepOf, firstSession}
 use Rattle.flow.specs.Target.{Target, Lists}
-use Rattle.flow.specs.Monitor.{Monitor, watching, watch, noDelays}
 use Rattle.flow.specs.declared.Move.{Move}
 use Rattle.image.specs.Image.{Image}
 

@@ -9,10 +9,10 @@ use Rattle.flow.specs.Claim.{Passes, Startable, Calm}
 use Rattle.flow.specs.Examples.{partOne, twoMacros}
 use Rattle.flow.specs.Plan.{mostTraffic}
 use Rattle.flow.specs.Target.{Target, Memory, Residue, idle}
-use Rattle.flow.specs.declared.TransferOutcome.the-variants.{Clean}
-use Rattle.flow.specs.declared.Silicon.{Silicon}
 use Rattle.flow.specs.declared.Entry.the-variants.{FromOpen, FromProtected}
 use Rattle.flow.specs.declared.Reply.{Reply}
+use Rattle.flow.specs.declared.Silicon.{Silicon}
+use Rattle.flow.specs.declared.TransferOutcome.the-variants.{Clean}
 use Rattle.image.specs.Checks.{imageFault}
 use Rattle.image.specs.declared.Header.{Header}
 use Rattle.parts.specs.Parts.{lookupOf}

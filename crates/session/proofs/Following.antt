@@ -6,13 +6,13 @@ use Prim.Native.Nat.{ℕ, suc, _≤_}
 use native.Mathlib.Omega.{arith}
 use lib.ListN.{length}
 use Rattle.flow.specs.Exchange.{decode, Met, meet}
-use Rattle.flow.specs.declared.Decoded.the-variants.{Known}
 use Rattle.flow.specs.Packets.{packetOf}
 use Rattle.flow.specs.Plan.{counting}
 use Rattle.flow.specs.Run.{Run, served, advanceBy, advance, runAfter, handedOut}
 use Rattle.flow.specs.Session.{running, reported, moveAt, stepOf}
 use Rattle.flow.specs.Session as Flow
 use Rattle.flow.specs.declared.Answer.{Answer}
+use Rattle.flow.specs.declared.Decoded.the-variants.{Known}
 use Rattle.flow.specs.declared.Entry.{Entry}
 use Rattle.flow.specs.declared.Move.{Move}
 use Rattle.flow.specs.declared.Packet.{Packet}

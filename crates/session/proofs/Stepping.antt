@@ -8,15 +8,15 @@ use borrow.Author.Tests.{eq-eqb}
 use lib.Dec.{eqb}
 use lib.ListN.{length}
 use Rattle.flow.specs.Exchange.{meetOn, transferred, met, killed, barred, carriedOut}
-use Rattle.flow.specs.declared.Decoded.the-variants.{Known}
 use Rattle.flow.specs.Monitor.{isReset}
 use Rattle.flow.specs.Plan.{Traffic}
 use Rattle.flow.specs.Run.{handedOutBy}
 use Rattle.flow.specs.Session.{running, reported, moveAt, stepOf}
 use Rattle.flow.specs.Session as Flow
 use Rattle.flow.specs.Target.{Target, Lists, nextEvent}
-use Rattle.flow.specs.declared.LineEvent.{LineEvent}
 use Rattle.flow.specs.declared.Answer.{Answer}
+use Rattle.flow.specs.declared.Decoded.the-variants.{Known}
+use Rattle.flow.specs.declared.LineEvent.{LineEvent}
 use Rattle.flow.specs.declared.Reply.{Reply}
 use Rattle.flow.specs.declared.Request.{Request}
 use Rattle.flow.specs.declared.Request.the-variants.{Xres, LineReset, ReadIdcode, ReadDrw, WriteTar, WriteDrw, WriteSetup}

@@ -4,13 +4,13 @@ use mathlib.Core.List.{List}
 use mathlib.Core.Path.{_≡_}
 use Prim.Native.Nat.{ℕ, suc}
 use Rattle.flow.specs.Exchange.{decode, Met, meet}
-use Rattle.flow.specs.declared.Decoded.{Decoded}
-use Rattle.flow.specs.declared.Decoded.the-variants.{Known, Unknown}
 use Rattle.flow.specs.Monitor.{Monitor, linkError, watch}
 use Rattle.flow.specs.Plan.{Traffic, noTraffic, countingPacket}
 use Rattle.flow.specs.Run.{started}
 use Rattle.flow.specs.Target.{Target, Lists}
 use Rattle.flow.specs.declared.Answer.{Answer}
+use Rattle.flow.specs.declared.Decoded.{Decoded}
+use Rattle.flow.specs.declared.Decoded.the-variants.{Known, Unknown}
 use Rattle.flow.specs.declared.Packet.{Packet}
 use Rattle.parts.specs.declared.Geometry.{Geometry}
 use Rattle.session.specs.Given.{stepWith}
