@@ -19,7 +19,7 @@ use Rattle.bench_board.specs.declared.Running.the-variants.{Idle, Busy}
 use Rattle.flow.specs.declared.Silicon.{Silicon}
 use Rattle.bench_c.specs.BoardAsked.{meetingIn, askedFor, askedOf, metWith, answeredFor}
 use Rattle.bench_c.specs.BoardBytes.{callOutcomeAt, isCallOutcome, registersIn, isBoard, eventIn, isEvent, packetIn, isPacket, siliconBytes, runBytes, runningBytes, wordsBytes, boardBytes, replyBytes, answerBytes, usedOf, emptied, RunningPut, BoardPut}
-use Rattle.bench_c.specs.BoardCalls.{Bench, benchOf, Benched, benched, benchAfter, isBench, sizesFit, meetFor, meetCall}
+use Rattle.bench_c.specs.BoardCalls.{Bench, benchOf, benched, benchAfter, isBench, sizesFit, meetFor, meetCall}
 use Rattle.bench_c.specs.declared.Asked.{Asked}
 use Rattle.bench_c.specs.declared.Asked.the-variants.{Returned, Meets}
 use Rattle.bench_c.specs.declared.Meeting.{Meeting}

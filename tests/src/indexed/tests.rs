@@ -14,10 +14,10 @@ fn same_as_the_session_of_places() {
         let run = random_run(&mut rng, part, macros);
         let (header, image) = (&run.header, &run.image);
         let lists = [Entry::Open, Entry::Protected].map(|entry| sequence(header, image, entry));
-        let (mut board, mut lists) = (run.board.clone(), run.lists.clone());
+        let (mut board, mut left) = (run.board.clone(), run.lists.clone());
         let ((mut session, mut outcome), mut bytes) = (start(header, image, true), started(header));
         while let Outcome::Request(request) = outcome {
-            let answer = board.answer(request, &mut lists);
+            let answer = board.answer(request, &mut left);
             outcome = session.step(image, answer);
             let got = step(&mut bytes, image.len(), answer, |_, entry| &lists[entry as usize]);
             assert_eq!(got, outcome);
