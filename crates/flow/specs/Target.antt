@@ -7,6 +7,8 @@ use Rattle.flow.specs.declared.LineEvent.{LineEvent}
 use Rattle.flow.specs.declared.Silicon.{Silicon}
 use Rattle.flow.specs.declared.TransferOutcome.the-variants.{Clean}
 
+-- `Silicon`, `TransferOutcome` and `LineEvent` are declared in src/lib.rt, since the bench board has them too
+
 -- what calls alter: 'flash, locks, stored level, .. latch'
 pub record Memory : Type 0 where
   pub flash : List ℕ

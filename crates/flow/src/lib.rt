@@ -82,7 +82,8 @@ pub enum Place {
     Elsewhere,
 }
 
-// What nothing alters of the target: 'IDs and S, a 28-bit privileged sum that no call alters'.
+// What nothing alters of the target: 'IDs and S, a 28-bit privileged sum that no call alters'; 'the IDs (IDCODE, high, low, revision,
+// family) are free'.
 pub struct Silicon {
     pub idcode: u32,
     pub high: u8,
@@ -98,6 +99,7 @@ pub enum TransferOutcome {
     Waits,
     Faults,
     WrongParity,
+    // Whether it was carried out.
     Silent(bool),
 }
 
