@@ -1,5 +1,6 @@
 // A session played to its report, on the board of its part.
 ghost use mathlib.Core.Path.{_≡_};
+ghost use Prim.Native.Nat.{_≤_};
 ghost use lib.ListN.{length};
 use crate::answering;
 use crate::digest;
@@ -142,12 +143,34 @@ fn blank_words() -> [u32; 34]
     [0; 34]
 }
 
-// The board's memory has the sizes of its part.
-fn play_from(first: Bench, g: Geometry, overrides: Overrides, image: &[u8]) {
+// The sizes of a board's memory.
+struct Sizes {
+    flash: usize,
+    locks: usize,
+    latch: usize,
+    params: usize,
+}
+
+fn sizes_of(g: Geometry) -> Sizes
+    ensures { λ r. ⌜ r .flash ≤ 131072 ⌝ ∗ ⌜ r .locks ≤ 128 ⌝ ∗ ⌜ r .latch ≤ 128 ⌝ ∗ ⌜ r .params ≤ 34 ⌝ }
+{
     let p = g.part;
     let row = crate::at_most(p.row_bytes as usize, 128);
-    let size = crate::at_most(parts::flash_size(g), 131072);
-    let total = crate::at_most(parts::lock_total(g), 128);
+    Sizes {
+        flash: crate::at_most(parts::flash_size(g), 131072),
+        locks: crate::at_most(parts::lock_total(g), 128),
+        latch: row,
+        params: 2 + row / 4,
+    }
+}
+
+// The board's memory has the sizes of its part.
+fn play_from(first: Bench, g: Geometry, overrides: Overrides, image: &[u8]) {
+    let sizes = sizes_of(g);
+    let size = sizes.flash;
+    let total = sizes.locks;
+    let row = sizes.latch;
+    let words = sizes.params;
     let mut flash = crate::blank_image();
     let mut locks = blank_bytes();
     let mut latch = blank_bytes();
@@ -160,7 +183,7 @@ fn play_from(first: Bench, g: Geometry, overrides: Overrides, image: &[u8]) {
         &mut flash[..size],
         &mut locks[..total],
         &mut latch[..row],
-        &mut params[..2 + row / 4],
+        &mut params[..words],
         b"",
     );
     print_last(last, image);
