@@ -23,21 +23,17 @@ pub(crate) fn at_most(n: usize, most: usize) -> usize
     if n < most { n } else { most }
 }
 
-fn take_case(part: u8) {
-    let c = reading::read_case(part);
-    let mut image = blank_image();
-    filling::fill(&mut image, c.seed);
-    let size = at_most(c.length as usize, 131200);
-    play::print_case(c, &image[..size]);
-}
-
 // Reads a case and prints its line; false where the input has ended.
 fn next_case() -> bool {
     let part = cases::read_number(255);
     if part.ended {
         return false;
     }
-    take_case(part.value as u8);
+    let c = reading::read_case(part.value as u8);
+    let mut image = blank_image();
+    filling::fill(&mut image, c.seed);
+    let size = at_most(c.length as usize, 131200);
+    play::print_case(c, &image[..size]);
     true
 }
 

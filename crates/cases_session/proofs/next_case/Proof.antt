@@ -3,13 +3,16 @@ use mathlib.Core.Path.{sym}
 use native.Mathlib.Omega.{arith}
 use borrow.Author.Needs.{needs}
 use lib.Seq.{length-take-le}
-use Rattle.cases_session.proofs.take_case.Statement.{statement}
-use Rattle.cases_session.proofs.take_case.Tie as tie
+use Rattle.cases_session.proofs.next_case.Statement.{statement}
+use Rattle.cases_session.proofs.next_case.Tie as tie
 
-pub take-case-spec : {M : Type 1} → statement M
-take-case-spec =
+pub next-case-spec : {M : Type 1} → statement M
+next-case-spec =
     tie.close
     (tie.spec
+    (λ c κs. search needs)
+    (λ c. search needs)
+    (λ c. search needs)
     (λ c κs. search needs)
     (λ c κs. search needs)
     (λ c. search needs)
