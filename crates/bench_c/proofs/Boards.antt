@@ -16,16 +16,15 @@ use Rattle.bench_board.specs.declared.Met.{Met}
 use Rattle.bench_board.specs.declared.Registers.{Registers}
 use Rattle.bench_board.specs.declared.Running.{Running}
 use Rattle.bench_board.specs.declared.Running.the-variants.{Idle, Busy}
-use Rattle.flow.specs.declared.Silicon.{Silicon}
-use Rattle.bench_c.specs.BoardAsked.{meetingIn, askedFor, askedOf, metWith, answeredFor}
+use Rattle.bench_c.specs.BoardAsked.{askedFor, askedOf, numberOf, metWith, answeredFor}
 use Rattle.bench_c.specs.BoardBytes.{callOutcomeAt, isCallOutcome, registersIn, isBoard, eventIn, isEvent, packetIn, isPacket, siliconBytes, runBytes, runningBytes, wordsBytes, boardBytes, replyBytes, answerBytes, usedOf, emptied, RunningPut, BoardPut}
-use Rattle.bench_c.specs.BoardCalls.{Bench, benchOf, benched, benchAfter, isBench, sizesFit, meetFor, meetCall}
+use Rattle.bench_c.specs.BoardCalls.{Bench, benchOf, Benched, benched, benchAfter, isBench, sizesFit, meetFor, meetCall}
 use Rattle.bench_c.specs.declared.Asked.{Asked}
 use Rattle.bench_c.specs.declared.Asked.the-variants.{Returned, Meets}
-use Rattle.bench_c.specs.declared.Meeting.{Meeting}
 use Rattle.flow.specs.Exchange as Flow
 use Rattle.flow.specs.Target as Target
 use Rattle.flow.specs.Target.{idle, busy}
+use Rattle.flow.specs.declared.Silicon.{Silicon}
 use Rattle.flow.specs.declared.Answer.{Answer}
 use Rattle.flow.specs.declared.Answer.the-variants.{ResetDone, Transferred}
 use Rattle.flow.specs.declared.Packet.{Packet}
@@ -154,12 +153,12 @@ used-same true false a b = refl
 used-same false true a b = refl
 used-same false false a b = refl
 
-module _ (w : Meeting) (x : Left) (b b′ : Bench) (m : Met) where
-  pub met-bench : metOf x (w .event) (w .outcome) m (lent (b′ .flash) (b′ .locks) (b′ .latch) (b′ .params))
-      ≡ Flow.meet (w .geometry) (w .packet) (listsOf x (w .event) (w .outcome)) (targetOf x (w .registers) (lent (b .flash) (b .locks) (b .latch) (b .params)))
+module _ (g : Geometry) (r : Registers) (p : Packet) (e : LineEvent) (o : CallOutcome) (x : Left) (b b′ : Bench) (m : Met) where
+  pub met-bench : metOf x e o m (lent (b′ .flash) (b′ .locks) (b′ .latch) (b′ .params))
+      ≡ Flow.meet g p (listsOf x e o) (targetOf x r (lent (b .flash) (b .locks) (b .latch) (b .params)))
       → BoardPut (m .registers) (b′ .board)
       → b′ .answer ≡ answerBytes (m .answer) (usedOf (m .«line_used») (m .«call_used»))
-      → b′ ≡ metWith w x b
+      → b′ ≡ metWith g r p e o x b
   unfolding benchAfter
   met-bench met put says =
       ap (λ (n : List ℕ). benchOf n (b′ .flash) (b′ .locks) (b′ .latch) (b′ .params) (b′ .answer)) (put x (lent (b′ .flash) (b′ .locks) (b′ .latch) (b′ .params)))
@@ -207,7 +206,7 @@ module _ (b e c q : List ℕ) where
   pub asked-meeting : (g : Geometry) (r : Registers) (p : Packet) (v : LineEvent) (o : CallOutcome) → isBench b e c q ≡ true → r ≡ registersIn b → p ≡ packetIn q
       → v ≡ eventIn e
       → o ≡ callOutcomeAt c 0
-      → Meets (record { geometry = g; registers = r; packet = p; event = v; outcome = o }) ≡ askedFor (Found g) b e c q
+      → Meets g r p v o ≡ askedFor (Found g) b e c q
   asked-meeting g r p v o h er ep ev eo = rw (er, ep, ev, eo, h)
 
 module _ (part macros : ℕ) (b e c q a : List ℕ) where
@@ -219,27 +218,28 @@ module _ (part macros : ℕ) (b e c q a : List ℕ) where
 
 -- ---- what is asked for, answered
 
-abbrev meets : Asked → Bool
+abbrev pub meets : Asked → Bool
 meets (Returned n) = false
-meets (Meets w) = true
+meets (Meets g r p e o) = true
 
 -- only bytes of the right lengths ask for a request to be met
-pub meets-sized : (part macros : ℕ) (b e c q a : List ℕ) (y : Asked) (w : Meeting) → y ≡ askedOf part macros b e c q a → y ≡ Meets w
+pub meets-sized : (part macros : ℕ) (b e c q a : List ℕ) (y : Asked) → y ≡ askedOf part macros b e c q a → meets y ≡ true
     → (length b ≡ 46) × ((length e ≡ 11) × ((length c ≡ 10) × ((length q ≡ 8) × (length a ≡ 8))))
-meets-sized part macros b e c q a y w h k = sized b e c q a (by (sizesFit b e c q a) (ap meets (sym k ∙ h)))
+meets-sized part macros b e c q a y h k = sized b e c q a (by (sizesFit b e c q a) (sym k ∙ ap meets h))
   where
     by : (t : Bool) → true ≡ meets (cond t (askedFor (lookupOf part macros) b e c q) (Returned 12)) → t ≡ true
     by true k = refl
     by false k = absurd (false≢true (sym k))
 
 module _ (e c q : List ℕ) (x : Left) (b : Bench) where
-  answered-test : (k : Bool) (w : Meeting) → cond k (benched 0 (metWith w x b)) (benched 13 b) ≡ answeredFor (cond k (Meets w) (Returned 13)) x b
-  answered-test true w = refl
-  answered-test false w = refl
+  answered-test : (k : Bool) (g : Geometry) (r : Registers) (p : Packet) (v : LineEvent) (o : CallOutcome)
+      → cond k (benched 0 (metWith g r p v o x b)) (benched 13 b) ≡ answeredFor (cond k (Meets g r p v o) (Returned 13)) x b
+  answered-test true g r p v o = refl
+  answered-test false g r p v o = refl
 
   answered-lookup : (l : Lookup) → meetFor l e c q x b ≡ answeredFor (askedFor l (b .board) e c q) x b
   answered-lookup (Refused n) = refl
-  answered-lookup (Found g) = answered-test (isBench (b .board) e c q) (meetingIn g (b .board) e c q)
+  answered-lookup (Found g) = answered-test (isBench (b .board) e c q) g _ _ _ _
 
   answered-sizes : (k : Bool) (l : Lookup)
       → cond k (meetFor l e c q x b) (benched 12 b) ≡ answeredFor (cond k (askedFor l (b .board) e c q) (Returned 12)) x b
@@ -250,11 +250,14 @@ module _ (e c q : List ℕ) (x : Left) (b : Bench) where
   unfolding meetCall
   call-answered part macros = sym (answered-sizes (sizesFit (b .board) e c q (b .answer)) (lookupOf part macros))
 
-  pub call-returned : (part macros : ℕ) (y : Asked) (n : ℕ) → y ≡ askedOf part macros (b .board) e c q (b .answer) → y ≡ Returned n
+  pub call-returned : (part macros : ℕ) (y : Asked) (n k : ℕ) → y ≡ askedOf part macros (b .board) e c q (b .answer) → y ≡ Returned k → n ≡ numberOf y
       → benched n b ≡ meetCall part macros e c q x b
-  call-returned part macros y n h k = ap (λ (z : Asked). answeredFor z x b) (sym k ∙ h) ∙ call-answered part macros
+  call-returned part macros y n k h i j =
+      ap (λ (m : ℕ). benched m b) (j ∙ ap numberOf i) ∙ ap (λ (z : Asked). answeredFor z x b) (sym i ∙ h) ∙ call-answered part macros
 
-  pub call-met : (part macros : ℕ) (y : Asked) (w : Meeting) (b′ : Bench) → y ≡ askedOf part macros (b .board) e c q (b .answer) → y ≡ Meets w
-      → b′ ≡ metWith w x b
+  pub call-met : (part macros : ℕ) (y : Asked) (g : Geometry) (r : Registers) (p : Packet) (v : LineEvent) (o : CallOutcome) (b′ : Bench)
+      → y ≡ askedOf part macros (b .board) e c q (b .answer)
+      → y ≡ Meets g r p v o
+      → b′ ≡ metWith g r p v o x b
       → benched 0 b′ ≡ meetCall part macros e c q x b
-  call-met part macros y w b′ h k m = ap (benched 0) m ∙ ap (λ (z : Asked). answeredFor z x b) (sym k ∙ h) ∙ call-answered part macros
+  call-met part macros y g r p v o b′ h k m = ap (benched 0) m ∙ ap (λ (z : Asked). answeredFor z x b) (sym k ∙ h) ∙ call-answered part macros

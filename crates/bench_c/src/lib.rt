@@ -2,13 +2,15 @@
 ghost use mathlib.Core.Path.{_≡_};
 ghost use lib.ListN.{length};
 ghost use Rattle.bench_board.specs.Board.{left};
-ghost use Rattle.bench_c.specs.BoardAsked.{askedFor, askedOf, metWith};
+ghost use Rattle.bench_c.specs.BoardAsked.{askedFor, askedOf, numberOf};
+ghost use Rattle.bench_c.specs.BoardBytes.{answerBytes, usedOf, BoardPut};
 ghost use Rattle.bench_c.specs.BoardCalls.{benchOf, benched, isBench, sizesFit, meetCall};
 
 mod board_in;
 mod board_out;
 
 use bench_board::CallOutcome;
+use bench_board::Met;
 use bench_board::Registers;
 use board_in::call_outcome_at;
 use board_in::event_in;
@@ -61,19 +63,10 @@ fn is_bench(board: &[u8], event: &[u8], call: &[u8], request: &[u8]) -> bool
     is_packet(request)
 }
 
-// A request to meet, with all that it is met with.
-struct Meeting {
-    geometry: Geometry,
-    registers: Registers,
-    packet: Packet,
-    event: LineEvent,
-    outcome: CallOutcome,
-}
-
-// What bytes ask for: a number to return at once, or a request to meet.
+// What bytes ask for: a number to return at once, or a request to meet, with all that it is met with.
 enum Asked {
     Returned(u32),
-    Meets(Meeting),
+    Meets(Geometry, Registers, Packet, LineEvent, CallOutcome),
 }
 
 // What bytes of the right lengths ask for.
@@ -88,13 +81,7 @@ fn asked_on(g: Geometry, board: &[u8], event: &[u8], call: &[u8], request: &[u8]
     let p = packet_in(request);
     let e = event_in(event);
     let o = call_outcome_at(call, 0);
-    Asked::Meets(Meeting {
-        geometry: g,
-        registers: r,
-        packet: p,
-        event: e,
-        outcome: o,
-    })
+    Asked::Meets(g, r, p, e, o)
 }
 
 fn asked_of(
@@ -118,41 +105,21 @@ fn asked_of(
     }
 }
 
-// A request met, on bytes of a board's length.
-fn meet_on(
-    m: Meeting,
-    board: &mut [u8],
-    flash: &mut [u8],
-    locks: &mut [u8],
-    latch: &mut [u8],
-    params: &mut [u32],
-    left_flash: &[u8],
-    left_locks: &[u8],
-    left_latch: &[u8],
-    answer: &mut [u8],
-)
-    requires { ⌜ (length (now board) ≡ 46) × (length (now answer) ≡ 8) ⌝ }
-    ensures { λ _. ⌜ benchOf (now (board .exit)) (now (flash .exit)) (now (locks .exit)) (now (latch .exit)) (now (params .exit)) (now (answer .exit)) ≡ metWith m (left (now («left_flash» .entry)) (now («left_locks» .entry)) (now («left_latch» .entry))) (benchOf (now (board .entry)) (now (flash .entry)) (now (locks .entry)) (now (latch .entry)) (now (params .entry)) (now (answer .entry))) ⌝ }
+// The number of what is not to be met.
+fn number_of(a: Asked) -> u32
+    ensures { λ r. ⌜ r ≡ numberOf a ⌝ }
 {
-    let g = m.geometry;
-    let r = m.registers;
-    let p = m.packet;
-    let e = m.event;
-    let o = m.outcome;
-    let met = bench_board::meet(
-        g,
-        r,
-        flash,
-        locks,
-        latch,
-        params,
-        left_flash,
-        left_locks,
-        left_latch,
-        p,
-        e,
-        o,
-    );
+    match a {
+        Asked::Returned(n) => n,
+        Asked::Meets(_, _, _, _, _) => 0,
+    }
+}
+
+// Puts how a request was met.
+fn put_met(board: &mut [u8], answer: &mut [u8], met: Met)
+    requires { ⌜ (length (now board) ≡ 46) × (length (now answer) ≡ 8) ⌝ }
+    ensures { λ _. ⌜ BoardPut (met .registers) (now (board .exit)) ⌝ ∗ ⌜ now (answer .exit) ≡ answerBytes (met .answer) (usedOf (met .«line_used») (met .«call_used»)) ⌝ }
+{
     let registers = met.registers;
     let a = met.answer;
     put_board(board, registers);
@@ -180,22 +147,23 @@ pub extern "C" fn halzuqeen_bench_meet(
     ensures { λ r. ⌜ benched r (benchOf (now (board .exit)) (now (flash .exit)) (now (locks .exit)) (now (latch .exit)) (now (params .exit)) (now (answer .exit))) ≡ meetCall part macros (now (event .entry)) (now (call .entry)) (now (request .entry)) (left (now («left_flash» .entry)) (now («left_locks» .entry)) (now («left_latch» .entry))) (benchOf (now (board .entry)) (now (flash .entry)) (now (locks .entry)) (now (latch .entry)) (now (params .entry)) (now (answer .entry))) ⌝ }
 {
     let asked = asked_of(part, macros, board, event, call, request, answer);
-    match asked {
-        Asked::Returned(n) => n,
-        Asked::Meets(m) => {
-            meet_on(
-                m,
-                board,
-                flash,
-                locks,
-                latch,
-                params,
-                left_flash,
-                left_locks,
-                left_latch,
-                answer,
-            );
-            0
-        }
-    }
+    let Asked::Meets(g, r, p, e, o) = asked else {
+        return number_of(asked);
+    };
+    let met = bench_board::meet(
+        g,
+        r,
+        flash,
+        locks,
+        latch,
+        params,
+        left_flash,
+        left_locks,
+        left_latch,
+        p,
+        e,
+        o,
+    );
+    put_met(board, answer, met);
+    0
 }
