@@ -11,26 +11,26 @@ use lib.Seq.{sets, length-sets}
 use Rattle.bench_board.specs.Board.{Left, lent, targetOf, runningOf}
 use Rattle.bench_board.specs.Meets.{listsOf, metOf}
 use Rattle.bench_board.specs.declared.CallOutcome.{CallOutcome}
-use Rattle.flow.specs.declared.LineEvent.{LineEvent}
 use Rattle.bench_board.specs.declared.Met.{Met}
 use Rattle.bench_board.specs.declared.Registers.{Registers}
 use Rattle.bench_board.specs.declared.Running.{Running}
 use Rattle.bench_board.specs.declared.Running.the-variants.{Idle, Busy}
 use Rattle.bench_c.specs.BoardAsked.{askedFor, askedOf, numberOf, metWith, answeredFor}
 use Rattle.bench_c.specs.BoardBytes.{callOutcomeAt, isCallOutcome, registersIn, isBoard, eventIn, isEvent, packetIn, isPacket, siliconBytes, runBytes, runningBytes, wordsBytes, boardBytes, replyBytes, answerBytes, usedOf, emptied, RunningPut, BoardPut}
-use Rattle.bench_c.specs.BoardCalls.{Bench, benchOf, Benched, benched, benchAfter, isBench, sizesFit, meetFor, meetCall}
+use Rattle.bench_c.specs.BoardCalls.{Bench, benchOf, benched, benchAfter, isBench, sizesFit, meetFor, meetCall}
 use Rattle.bench_c.specs.declared.Asked.{Asked}
 use Rattle.bench_c.specs.declared.Asked.the-variants.{Returned, Meets}
 use Rattle.flow.specs.Exchange as Flow
 use Rattle.flow.specs.Target as Target
 use Rattle.flow.specs.Target.{idle, busy}
-use Rattle.flow.specs.declared.Silicon.{Silicon}
 use Rattle.flow.specs.declared.Answer.{Answer}
 use Rattle.flow.specs.declared.Answer.the-variants.{ResetDone, Transferred}
+use Rattle.flow.specs.declared.LineEvent.{LineEvent}
 use Rattle.flow.specs.declared.Packet.{Packet}
 use Rattle.flow.specs.declared.Reply.{Reply}
-use Rattle.layout.proofs.Bytes.{sets-whole, put-in}
+use Rattle.flow.specs.declared.Silicon.{Silicon}
 use Rattle.image.specs.Words.{lowFirst}
+use Rattle.layout.proofs.Bytes.{sets-whole, put-in}
 use Rattle.layout.specs.Bytes.{flagByte, wordPut}
 use Rattle.parts.proofs.Table.{both}
 use Rattle.parts.specs.Parts.{lookupOf}

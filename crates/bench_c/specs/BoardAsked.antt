@@ -4,15 +4,15 @@ use mathlib.Core.List.{List}
 use Prim.Native.Nat.{ℕ}
 use Rattle.bench_board.specs.Board.{Left, lent, targetOf}
 use Rattle.bench_board.specs.Meets.{listsOf}
+use Rattle.bench_board.specs.declared.CallOutcome.{CallOutcome}
+use Rattle.bench_board.specs.declared.Registers.{Registers}
 use Rattle.bench_c.specs.BoardBytes.{registersIn, eventIn, callOutcomeAt, packetIn}
 use Rattle.bench_c.specs.BoardCalls.{Bench, Benched, benched, benchAfter, isBench, sizesFit}
 use Rattle.bench_c.specs.declared.Asked.{Asked}
 use Rattle.bench_c.specs.declared.Asked.the-variants.{Returned, Meets}
-use Rattle.bench_board.specs.declared.CallOutcome.{CallOutcome}
-use Rattle.flow.specs.declared.LineEvent.{LineEvent}
-use Rattle.bench_board.specs.declared.Registers.{Registers}
-use Rattle.flow.specs.declared.Packet.{Packet}
 use Rattle.flow.specs.Exchange as Flow
+use Rattle.flow.specs.declared.LineEvent.{LineEvent}
+use Rattle.flow.specs.declared.Packet.{Packet}
 use Rattle.parts.specs.Parts.{lookupOf}
 use Rattle.parts.specs.declared.Geometry.{Geometry}
 use Rattle.parts.specs.declared.Lookup.{Lookup}
