@@ -1,6 +1,6 @@
 /* exchange() on the core's bench board: the plain board of document 01, as a call (halzuqeen_bench_meet).
  *
- * The environment says which board, and what befalls it:
+ * The environment says which board, and what becomes of its transfers and calls:
  *     BOARD   "PART MACROS STORED_LEVEL", or "1 1 1"
  *     WAITS   each transfer whose number this divides is answered WAIT
  *     SLIP    from this transfer on there is silence
@@ -58,8 +58,8 @@ static void set_up(void)
     board[HALZUQEEN_BENCH_BOARD_LEVEL_IN_EFFECT] = (uint8_t)level;
 }
 
-/* What befalls the next transfer, and the next call. */
-static void befall(uint8_t *event, uint8_t *call)
+/* What becomes of the next transfer, and of the next call. */
+static void set_outcomes(uint8_t *event, uint8_t *call)
 {
     unsigned long waits = setting("WAITS"), slip = setting("SLIP");
     if (slip != 0 && transfers + 1 >= slip)
@@ -82,7 +82,7 @@ struct answer exchange(const uint8_t outcome[8])
         set_up();
     row = parts[part - 1].row;
     rows = macros * parts[part - 1].rows;
-    befall(event, call);
+    set_outcomes(event, call);
     number = halzuqeen_bench_meet((uint8_t)part, (uint8_t)macros, board, BOARD, flash, rows * row, locks, rows / 8, latch, row,
         params, 2 + row / 4, NULL, 0, NULL, 0, NULL, 0, event, EVENT, call, CALL, outcome, HALZUQEEN_OUTCOME_SIZE, given, ANSWER);
     if (number != 0) {

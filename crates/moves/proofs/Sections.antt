@@ -139,8 +139,8 @@ module _ (g : Geometry) (ok : Handled g) (h : Header) (bytes : List ℕ) (exact 
     word-place = row-found g ok bytes exact row word-row
 
     -- the word is in its row where it is in the flash: a row has whole words
-    word-spot : 4 * (j / 3) ≡ row * rowBytes g + 4 * word
-    word-spot =
+    word-offset : 4 * (j / 3) ≡ row * rowBytes g + 4 * word
+    word-offset =
         let e : rowBytes g ≡ 4 * (rowBytes g / 4) = omega (arith, ok .rowWords) in
         let d : row * (rowBytes g / 4) + word ≡ j / 3 = div-add-mod' (j / 3) (rowBytes g / 4) in
         let t : row * rowBytes g ≡ row * (4 * (rowBytes g / 4)) = ap (λ (x : ℕ). row * x) e in
@@ -150,7 +150,7 @@ module _ (g : Geometry) (ok : Handled g) (h : Header) (bytes : List ℕ) (exact 
     pub verify-at : (bs : List ℕ) → bs ≡ take (row * rowBytes g + rowBytes g - row * rowBytes g) (drop (row * rowBytes g) bytes)
         → getD (read 6 (4 * (j / 3)) (Same (wordAt bs (4 * word)) 22)) (j % 3) endMove ≡ getD (verifyFlash i) j endMove
     verify-at bs is =
-        let w = front-word bytes bs (row * rowBytes g) (rowBytes g) is (word-place .end) (flashSize g) (4 * word) (4 * (j / 3)) (omega (arith, word-inside)) word-spot word-fits in
+        let w = front-word bytes bs (row * rowBytes g) (rowBytes g) is (word-place .end) (flashSize g) (4 * word) (4 * (j / 3)) (omega (arith, word-inside)) word-offset word-fits in
         rw w
         (sym
         (at-piece (compareWord 6 22 0 (i .flash) 0) 3 (λ k. length-read 6 _ _) endMove (rowsOf g * (rowBytes g / 4)) j (omega arith) low

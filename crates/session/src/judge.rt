@@ -91,7 +91,7 @@ fn enter_next(y: Entry, p: Progress, attempts: u32, w: u32) -> Next
     }
 }
 
-// Steps 2's IDs and level, the first time.
+// Step 2's IDs and level, the first time.
 fn entered(g: Geometry, h: Header, y: Entry, p: Progress, attempts: u32, w: u32) -> Next
     requires { ⌜ InRange p ⌝ }
     ensures { λ r. ⌜ r ≡ nextOf (judge (imageOf g h []) Purpose.EntryLevel (p .polls) (p .kept) w) y (p .at) attempts ⌝ }
@@ -142,7 +142,7 @@ pub(crate) fn on_word(
     match u {
         Purpose::Sent => onward(y, p, p.polls, attempts, p.kept),
         Purpose::Idcode => onward_if(w == 0x0BB11477, 16, y, p, attempts),
-        Purpose::TestBit => onward_if(words::bit_set(w), 17, y, p, attempts),
+        Purpose::TestBit => onward_if(words::test_bit_set(w), 17, y, p, attempts),
         Purpose::Poll => polled_next(y, p, attempts, w),
         Purpose::Status => onward_if(words::call_succeeded(w), 19, y, p, attempts),
         Purpose::Keep => onward(y, p, p.polls, attempts, w),

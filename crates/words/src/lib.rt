@@ -16,12 +16,14 @@ pub fn is_free(w: u32) -> bool
     false
 }
 
-pub fn bit_set(w: u32) -> bool
+// Whether TEST_MODE shows its bit 31 (17).
+pub fn test_bit_set(w: u32) -> bool
     ensures { λ r. ⌜ r ≡ testBitSet w ⌝ }
 {
     w / 2147483648 % 2 == 1
 }
 
+// Whether SYSARG says that a call succeeded (19).
 pub fn call_succeeded(w: u32) -> bool
     ensures { λ r. ⌜ r ≡ succeeded w ⌝ }
 {

@@ -19,8 +19,8 @@ onward-if-requires c κs = search needs
 enum-told-3 : tie.Need-enum-told-3
 enum-told-3 c = search needs
 
-bit-set-requires : tie.Need-bit-set-requires
-bit-set-requires c κs = search needs
+test-bit-set-requires : tie.Need-test-bit-set-requires
+test-bit-set-requires c κs = search needs
 
 onward-if-requires-2 : tie.Need-onward-if-requires-2
 onward-if-requires-2 c κs = search needs
@@ -89,7 +89,7 @@ returns-2 c = simp (c .onward-if .ensures, c .before .enum-told2 .given .1)
 
 returns-3 : tie.Need-returns-3
 unfolding judge
-returns-3 c = simp (c .onward-if2 .ensures, c .before .bit-set .ensures, c .before .before .enum-told3 .given .1)
+returns-3 c = simp (c .onward-if2 .ensures, c .before .test-bit-set .ensures, c .before .before .enum-told3 .given .1)
 
 returns-4 : tie.Need-returns-4
 unfolding judge
@@ -132,7 +132,7 @@ on-word-spec =
     enum-told-2
     onward-if-requires
     enum-told-3
-    bit-set-requires
+    test-bit-set-requires
     onward-if-requires-2
     enum-told-4
     polled-next-requires

@@ -1,0 +1,12 @@
+-- One bit. Assumes nothing.
+use mathlib.Core.Path.{refl}
+use Rattle.flow.specs.Judge.{testBitSet}
+use Rattle.words.proofs.test_bit_set.Statement.{statement}
+use Rattle.words.proofs.test_bit_set.Tie as tie
+
+returns : tie.Need-returns
+unfolding testBitSet
+returns c = refl
+
+pub test-bit-set-spec : {M : Type 1} → statement M
+test-bit-set-spec = tie.close (tie.spec returns)
