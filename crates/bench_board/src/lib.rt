@@ -67,7 +67,7 @@ pub struct Met {
     pub call_used: bool,
 }
 
-// How a Known request is met.
+// How a known request is met.
 fn meet_request(
     g: Geometry,
     r: Registers,

@@ -15,9 +15,9 @@ use Rattle.bench_board.specs.declared.Met.{Met}
 use Rattle.bench_board.specs.declared.Registers.{Registers}
 use Rattle.bench_board.specs.declared.Running.{Running}
 use Rattle.bench_board.specs.declared.Running.the-variants.{Idle, Busy}
-use Rattle.bench_c.specs.BoardAsked.{askedFor, askedOf, numberOf, metWith, answeredFor}
+use Rattle.bench_c.specs.BoardAsked.{askedFor, askedOf, numberOf}
 use Rattle.bench_c.specs.BoardBytes.{callOutcomeAt, isCallOutcome, registersIn, isBoard, eventIn, isEvent, packetIn, isPacket, siliconBytes, runBytes, runningBytes, wordsBytes, boardBytes, replyBytes, answerBytes, usedOf, emptied, RunningPut, BoardPut}
-use Rattle.bench_c.specs.BoardCalls.{Bench, benchOf, benched, benchAfter, isBench, sizesFit, meetFor, meetCall}
+use Rattle.bench_c.specs.BoardCalls.{Bench, benchOf, Benched, benched, benchAfter, isBench, sizesFit, meetFor, meetCall}
 use Rattle.bench_c.specs.declared.Asked.{Asked}
 use Rattle.bench_c.specs.declared.Asked.the-variants.{Returned, Meets}
 use Rattle.flow.specs.Exchange as Flow
@@ -37,6 +37,14 @@ use Rattle.parts.specs.Parts.{lookupOf}
 use Rattle.parts.specs.declared.Geometry.{Geometry}
 use Rattle.parts.specs.declared.Lookup.{Lookup}
 use Rattle.parts.specs.declared.Lookup.the-variants.{Found, Refused}
+
+-- a request met, as flow's board meets it
+abbrev pub metWith : Geometry → Registers → Packet → LineEvent → CallOutcome → Left → Bench → Bench
+metWith g r p e o x b = benchAfter (Flow.meet g p (listsOf x e o) (targetOf x r (lent (b .flash) (b .locks) (b .latch) (b .params))))
+
+abbrev pub answeredFor : Asked → Left → Bench → Benched
+answeredFor (Returned n) x b = benched n b
+answeredFor (Meets g r p e o) x b = benched 0 (metWith g r p e o x b)
 
 -- ---- putting
 

@@ -2,19 +2,11 @@
 use mathlib.Core.Bool.{cond}
 use mathlib.Core.List.{List}
 use Prim.Native.Nat.{ℕ}
-use Rattle.bench_board.specs.Board.{Left, lent, targetOf}
-use Rattle.bench_board.specs.Meets.{listsOf}
-use Rattle.bench_board.specs.declared.CallOutcome.{CallOutcome}
-use Rattle.bench_board.specs.declared.Registers.{Registers}
 use Rattle.bench_c.specs.BoardBytes.{registersIn, eventIn, callOutcomeAt, packetIn}
-use Rattle.bench_c.specs.BoardCalls.{Bench, Benched, benched, benchAfter, isBench, sizesFit}
+use Rattle.bench_c.specs.BoardCalls.{isBench, sizesFit}
 use Rattle.bench_c.specs.declared.Asked.{Asked}
 use Rattle.bench_c.specs.declared.Asked.the-variants.{Returned, Meets}
-use Rattle.flow.specs.Exchange as Flow
-use Rattle.flow.specs.declared.LineEvent.{LineEvent}
-use Rattle.flow.specs.declared.Packet.{Packet}
 use Rattle.parts.specs.Parts.{lookupOf}
-use Rattle.parts.specs.declared.Geometry.{Geometry}
 use Rattle.parts.specs.declared.Lookup.{Lookup}
 use Rattle.parts.specs.declared.Lookup.the-variants.{Found, Refused}
 
@@ -28,11 +20,3 @@ askedOf part macros b e c q a = cond (sizesFit b e c q a) (askedFor (lookupOf pa
 abbrev pub numberOf : Asked → ℕ
 numberOf (Returned n) = n
 numberOf (Meets g r p e o) = 0
-
--- a request met, as flow's board meets it
-abbrev pub metWith : Geometry → Registers → Packet → LineEvent → CallOutcome → Left → Bench → Bench
-metWith g r p e o x b = benchAfter (Flow.meet g p (listsOf x e o) (targetOf x r (lent (b .flash) (b .locks) (b .latch) (b .params))))
-
-abbrev pub answeredFor : Asked → Left → Bench → Benched
-answeredFor (Returned n) x b = benched n b
-answeredFor (Meets g r p e o) x b = benched 0 (metWith g r p e o x b)

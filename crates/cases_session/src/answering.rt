@@ -73,7 +73,7 @@ fn override_of(o: Overrides, packet: Packet, transfer: u32) -> Override {
     reading::no_override()
 }
 
-// Past its list the line lets a request through; one that the case keeps from the board falls to a silence that nobody hears.
+// Past its list the line lets a request through; one that the case keeps from the board is silence, not carried out.
 pub(crate) fn line_at(overrides: Overrides, packet: Packet, transfer: u32) -> LineEvent {
     let o = override_of(overrides, packet, transfer);
     LineEvent {

@@ -70,7 +70,7 @@ pub enum Answer {
     Transferred(Reply),
 }
 
-// What is at an address of the target, with the offset there.
+// What is at an address of the target, with the offset there, of PARAMS the index of the word.
 pub enum Place {
     InFlash(usize),
     InLocks(usize),

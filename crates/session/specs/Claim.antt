@@ -47,7 +47,7 @@ pub record Demand3 (i : Image) (b : Target) (l : Lists) (n : ℕ) (s : State) : 
         level : s .target .memory .stored ≡ i .header .level;
         planned : r .transfers ≡ plan (i .geometry) (entryOf b) + delaysIn (s .monitor);
       }
-  -- on undisturbed lists nothing goes wrong, and the right part is done with 'exactly plan'
+  -- on calm lists nothing goes wrong, and the right part is done with 'exactly plan'
   pub provoked : Calm l → NoError (s .monitor)
   pub calm : Calm l → RightPart i (b .silicon) → (r : Report) → s .stands ≡ Reported r
       → (r .number ≡ 0) × (r .transfers ≡ plan (i .geometry) (entryOf b))
