@@ -11,7 +11,7 @@ use Rattle.bench_board.specs.declared.Registers.{Registers}
 use Rattle.dry.specs.Playing.{noLists, nothing, meets, Turns, Started, reportIn, DoneAsPlanned}
 use Rattle.dry.specs.declared.AfterTurn.{AfterTurn}
 use Rattle.dry.proofs.Meets.{same-met}
-use Rattle.flow.specs.Claim.{calmEnd, callsEnd, entryOf}
+use Rattle.flow.specs.Terms.{calmEnd, callsEnd, entryOf}
 use Rattle.flow.specs.Examples.{partOne}
 use Rattle.flow.specs.Exchange.{Met, meet}
 use Rattle.flow.specs.Plan.{plan, loops, mostTraffic}

@@ -14,7 +14,7 @@ use Rattle.dry.specs.Runs.{readNumber, ranBy, ranOn}
 use Rattle.dry.specs.Playing.{openFor, Playable, Started, DoneAsPlanned}
 use Rattle.dry.specs.declared.Ran.the-variants.{Refused}
 use Rattle.dry.proofs.Taking.{TakenWell, GoodReading, reading-good}
-use Rattle.flow.specs.Claim.{Passes}
+use Rattle.flow.specs.Terms.{Passes}
 use Rattle.flow.specs.Examples.{partOne}
 use Rattle.hex.specs.Texts.{hexReading}
 use Rattle.image.proofs.Refusals.{Passed, all-passed}

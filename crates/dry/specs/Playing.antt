@@ -11,7 +11,7 @@ use Rattle.flow.specs.declared.TransferOutcome.the-variants.{Clean}
 use Rattle.bench_board.specs.declared.Registers.{Registers}
 use Rattle.bench_board.specs.declared.Running.the-variants.{Idle}
 use Rattle.dry.specs.declared.AfterTurn.{AfterTurn}
-use Rattle.flow.specs.Claim.{Passes, Startable, RightPart}
+use Rattle.flow.specs.Terms.{Passes, Startable, RightPart}
 use Rattle.flow.specs.Examples.{partOne}
 use Rattle.flow.specs.Exchange.{Met, meet}
 use Rattle.flow.specs.Plan.{plan}

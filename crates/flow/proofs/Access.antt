@@ -9,7 +9,7 @@ use mathlib.Core.Logic.{_⊎_, inl, inr}
 use Rattle.flow.specs.Exchange.{carry, barred, guarded, isSysreq, isCall, store, begin, fetch}
 use Rattle.flow.specs.Judge.{judge}
 use Rattle.flow.specs.Map.{place}
-use Rattle.flow.specs.Monitor.{watching, Watch, Delays, noticed, noticeRead, noticeStore}
+use Rattle.flow.specs.Monitor.{noWaits, watching, Watch, Delays, noticed, noticeRead, noticeStore}
 use Rattle.flow.specs.Run.{Run}
 use Rattle.flow.specs.Sequence.{write, read}
 use Rattle.flow.specs.Session.{running, judgedTo}
@@ -100,7 +100,7 @@ store-memory w o AtTestMode b = refl
 store-memory w o Elsewhere b = refl
 
 -- a write elsewhere than SYSREQ starts nothing
-quiet-store : (y : Bool) (pc : Place) (p a : ℕ) (t : Watch) (d : Delays) → isSysreq pc ≡ false → noticeStore y pc p a t d ≡ watching 0 p a t d
+quiet-store : (y : Bool) (pc : Place) (p a : ℕ) (t : Watch) (d : Delays) → isSysreq pc ≡ false → noticeStore y pc p a t d ≡ watching noWaits p a t d
 quiet-store false pc p a t d h = refl
 quiet-store true (InFlash o) p a t d h = refl
 quiet-store true (InLocks o) p a t d h = refl
@@ -140,7 +140,7 @@ module _ {i : Image} (f : Frame i) where
     write-any : Stands f y n (write s a w) ms κ e → (pc : Place) → place (i .geometry) a ≡ pc → Admits (b .effect) pc → f .Safe (b .memory)
         → (next : (e′ : Env) → e′ .lists .calls ≡ cond (isCall w && isSysreq pc) (rest (e .lists .calls)) (e .lists .calls) → Stood f y (suc (suc n)) ms κ e′
         → Reaches f (written w pc y (suc (suc n)) p c k (store w (nextOutcome (e .lists .calls)) pc (setTar a b)) (aimed a t) e′))
-        → Reaches f (sync y n 0 p c k b t e)
+        → Reaches f (sync y n p c k b t e)
     unfolding write withMoves carry judge noticed
     write-any st pc hp ok safe next =
         transfer f aTar st (ok .not-killed) (barred-tar (i .geometry) a b) safe (λ o. safe) λ o₁ e₁ h₁ st₁.
@@ -150,8 +150,8 @@ module _ {i : Image} (f : Frame i) where
     -- a Write elsewhere than SYSREQ
     pub write-reaches : Stands f y n (write s a w) ms κ e → (pc : Place) → place (i .geometry) a ≡ pc → Admits (b .effect) pc → f .Safe (b .memory) → isSysreq pc ≡ false
         → (next : (e′ : Env) → e′ .lists .calls ≡ e .lists .calls → Stood f y (suc (suc n)) ms κ e′
-        → Reaches f (sync y (suc (suc n)) 0 p c k (store w (nextOutcome (e .lists .calls)) pc (setTar a b)) (aimed a t) e′))
-        → Reaches f (sync y n 0 p c k b t e)
+        → Reaches f (sync y (suc (suc n)) p c k (store w (nextOutcome (e .lists .calls)) pc (setTar a b)) (aimed a t) e′))
+        → Reaches f (sync y n p c k b t e)
     write-reaches st pc hp ok safe hs next =
         write-any st pc hp ok safe λ e′ h st′.
         rw (quiet-store (isCall w) pc p c (aimed a t) (e′ .delays) hs) (next e′ ((rw hs at h) ∙ same-calls (isCall w) (e .lists .calls)) st′)
@@ -160,8 +160,8 @@ module _ {i : Image} (f : Frame i) where
   pub call-reaches : (s a w : ℕ) {y : Entry} {n : ℕ} {ms : List Move} {κ : Allowance} {e : Env} {c k : ℕ} {b : Target} {t : Watch}
       → Stands f y n (write s a w) ms κ e → place (i .geometry) a ≡ AtSysreq → Admits (b .effect) AtSysreq → f .Safe (b .memory) → isCall w ≡ true
       → (next : (e′ : Env) → e′ .lists .calls ≡ rest (e .lists .calls) → Stood f y (suc (suc n)) ms κ e′
-      → Reaches f (sync y (suc (suc n)) 0 0 c k (begin true w (nextOutcome (e .lists .calls)) (setTar a b)) (record { tar = a; counts = false; polling = true; due = true }) e′))
-      → Reaches f (sync y n 0 0 c k b t e)
+      → Reaches f (sync y (suc (suc n)) 0 c k (begin true w (nextOutcome (e .lists .calls)) (setTar a b)) (record { tar = a; counts = false; polling = true; due = true }) e′))
+      → Reaches f (sync y n 0 c k b t e)
   call-reaches s a w st hp ok safe hc next = write-any s a w st AtSysreq hp ok safe λ e′ h st′. rw hc (next e′ (rw hc at h) st′)
 
   module _ (s a : ℕ) (u : Purpose) {y : Entry} {n : ℕ} {ms : List Move} {κ : Allowance} {e : Env} {p c k : ℕ} {b : Target} {t : Watch} where
@@ -173,7 +173,7 @@ module _ {i : Image} (f : Frame i) where
         → ((o : ℕ) → f .Safe ((b₁ o) .memory)) → ((o o′ : ℕ) → f .Safe ((b₂ o o′) .memory))
         → (next : (o o′ : ℕ) (e′ : Env) → e′ .lists .calls ≡ e .lists .calls → Stood f y (suc (suc (suc n))) ms κ e′
         → Reaches f (readRun s u y (suc (suc n)) p c k ((b₁ o) .posted) pc (b₂ o o′) (aimed a t) e′))
-        → Reaches f (sync y n 0 p c k b t e)
+        → Reaches f (sync y n p c k b t e)
     unfolding read withMoves judge noticed
     read-any st pc hp ok safe b₁ b₂ h₁ h₂ ht he safe₁ safe₂ next =
         transfer f aTar st (ok .not-killed) (barred-tar (i .geometry) a b) safe (unfold carry in (λ o. safe)) λ _ e₁ k₁ st₁.
@@ -192,6 +192,6 @@ module _ {i : Image} (f : Frame i) where
         → (v : ℕ → ℕ) → ((o z : ℕ) → fetch (i .geometry) o pc (aim a z b) ≡ aim a (v o) b)
         → (next : (o o′ : ℕ) (e′ : Env) → e′ .lists .calls ≡ e .lists .calls → Stood f y (suc (suc (suc n))) ms κ e′
         → Reaches f (readRun s u y (suc (suc n)) p c k (v o) pc (aim a (v o′) b) (aimed a t) e′))
-        → Reaches f (sync y n 0 p c k b t e)
+        → Reaches f (sync y n p c k b t e)
     read-still st pc hp ok safe v still next =
         read-any st pc hp ok safe (λ o. aim a (v o) b) (λ o o′. aim a (v o′) b) (λ o. still o (b .posted)) (λ o o′. still o′ (v o)) (λ o. refl) (λ o. refl) (λ o. safe) (λ o o′. safe) next

@@ -10,7 +10,7 @@ use borrow.Author.Tests.{eq-eqb}
 use Rattle.flow.specs.Calls.{finish, effectOf, sysargAfter, sysreqAfter, afterFailure}
 use Rattle.flow.specs.Exchange.{carry}
 use Rattle.flow.specs.Judge.{free, succeeded, testBitSet, idsFit, levelIn, judge}
-use Rattle.flow.specs.Monitor.{watching, noticed, noticeRead}
+use Rattle.flow.specs.Monitor.{noWaits, watching, noticed, noticeRead}
 use Rattle.flow.specs.Run.{Run}
 use Rattle.flow.specs.Sequence.{move, key, write, read, poll, call, imoCall, acquire}
 use Rattle.flow.specs.Session.{judgedTo}
@@ -162,14 +162,14 @@ module _ {i : Image} (f : Frame i) (fx : Facts (i .geometry)) (m : Memory) (answ
     session = judgedTo (judge i u 0 (sysargAfter 0 (f .silicon) m) (sysreqAfter 0 (f .silicon) (m .stored))) y n 2 0 (e .traffic .transfers);
     target = b;
     lists = e .lists;
-    monitor = watching 0 0 0 (idleAt (sysreqOf (i .geometry))) (e .delays);
+    monitor = watching noWaits 0 0 (idleAt (sysreqOf (i .geometry))) (e .delays);
     traffic = e .traffic;
   }
 
   pub silicon-reaches : (u : Purpose) {y : Entry} {n x k : ℕ} {ms : List Move} {κ : Allowance} {e : Env} {b : Target} → Acquired f m k (core b)
       → Stands f y n (call (i .geometry) 2 0 (key 0)) (read 2 (sysargOf (i .geometry)) Keep ++ (read 2 (sysreqOf (i .geometry)) u ++ ms)) (withTransfer (withTransfer (withTransfer (withTransfer (withTransfer (withTransfer κ)))))) e
       → (next : (b′ : Target) → core b′ ≡ core b → (n′ : ℕ) (e′ : Env) → Stood f y (suc n′) ms κ e′ → Reaches f (identified u y n′ k b′ e′))
-      → Reaches f (sync y n 0 0 0 k b (idleAt x) e)
+      → Reaches f (sync y n 0 0 k b (idleAt x) e)
   unfolding judge noticeRead
   silicon-reaches u {b = b} p st next =
       let sf : f .Safe (b .memory) = rw (p .fresh .memory) safe in

@@ -10,7 +10,7 @@ use Rattle.flow.specs.Calls.{reset}
 use Rattle.flow.specs.Exchange.{decode, carry, killed, barred, guarded, overDrw, Met, transferred, meet}
 use Rattle.flow.specs.Judge.{goIf, judge}
 use Rattle.flow.specs.Map.{place}
-use Rattle.flow.specs.Monitor.{watching, Watch, oneMissed, watchBy, noticed, watch}
+use Rattle.flow.specs.Monitor.{noWaits, watching, Watch, oneMissed, watchBy, noticed, watch}
 use Rattle.flow.specs.Packets.{Verdict, again, verdict}
 use Rattle.flow.specs.Plan.{counting}
 use Rattle.flow.specs.Run.{Run, advance}
@@ -48,28 +48,28 @@ module _ {i : Image} (f : Frame i) where
   -- XRES, with nothing under way
   pub xres-reaches : {s : ℕ} {u : Purpose} {y : Entry} {n k : ℕ} {ms : List Move} {κ : Allowance} {e : Env} {b : Target} {t : Watch}
       → Stood f y n (move s Xres u ∷ ms) (record { due = κ .due; room = κ .room; xres = suc (κ .xres); lines = κ .lines }) e → f .Safe (b .memory) → b .running ≡ idle
-      → (Stood f y (suc n) ms κ (reset-by Xres e) → Reaches f (sync y (suc n) 0 0 0 k (setReset b) t (reset-by Xres e)))
-      → Reaches f (sync y n 0 0 0 k b t e)
+      → (Stood f y (suc n) ms κ (reset-by Xres e) → Reaches f (sync y (suc n) 0 0 k (setReset b) t (reset-by Xres e)))
+      → Reaches f (sync y n 0 0 k b t e)
   xres-reaches {s} {u} {y} {n} {k} {ms} {κ} {e} {b} {t} st safe quiet next =
-      steps f (sync y n 0 0 0 k b t e) (sync y (suc n) 0 0 0 k (setReset b) t (reset-by Xres e)) refl safe
-      (rw (at-move st) (record { transfers = omega (arith, st .room); xresets = omega (arith, st .xres); lineResets = omega (arith, st .lines) })) (clear 0 0 0 t (e .delays))
+      steps f (sync y n 0 0 k b t e) (sync y (suc n) 0 0 k (setReset b) t (reset-by Xres e)) refl safe
+      (rw (at-move st) (record { transfers = omega (arith, st .room); xresets = omega (arith, st .xres); lineResets = omega (arith, st .lines) })) (clear noWaits 0 0 t (e .delays))
       arrives
       (next (record { at = at-next st; accounted = st .accounted; room = st .room; xres = omega (arith, st .xres); lines = st .lines; calm = λ still. let c = st .calm still in record { line = c .line; calls = c .calls; none = c .none } }))
     where
-      arrives : advance i (sync y n 0 0 0 k b t e) ≡ sync y (suc n) 0 0 0 k (setReset b) t (reset-by Xres e)
+      arrives : advance i (sync y n 0 0 k b t e) ≡ sync y (suc n) 0 0 k (setReset b) t (reset-by Xres e)
       arrives = unfold advance stepOf watch meet decode reset in rw (at-move st, quiet)
 
   line-reaches : {s : ℕ} {u : Purpose} {y : Entry} {n a k : ℕ} {ms : List Move} {κ : Allowance} {e : Env} {b : Target} {t : Watch}
       → Stood f y n (move s LineReset u ∷ ms) (record { due = κ .due; room = κ .room; xres = κ .xres; lines = suc (κ .lines) }) e → f .Safe (b .memory)
-      → (Stood f y (suc n) ms κ (reset-by LineReset e) → Reaches f (sync y (suc n) 0 0 a k b t (reset-by LineReset e)))
-      → Reaches f (sync y n 0 0 a k b t e)
+      → (Stood f y (suc n) ms κ (reset-by LineReset e) → Reaches f (sync y (suc n) 0 a k b t (reset-by LineReset e)))
+      → Reaches f (sync y n 0 a k b t e)
   line-reaches {s} {u} {y} {n} {a} {k} {ms} {κ} {e} {b} {t} st safe next =
-      steps f (sync y n 0 0 a k b t e) (sync y (suc n) 0 0 a k b t (reset-by LineReset e)) refl safe
-      (rw (at-move st) (record { transfers = omega (arith, st .room); xresets = omega (arith, st .xres); lineResets = omega (arith, st .lines) })) (clear 0 0 a t (e .delays))
+      steps f (sync y n 0 a k b t e) (sync y (suc n) 0 a k b t (reset-by LineReset e)) refl safe
+      (rw (at-move st) (record { transfers = omega (arith, st .room); xresets = omega (arith, st .xres); lineResets = omega (arith, st .lines) })) (clear noWaits 0 a t (e .delays))
       arrives
       (next (record { at = at-next st; accounted = st .accounted; room = st .room; xres = st .xres; lines = omega (arith, st .lines); calm = λ still. let c = st .calm still in record { line = c .line; calls = c .calls; none = c .none } }))
     where
-      arrives : advance i (sync y n 0 0 a k b t e) ≡ sync y (suc n) 0 0 a k b t (reset-by LineReset e)
+      arrives : advance i (sync y n 0 a k b t e) ≡ sync y (suc n) 0 a k b t (reset-by LineReset e)
       arrives = unfold advance stepOf watch meet decode in rw (at-move st)
 
   -- the run after a verdict on an attempt
@@ -78,7 +78,7 @@ module _ {i : Image} (f : Frame i) where
     session = heardBy true i (move s ReadIdcode Idcode) v y n 0 0 a k (suc (e .traffic .transfers));
     target = b;
     lists = l;
-    monitor = watchBy true (i .geometry) ReadIdcode v 0 0 a t (e .delays);
+    monitor = watchBy true (i .geometry) ReadIdcode v noWaits 0 a t (e .delays);
     traffic = more (e .traffic);
   }
 
@@ -86,7 +86,7 @@ module _ {i : Image} (f : Frame i) where
   metBy b e = transferred (i .geometry) ReadIdcode (nextEvent (e .lists .line)) (e .lists) b
 
   arrives : {s : ℕ} {y : Entry} {n : ℕ} {ms : List Move} {κ : Allowance} {e : Env} (a k : ℕ) (b : Target) (t : Watch) → Stood f y n (move s ReadIdcode Idcode ∷ ms) κ e
-      → advance i (sync y n 0 0 a k b t e) ≡ tried s y n a k ((metBy b e) .target) t ((metBy b e) .lists) (verdict ReadIdcode ((metBy b e) .answer)) e
+      → advance i (sync y n 0 a k b t e) ≡ tried s y n a k ((metBy b e) .target) t ((metBy b e) .lists) (verdict ReadIdcode ((metBy b e) .answer)) e
   unfolding advance stepOf watch
   arrives {e = e} a k b t st = rw (at-move st, meets (i .geometry) attempt (e .lists) b)
 
@@ -102,13 +102,13 @@ module _ {i : Image} (f : Frame i) where
       → Stood f y n (move s LineReset Sent ∷ move s ReadIdcode Idcode ∷ ms) (trying m κ) e → killed b ≡ false → f .Safe (b .memory) → b .silicon ≡ f .silicon
       → (onMiss : (f .Still → ⊥) → (l : Lists) → Stood f y (suc n) (move s ReadIdcode Idcode ∷ ms) (afterLine m κ) (reset-by LineReset e)
       → Reaches f (tried s y (suc n) a k b t l again (reset-by LineReset e)))
-      → (next : eqb (f .silicon .idcode) 0x0BB11477 ≡ true → (e′ : Env) → Stood f y (suc (suc n)) ms κ e′ → Reaches f (sync y (suc (suc n)) 0 0 0 k b t e′))
-      → Reaches f (sync y n 0 0 a k b t e)
+      → (next : eqb (f .silicon .idcode) 0x0BB11477 ≡ true → (e′ : Env) → Stood f y (suc (suc n)) ms κ e′ → Reaches f (sync y (suc (suc n)) 0 0 k b t e′))
+      → Reaches f (sync y n 0 a k b t e)
   unfolding carry judge noticed
   attempt-once m s {y} {n} {ms} {κ} {e} a k b t st not-killed safe own onMiss next =
       line-reaches (record { at = st .at; accounted = st .accounted; room = st .room; xres = st .xres; lines = omega (arith, st .lines); calm = st .calm }) safe λ st₁.
-      steps f (sync y (suc n) 0 0 a k b t e₁) met refl safe
-      (rw (at-move st₁) (record { transfers = omega (arith, st₁ .room); xresets = omega (arith, st₁ .xres); lineResets = omega (arith, st₁ .lines) })) (clear 0 0 a t (e .delays))
+      steps f (sync y (suc n) 0 a k b t e₁) met refl safe
+      (rw (at-move st₁) (record { transfers = omega (arith, st₁ .room); xresets = omega (arith, st₁ .xres); lineResets = omega (arith, st₁ .lines) })) (clear noWaits 0 a t (e .delays))
       (arrives a k b t st₁) (by st₁ (hears (i .geometry) (e .lists) b attempt (nextEvent (e .lists .line)) not-killed (barred-off (i .geometry) ReadIdcode b refl)))
     where
       e₁ : Env
@@ -138,11 +138,11 @@ module _ {i : Image} (f : Frame i) where
             session = judgedTo (goIf z 16 0 k) y (suc n) s 0 (suc (e .traffic .transfers));
             target = b;
             lists = listsAfter (i .geometry) ReadIdcode b (e .lists);
-            monitor = watching 0 0 0 t (e .delays);
+            monitor = watching noWaits 0 0 t (e .delays);
             traffic = more (e₁ .traffic);
           })
       fit st₁ true h = next (mine true h) (passed (listsAfter (i .geometry) ReadIdcode b (e .lists)) e₁) (stood st₁)
-      fit st₁ false h = stop (f .wrongId s 0 0 0 b _ t (e .delays) _ safe (mine false h))
+      fit st₁ false h = stop (f .wrongId s noWaits 0 0 b _ t (e .delays) _ safe (mine false h))
 
       by : Stood f y (suc n) (move s ReadIdcode Idcode ∷ ms) (afterLine m κ) e₁ → Heard (i .geometry) ReadIdcode (nextEvent (e .lists .line)) (e .lists) b (metBy b e₁) → Reaches f met
       by st₁ (heardOkay hb hv hl) = rw (hb, hv, hl) (fit st₁ (eqb (b .silicon .idcode) 0x0BB11477) refl)
@@ -153,8 +153,8 @@ module _ {i : Image} (f : Frame i) where
   -- the attempts; after this one m more are allowed
   pub attempts : (m s : ℕ) {y : Entry} {n : ℕ} {ms : List Move} {κ : Allowance} {e : Env} (a k : ℕ) (b : Target) (t : Watch)
       → a + suc m ≡ 30 → Stood f y n (move s LineReset Sent ∷ move s ReadIdcode Idcode ∷ ms) (trying m κ) e → killed b ≡ false → f .Safe (b .memory) → b .silicon ≡ f .silicon
-      → (next : eqb (f .silicon .idcode) 0x0BB11477 ≡ true → (e′ : Env) → Stood f y (suc (suc n)) ms κ e′ → Reaches f (sync y (suc (suc n)) 0 0 0 k b t e′))
-      → Reaches f (sync y n 0 0 a k b t e)
+      → (next : eqb (f .silicon .idcode) 0x0BB11477 ≡ true → (e′ : Env) → Stood f y (suc (suc n)) ms κ e′ → Reaches f (sync y (suc (suc n)) 0 0 k b t e′))
+      → Reaches f (sync y n 0 a k b t e)
   attempts zero s a k b t count st not-killed safe own next =
       attempt-once zero s a k b t st not-killed safe own
       (λ bad l st₁. rw (le-ltb (suc a) 30 (omega arith)) (stop (f .caught 26 s b l _ (lit≤ tt) bad safe))) next

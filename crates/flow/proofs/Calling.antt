@@ -6,7 +6,7 @@ use Prim.Native.Nat.{ℕ, _+_, _*_, _/_, _%_}
 use native.Mathlib.Omega.{arith}
 use lib.Dec.{eqb, lit≤}
 use Rattle.flow.specs.Calls.{finish, effectOf, sysargAfter, sysreqAfter, failedArg, listAt}
-use Rattle.flow.specs.Claim.{CalmCalls, callsEnd, calmCall}
+use Rattle.flow.specs.Terms.{CalmCalls, callsEnd, calmCall}
 use Rattle.flow.specs.Exchange.{isCall}
 use Rattle.flow.specs.Judge.{free, succeeded, judge}
 use Rattle.flow.specs.Monitor.{Watch, noticeRead}
@@ -88,8 +88,8 @@ module _ {i : Image} (f : Frame i) (fx : Facts (i .geometry)) where
       → (f .Still → q ≡ 0) → (f .Still → s₀ ≡ true)
       → free (sysreqAfter c (b .silicon) (b .effect)) ≡ true → succeeded (sysargAfter c (b .silicon) (b .memory)) ≡ true
       → (next : (b′ : Target) → Returned (i .geometry) c (b .sysarg) b b′ → (n′ : ℕ) (e′ : Env) → Stood f y n′ ms κ e′
-      → Reaches f (sync y n′ 0 0 0 k b′ (idleAt (sysargOf (i .geometry))) e′))
-      → Reaches f (sync y n 0 0 0 k (aim x z (during (busy q s₀ r₀ c) b)) (loopAt x v true) e)
+      → Reaches f (sync y n′ 0 0 k b′ (idleAt (sysargOf (i .geometry))) e′))
+      → Reaches f (sync y n 0 0 k (aim x z (during (busy q s₀ r₀ c) b)) (loopAt x v true) e)
   unfolding finish judge noticeRead
   call-tail true r₀ q c s b x z st answering safe safes idles wins ready good next =
       poll-busy f (place-sysreq (i .geometry) fx) true r₀ c b (admits (b .effect) AtSysreq refl answering) safe (safes true r₀) ready q 9999 s 0 x z refl st idles λ e₁ h₁ st₁.
@@ -115,8 +115,8 @@ module _ {i : Image} (f : Frame i) (fx : Facts (i .geometry)) where
       → Answering (b .effect) → f .Safe (b .memory) → ((y : Bool) (r : Residue) → f .Safe ((finish (i .geometry) y r c (asked c w b)) .memory))
       → free (sysreqAfter c (b .silicon) (b .effect)) ≡ true → succeeded (sysargAfter c (b .silicon) (b .memory)) ≡ true
       → (next : (b′ : Target) → Returned (i .geometry) c w b b′ → (n′ : ℕ) (e′ : Env) → Stood f y n′ ms κ e′
-      → Reaches f (sync y n′ 0 0 0 k b′ (idleAt (sysargOf (i .geometry))) e′))
-      → Reaches f (sync y n 0 0 0 k b t e)
+      → Reaches f (sync y n′ 0 0 k b′ (idleAt (sysargOf (i .geometry))) e′))
+      → Reaches f (sync y n 0 0 k b t e)
   unfolding call write read withMoves
   calling s c w {ms = ms} {κ = κ} {b = b} cmd st answering safe safes ready good next =
       write-reaches f s (sysargOf (i .geometry)) w (call-allowance s c w ms κ st) AtSysarg (place-sysarg (i .geometry) fx) (admits (b .effect) AtSysarg refl answering) safe refl λ e₁ h₁ st₁.

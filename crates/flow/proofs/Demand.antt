@@ -6,7 +6,8 @@ use Prim.Native.Nat.{ℕ, zero, suc, _+_, _≤_}
 use native.Mathlib.Omega.{arith}
 use lib.Dec.{eqb}
 use borrow.Author.Tests.{eq-eqb, eqb-true}
-use Rattle.flow.specs.Claim.{RightPart, NoError, Calm, entryOf, RunDemand3, RunDemand3Holds}
+use Rattle.flow.specs.Claim.{RunDemand3, RunDemand3Holds}
+use Rattle.flow.specs.Terms.{RightPart, NoError, Calm, entryOf}
 use Rattle.flow.specs.Monitor.{Monitor, linkError}
 use Rattle.flow.specs.Plan.{Traffic, plan, mostTraffic}
 use Rattle.flow.specs.Run.{Run, advanceBy, advance, runAfter, started, handedOutBy, handedOut}

@@ -11,7 +11,7 @@ use lib.Seq.{drop-at}
 use borrow.Author.Tests.{eq-eqb}
 use Rattle.flow.specs.Calls.{finish, effectOf, afterFailure, zeroed, macroSent, sysargAfter}
 use Rattle.flow.specs.Judge.{entryBy, report, judge}
-use Rattle.flow.specs.Monitor.{watching}
+use Rattle.flow.specs.Monitor.{noWaits, watching}
 use Rattle.flow.specs.Sequence.{key, write, writes, read, call, listed, acquire, silicon, program, opening, afterwards, sequence}
 use Rattle.flow.specs.Session.{judgedTo}
 use Rattle.flow.specs.Target.{Target, Memory, Residue}
@@ -94,7 +94,7 @@ module _ {i : Image} (f : Frame i) (fx : Facts (i .geometry)) (v : Valid i) (hb 
 
   -- OPEN: erase, then steps 4 to 9
   open-reaches : {n x k : ℕ} {e : Env} {b : Target} → RightIds i (f .silicon) → m .stored ≡ 1 → Acquired f m k (core b) → Stands f FromOpen n (afterwards i FromOpen) [] nothing e
-      → Reaches f (sync FromOpen n 0 0 0 k b (idleAt x) e)
+      → Reaches f (sync FromOpen n 0 0 k b (idleAt x) e)
   unfolding afterwards
   open-reaches {b = b} right one p st =
       listing f fx 3 0x0A (key 0x0A ∷ []) (callA .command) (split (listed (i .geometry) 3 0x0A (key 0x0A ∷ [])) (program i) [] nothing st) (omega arith)
@@ -115,7 +115,7 @@ module _ {i : Image} (f : Frame i) (fx : Facts (i .geometry)) (v : Valid i) (hb 
 
   -- PROTECTED: reopen, steps 1 and 2 again, then 4 to 9
   protected-reaches : {n x k : ℕ} {e : Env} {b : Target} → RightIds i (f .silicon) → m .stored ≡ 2 → Acquired f m k (core b)
-      → Stands f FromProtected n (afterwards i FromProtected) [] nothing e → Reaches f (sync FromProtected n 0 0 0 k b (idleAt x) e)
+      → Stands f FromProtected n (afterwards i FromProtected) [] nothing e → Reaches f (sync FromProtected n 0 0 k b (idleAt x) e)
   unfolding afterwards silicon read withMoves judge
   protected-reaches {b = b} right two p st =
       calling f fx 3 0x0D reopenWord (callD .command) (split (call (i .geometry) 3 0x0D reopenWord) (acquire (i .geometry) ++ (silicon (i .geometry) Reopened ++ program i)) [] nothing st)
@@ -149,11 +149,11 @@ module _ {i : Image} (f : Frame i) (fx : Facts (i .geometry)) (v : Valid i) (hb 
         session = judgedTo (cond z (entryBy (m .stored) 0 k) (report 20)) FromOpen n 2 0 (e .traffic .transfers);
         target = b;
         lists = e .lists;
-        monitor = watching 0 0 0 (idleAt (sysreqOf (i .geometry))) (e .delays);
+        monitor = watching noWaits 0 0 (idleAt (sysreqOf (i .geometry))) (e .delays);
         traffic = e .traffic;
       })
   unfolding sequence
-  decided goes false h k {b = b} p st = stop (f .wrongPart 2 0 0 0 b _ _ _ _ (rw (p .fresh .memory) safe) h)
+  decided goes false h k {b = b} p st = stop (f .wrongPart 2 noWaits 0 0 b _ _ _ _ (rw (p .fresh .memory) safe) h)
   decided (byOpen one) true h k p st =
       rw (eq-eqb (m .stored) 1 one) (
       open-reaches (record { idcode = p .idcode; silicon = h }) one (again p)
@@ -172,7 +172,7 @@ module _ {i : Image} (f : Frame i) (fx : Facts (i .geometry)) (v : Valid i) (hb 
 
   -- the whole way
   pub start-reaches : {y : Entry} → Goes m y → {e : Env} {b : Target} → Fresh f m 0 (core b)
-      → Stands f FromOpen 0 (opening i) (afterwards i FromOpen) (withMoves (afterwards i y) nothing) e → Reaches f (sync FromOpen 0 0 0 0 0 b (idleAt 0) e)
+      → Stands f FromOpen 0 (opening i) (afterwards i FromOpen) (withMoves (afterwards i y) nothing) e → Reaches f (sync FromOpen 0 0 0 0 b (idleAt 0) e)
   unfolding opening silicon read withMoves judge
   start-reaches {y} goes p st =
       (acquire-leg f fx FromOpen m (answering-of goes) safe) .along _ _ _ _ _ _ _ p

@@ -9,7 +9,7 @@ use native.Mathlib.Omega.{arith}
 use borrow.Author.Tests.{eq-eqb}
 use Rattle.flow.specs.Calls.{finish, effectOf, sysargAfter, sysreqAfter, afterFailure}
 use Rattle.flow.specs.Judge.{free, succeeded, sumsFit, judge}
-use Rattle.flow.specs.Monitor.{watching, noticeRead}
+use Rattle.flow.specs.Monitor.{noWaits, watching, noticeRead}
 use Rattle.flow.specs.Run.{Run}
 use Rattle.flow.specs.Sequence.{key, call, read, privileged, inTurn, programRow, verifyFlash, lockMacro, verifyMacro, program}
 use Rattle.flow.specs.Session.{judgedTo}
@@ -93,14 +93,14 @@ module _ {i : Image} (f : Frame i) (fx : Facts (i .geometry)) (v : Valid i) wher
     session = judgedTo (judge i u 0 k (sysargAfter 0x0B (f .silicon) m)) y n s 0 (e .traffic .transfers);
     target = b;
     lists = e .lists;
-    monitor = watching 0 0 0 (idleAt (sysargOf (i .geometry))) (e .delays);
+    monitor = watching noWaits 0 0 (idleAt (sysargOf (i .geometry))) (e .delays);
     traffic = e .traffic;
   }
 
   sum-reaches : (s : ℕ) (u : Purpose) {y : Entry} {n x k : ℕ} {ms : List Move} {κ : Allowance} {e : Env} {b : Target} → Opened f (core b) → f .Safe (b .memory)
       → Stands f y n (call (i .geometry) s 0x0B sumWord) (read s (sysargOf (i .geometry)) u ++ ms) (withTransfer (withTransfer (withTransfer κ))) e
       → (next : (b′ : Target) → core b′ ≡ core b → (n′ : ℕ) (e′ : Env) → Stood f y (suc n′) ms κ e′ → Reaches f (summed s u y n′ k (b .memory) b′ e′))
-      → Reaches f (sync y n 0 0 0 k b (idleAt x) e)
+      → Reaches f (sync y n 0 0 k b (idleAt x) e)
   unfolding noticeRead
   sum-reaches s u {b = b} p safe st next =
       calling f fx s 0x0B sumWord commandB st (inl (p .effect)) safe (λ y r. rw (still-B (i .geometry) y r _) safe) (free-B _ _) (good-B _ _) λ b₁ ret n₁ e₁ st₁.
@@ -156,7 +156,7 @@ module _ {i : Image} (f : Frame i) (fx : Facts (i .geometry)) (v : Valid i) wher
 
   -- step 9
   last-reaches : {y : Entry} {n x k : ℕ} {e : Env} {b : Target} → RightIds i (f .silicon) → Locked f (macrosOf (i .geometry)) k (core b)
-      → Stands f y n (privileged (i .geometry) 9 LastSum) [] nothing e → Reaches f (sync y n 0 0 0 k b (idleAt x) e)
+      → Stands f y n (privileged (i .geometry) 9 LastSum) [] nothing e → Reaches f (sync y n 0 0 k b (idleAt x) e)
   unfolding privileged read withMoves judge nothing
   last-reaches {k = k} {b = b} right p st =
       sum-reaches 9 LastSum {κ = nothing} (p .opened) (level-safe f (macrosOf (i .geometry)) (b .memory) (p .level))
@@ -170,7 +170,7 @@ module _ {i : Image} (f : Frame i) (fx : Facts (i .geometry)) (v : Valid i) wher
           rw m (record { flash = p .flash; locks = locked-all v fx p; level = last-level fx p })
 
   pub program-reaches : {y : Entry} {n x k : ℕ} {e : Env} {b : Target} → RightIds i (f .silicon) → Blank f k (core b) → Stands f y n (program i) [] nothing e
-      → Reaches f (sync y n 0 0 0 k b (idleAt x) e)
+      → Reaches f (sync y n 0 0 k b (idleAt x) e)
   unfolding program
   program-reaches {y} right blank st =
       (first-leg y) .along _ _ _ _ _ _ _ blank (split (privileged (i .geometry) 4 Keep) after4 [] nothing st) λ k₁ b₁ w₁ n₁ x₁ e₁ st₁.

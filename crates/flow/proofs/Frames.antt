@@ -5,8 +5,8 @@ use mathlib.Core.Path.{_≡_, refl, sym, _∙_}
 use Prim.Native.Nat.{ℕ, suc, _+_, _*_, _≤_}
 use native.Mathlib.Omega.{arith}
 use lib.Dec.{eqb}
-use Rattle.flow.specs.Claim.{NoError, Calm, entryOf, delaysIn}
-use Rattle.flow.specs.Monitor.{Monitor, linkError, noDelays}
+use Rattle.flow.specs.Terms.{NoError, Calm, entryOf, delaysIn}
+use Rattle.flow.specs.Monitor.{noWaits, Monitor, linkError, noDelays}
 use Rattle.flow.specs.Plan.{noTraffic, trafficIn, isPoll, pollsIn, plan, mostTraffic}
 use Rattle.flow.specs.Run.{Run}
 use Rattle.flow.specs.Sequence.{opening, afterwards, sequence}
@@ -113,7 +113,7 @@ frame i lv b l = record {
   safeOpen = λ m e h. omega arith;
   safeImage = λ m e h. level-sound lv (sym e ∙ h);
   caught = λ n s b l t some bad safe. record { number = n; step = s; is = refl; why = mishap n some bad; sound = safe };
-  finished = λ b l w d t right holds-image count calm. record { is = refl; right = right; clean = clear 0 0 0 w d; holds-image = holds-image; count = count; calm = calm; sound = λ h. level-sound lv (sym (holds-image .level) ∙ h) };
+  finished = λ b l w d t right holds-image count calm. record { is = refl; right = right; clean = clear noWaits 0 0 w d; holds-image = holds-image; count = count; calm = calm; sound = λ h. level-sound lv (sym (holds-image .level) ∙ h) };
   wrongId = λ s w p a b l x d t safe h. record { number = 16; step = s; is = refl; why = otherId (clear w p a x d) h; sound = safe };
   wrongPart = λ s w p a b l x d t safe h. record { number = 20; step = s; is = refl; why = otherPart (clear w p a x d) h; sound = safe };
 }

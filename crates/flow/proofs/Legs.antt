@@ -30,8 +30,8 @@ Known = ℕ → Core → Type 0
 -- from rest to rest over ms: P held before, Q holds after
 pub record Leg {i : Image} (f : Frame i) (y : Entry) (ms : List Move) (P Q : Known) : Type 0 where
   pub along : (n x k : ℕ) (later : List Move) (κ : Allowance) (e : Env) (b : Target) → P k (core b) → Stands f y n ms later κ e
-      → ((k′ : ℕ) (b′ : Target) → Q k′ (core b′) → (n′ x′ : ℕ) (e′ : Env) → Stood f y n′ later κ e′ → Reaches f (sync y n′ 0 0 0 k′ b′ (idleAt x′) e′))
-      → Reaches f (sync y n 0 0 0 k b (idleAt x) e)
+      → ((k′ : ℕ) (b′ : Target) → Q k′ (core b′) → (n′ x′ : ℕ) (e′ : Env) → Stood f y n′ later κ e′ → Reaches f (sync y n′ 0 0 k′ b′ (idleAt x′) e′))
+      → Reaches f (sync y n 0 0 k b (idleAt x) e)
 
 module _ {i : Image} (f : Frame i) (y : Entry) where
   pub leg-append : (a b : List Move) {P Q R : Known} → Leg f y a P Q → Leg f y b Q R → Leg f y (a ++ b) P R

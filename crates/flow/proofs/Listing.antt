@@ -47,8 +47,8 @@ module _ {i : Image} (f : Frame i) (fx : Facts (i .geometry)) where
   writes-from : (ws pre tl : List ℕ) (s a j : ℕ) {y : Entry} {n : ℕ} {ms : List Move} {κ : Allowance} {e : Env} {k : ℕ} (b : Target) {x : ℕ}
       → b .params ≡ pre ++ tl → length pre ≡ j → a ≡ PARAMS + 4 * j → j + length ws ≤ 2 + rowBytes (i .geometry) / 4 → j + length ws ≤ length (b .params)
       → Stands f y n (writes s a ws) ms κ e → b .effect ≡ 1 → f .Safe (b .memory)
-      → (next : (b′ : Target) → Filled (pre ++ ws) b b′ → (n′ x′ : ℕ) (e′ : Env) → Stood f y n′ ms κ e′ → Reaches f (sync y n′ 0 0 0 k b′ (idleAt x′) e′))
-      → Reaches f (sync y n 0 0 0 k b (idleAt x) e)
+      → (next : (b′ : Target) → Filled (pre ++ ws) b b′ → (n′ x′ : ℕ) (e′ : Env) → Stood f y n′ ms κ e′ → Reaches f (sync y n′ 0 0 k b′ (idleAt x′) e′))
+      → Reaches f (sync y n 0 0 k b (idleAt x) e)
   unfolding writes write withMoves
   writes-from [] pre tl s a j {n = n} {e = e} b {x} hp hl ha fits room st he safe next =
       next b (record { behind = tl; silicon = refl; effect = refl; memory = refl; params = rw (append-nil pre) hp; room = refl }) n x e st
@@ -75,8 +75,8 @@ module _ {i : Image} (f : Frame i) (fx : Facts (i .geometry)) where
       → ((y : Bool) (r : Residue) (b′ : Target) → b′ .effect ≡ b .effect → b′ .memory ≡ b .memory → b′ .sysarg ≡ PARAMS → f .Safe ((finish (i .geometry) y r c b′) .memory))
       → free (sysreqAfter c (b .silicon) (b .effect)) ≡ true → succeeded (sysargAfter c (b .silicon) (b .memory)) ≡ true
       → (next : (b′ : Target) → ListReturned (i .geometry) c ws b b′ → (n′ : ℕ) (e′ : Env) → Stood f y n′ ms κ e′
-      → Reaches f (sync y n′ 0 0 0 k b′ (idleAt (sysargOf (i .geometry))) e′))
-      → Reaches f (sync y n 0 0 0 k b (idleAt x) e)
+      → Reaches f (sync y n′ 0 0 k b′ (idleAt (sysargOf (i .geometry))) e′))
+      → Reaches f (sync y n 0 0 k b (idleAt x) e)
   unfolding listed
   listing s c ws {ms = ms} {κ = κ} {b = b} cmd st fits room he safe safes ready good next =
       writes-from ws [] (b .params) s PARAMS 0 b refl refl (omega arith) (omega arith) (omega arith)

@@ -5,10 +5,9 @@ use borrow.Author.Tests.{eq-eqb}
 use Rattle.flow.specs.Examples.{partOne}
 use Rattle.flow.specs.Map.{search, regions, lockRegions}
 use Rattle.flow.specs.Mishaps.{okayWith, WordMishaps, LineMishaps}
-use Rattle.flow.specs.Monitor.{Monitor, watching, linkError, noticeRead, noticed, watch}
+use Rattle.flow.specs.Monitor.{noticeRead, noticed, watch}
 use Rattle.flow.specs.Packets.{heard, verdict, okay}
-use Rattle.flow.specs.declared.Answer.the-variants.{ResetDone}
-use Rattle.flow.specs.declared.Request.the-variants.{Xres, LineReset, ReadDrw}
+use Rattle.flow.specs.declared.Request.the-variants.{ReadDrw}
 use Rattle.parts.specs.Sizes.{rowsOf, locksIn, flashSize}
 use Rattle.wire.specs.Wire.{parity}
 use lib.Count.{ones}
@@ -39,17 +38,6 @@ word-mishaps = record {
   listWord = unfold verdict heard in refl;
 }
 
--- a reset changes nothing, whatever has been seen
-same : (m : Monitor) → watch partOne Xres ResetDone m ≡ m
-unfolding watch
-same (watching w p a t d) = refl
-same (linkError n) = refl
-
-still : (m : Monitor) → watch partOne LineReset ResetDone m ≡ m
-unfolding watch
-still (watching w p a t d) = refl
-still (linkError n) = refl
-
 pub line-mishaps : LineMishaps
 unfolding watch noticed noticeRead search regions lockRegions rowsOf locksIn flashSize verdict heard ones
 line-mishaps = record {
@@ -60,12 +48,17 @@ line-mishaps = record {
   wait17 = refl;
   wait16 = refl;
   afresh = refl;
+  otherRegister = refl;
+  otherWord = refl;
+  sameWord = refl;
+  xresBetween = refl;
+  lineResetBetween = refl;
   fault = refl;
   silence = refl;
   noise = refl;
   wrongParity = refl;
   writtenParity = refl;
   first = λ q r number. refl;
-  xres = same;
-  lineReset = still;
+  xres = λ w p a t d. refl;
+  lineReset = λ w p a t d. refl;
 }

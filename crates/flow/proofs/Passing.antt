@@ -8,7 +8,7 @@ use lib.Dec.{eqb, ltb}
 use lib.ListN.{length, getD, take, drop, length-take, length-drop, List·getD-eq-default}
 use lib.Seq.{getD-take, getD-drop, length-take-le}
 use borrow.Author.Tests.{eqb-true, ltb-true, ltb-false}
-use Rattle.flow.specs.Claim.{Passes}
+use Rattle.flow.specs.Terms.{Passes}
 use Rattle.flow.proofs.Lists.{Small}
 use Rattle.flow.proofs.Phases.{Level, isOpen, isProtected, isKill, Valid}
 use Rattle.flow.proofs.Table.{Facts, facts}

@@ -116,8 +116,8 @@ module _ {i : Image} (f : Frame i) (hp : place (i .geometry) (sysreqOf (i .geome
   pub poll-idle : (s : ℕ) {y : Entry} {n : ℕ} {ms : List Move} {κ : Allowance} {e : Env} {p a k : ℕ} (b : Target) {x : ℕ} {c d : Bool}
       → Stood f y n (poll (i .geometry) s ++ ms) (withTransfer (withTransfer (withTransfer κ))) e → Admits (b .effect) AtSysreq → f .Safe (b .memory) → b .running ≡ idle → free (b .sysreq) ≡ true
       → (next : (e′ : Env) → e′ .lists .calls ≡ e .lists .calls → Stood f y (suc (suc (suc n))) ms κ e′
-      → Reaches f (sync y (suc (suc (suc n))) 0 0 a k (aim (sysreqOf (i .geometry)) (b .sysreq) b) (record { tar = sysreqOf (i .geometry); counts = false; polling = false; due = d }) e′))
-      → Reaches f (sync y n 0 p a k b (loopAt x c d) e)
+      → Reaches f (sync y (suc (suc (suc n))) 0 a k (aim (sysreqOf (i .geometry)) (b .sysreq) b) (record { tar = sysreqOf (i .geometry); counts = false; polling = false; due = d }) e′))
+      → Reaches f (sync y n p a k b (loopAt x c d) e)
   unfolding judge noticeRead
   poll-idle s b st ok safe rest ready next =
       read-still f s (sysreqOf (i .geometry)) Poll st AtSysreq hp ok safe (λ o. b .sysreq) (λ o z. rw rest) λ o o′ e′ h st′.
@@ -144,8 +144,8 @@ module _ {i : Image} (f : Frame i) (hp : place (i .geometry) (sysreqOf (i .geome
     pub poll-busy : (q m s : ℕ) {y : Entry} {n : ℕ} {ms : List Move} {κ : Allowance} {e : Env} {a k : ℕ} (p x z : ℕ) {c d : Bool}
         → p + suc m ≡ 10000 → Stood f y n (poll (i .geometry) s ++ ms) (looping m κ) e → (f .Still → q ≡ 0)
         → (next : (e′ : Env) → e′ .lists .calls ≡ e .lists .calls → Stood f y (suc (suc (suc n))) ms κ e′
-        → Reaches f (sync y (suc (suc (suc n))) 0 0 a k (aim (sysreqOf (i .geometry)) (over .sysreq) over) (record { tar = sysreqOf (i .geometry); counts = false; polling = false; due = d }) e′))
-        → Reaches f (sync y n 0 p a k (aim x z (during (busy q s₀ r₀ c₀) b)) (loopAt x c d) e)
+        → Reaches f (sync y (suc (suc (suc n))) 0 a k (aim (sysreqOf (i .geometry)) (over .sysreq) over) (record { tar = sysreqOf (i .geometry); counts = false; polling = false; due = d }) e′))
+        → Reaches f (sync y n p a k (aim x z (during (busy q s₀ r₀ c₀) b)) (loopAt x c d) e)
     unfolding judge noticeRead
     poll-busy zero m s {κ = κ} p x z count st calm next =
         read-any f s (sysreqOf (i .geometry)) Poll (this-poll κ m st) AtSysreq hp ok safe

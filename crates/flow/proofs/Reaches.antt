@@ -7,8 +7,8 @@ use lib.Dec.{eqb}
 use lib.ListN.{getD, drop}
 use lib.Seq.{getD-drop, drop-drop}
 use mathlib.Core.Bool.{Bool, true, false, _&&_}
-use Rattle.flow.specs.Claim.{CalmLine, CalmCalls, NoError}
-use Rattle.flow.specs.Monitor.{Monitor, watching, linkError, Watch, Delays, delayed}
+use Rattle.flow.specs.Terms.{CalmLine, CalmCalls, NoError}
+use Rattle.flow.specs.Monitor.{Monitor, Waits, noWaits, watching, linkError, Watch, Delays, delayed}
 use Rattle.flow.specs.Plan.{Traffic}
 use Rattle.flow.specs.Run.{Run, advance, handedOut}
 use Rattle.flow.specs.Sequence.{sequence, endMove}
@@ -79,13 +79,13 @@ pub record Env : Type 0 where
   pub delays : Delays
   pub traffic : Traffic
 
--- a run whose monitor has counted as the session has
-abbrev pub sync : Entry → (n w p a k : ℕ) → Target → Watch → Env → Run
-sync y n w p a k b t e = record {
-  session = running y n w p a k (e .traffic .transfers);
+-- a run whose monitor has counted as the session has; no transfer waits
+abbrev pub sync : Entry → (n p a k : ℕ) → Target → Watch → Env → Run
+sync y n p a k b t e = record {
+  session = running y n 0 p a k (e .traffic .transfers);
   target = b;
   lists = e .lists;
-  monitor = watching w p a t (e .delays);
+  monitor = watching noWaits p a t (e .delays);
   traffic = e .traffic;
 }
 
@@ -124,11 +124,11 @@ pub record Frame (i : Image) : Type 1 where
   pub caught : (n s : ℕ) (b : Target) (l : Lists) (t : Traffic) → 1 ≤ n → (Still → ⊥) → Safe (b .memory) → Stop (ended n s b l (linkError n) t)
   -- done
   pub finished : (b : Target) (l : Lists) (w : Watch) (d : Delays) (t : Traffic) → RightIds i silicon → HoldsImage i (b .memory)
-      → t .transfers ≡ planned + delayed d → (Still → delayed d ≡ 0) → Goal (ended 0 9 b l (watching 0 0 0 w d) t)
+      → t .transfers ≡ planned + delayed d → (Still → delayed d ≡ 0) → Goal (ended 0 9 b l (watching noWaits 0 0 w d) t)
   -- another part
-  pub wrongId : (s w p a : ℕ) (b : Target) (l : Lists) (x : Watch) (d : Delays) (t : Traffic) → Safe (b .memory)
+  pub wrongId : (s : ℕ) (w : Waits) (p a : ℕ) (b : Target) (l : Lists) (x : Watch) (d : Delays) (t : Traffic) → Safe (b .memory)
       → eqb (silicon .idcode) 0x0BB11477 ≡ false → Stop (ended 16 s b l (watching w p a x d) t)
-  pub wrongPart : (s w p a : ℕ) (b : Target) (l : Lists) (x : Watch) (d : Delays) (t : Traffic) → Safe (b .memory)
+  pub wrongPart : (s : ℕ) (w : Waits) (p a : ℕ) (b : Target) (l : Lists) (x : Watch) (d : Delays) (t : Traffic) → Safe (b .memory)
       → rightSilicon i silicon ≡ false → Stop (ended 20 s b l (watching w p a x d) t)
 
 -- the lists that are left are calm, and nothing was delayed
@@ -190,7 +190,7 @@ pub data Reaches {i : Image} (f : Frame i) : Run → Type 0 where
   stop : {r : Run} → f .Stop r → Reaches f r
   step : {r : Run} → going (r .session) ≡ true → f .Safe (r .target .memory) → Bounded f (handedOut i r) → NoError (r .monitor) → Reaches f (advance i r) → Reaches f r
 
-pub clear : (w p a : ℕ) (t : Watch) (d : Delays) → NoError (watching w p a t d)
+pub clear : (w : Waits) (p a : ℕ) (t : Watch) (d : Delays) → NoError (watching w p a t d)
 clear w p a t d n e = let no : _≡_ {A = ℕ} 0 1 = cc in omega arith
 
 -- a step whose outcome is known

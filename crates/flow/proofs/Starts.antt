@@ -1,6 +1,6 @@
 -- What demand 3 leaves free, and the most that it allows, hold as stated. Assumes nothing.
 use mathlib.Core.Path.{refl}
-use Rattle.flow.specs.Claim.{calmEnd, calmEvent, callsEnd, calmCall}
+use Rattle.flow.specs.Terms.{calmEnd, calmEvent, callsEnd, calmCall}
 use Rattle.flow.specs.Plan.{plan, loops, mostTraffic}
 use Rattle.flow.specs.Starts.{FreeStarts, MostExamples}
 use Rattle.parts.specs.Sizes.{rowsOf, locksIn}

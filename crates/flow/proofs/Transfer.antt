@@ -5,16 +5,16 @@ use mathlib.Core.Path.{_≡_, refl}
 use Prim.Native.Nat.{ℕ, zero, suc, _+_}
 use native.Mathlib.Omega.{arith}
 use lib.Dec.{lit≤}
-use borrow.Author.Tests.{lt-ltb, le-ltb}
-use Rattle.flow.specs.Claim.{CalmLine, calmEnd, calmEvent, CalmCalls, callsEnd, calmCall}
+use borrow.Author.Tests.{lt-ltb, le-ltb, eq-eqb}
+use Rattle.flow.specs.Terms.{CalmLine, calmEnd, calmEvent, CalmCalls, callsEnd, calmCall}
 use Rattle.flow.specs.Exchange.{carry, gives, barred, killed, callsOn, Met, transferred}
 use Rattle.flow.specs.Judge.{judge}
-use Rattle.flow.specs.Monitor.{Watch, oneWait, watchBy, noticed, watch}
-use Rattle.flow.specs.Packets.{Verdict, again, verdict}
+use Rattle.flow.specs.Monitor.{Waits, noWaits, waitsOn, watching, Watch, oneWait, waitsOf, watchBy, noticed, watch}
+use Rattle.flow.specs.Packets.{Verdict, again, verdict, packetOf, byteIn, wordIn}
 use Rattle.flow.specs.Plan.{Traffic, counting}
 use Rattle.flow.specs.Run.{Run, advance, handedOut}
 use Rattle.flow.specs.Sequence.{move}
-use Rattle.flow.specs.Session.{judgedTo, heardBy, stepOf}
+use Rattle.flow.specs.Session.{running, judgedTo, heardBy, stepOf}
 use Rattle.flow.specs.Target.{Target, Lists, CallOutcome, nextEvent, nextOutcome, rest}
 use Rattle.flow.specs.declared.Entry.{Entry}
 use Rattle.flow.specs.declared.LineEvent.{LineEvent}
@@ -61,6 +61,25 @@ counts aCtrl t = refl
 counts aSelect t = refl
 counts aCsw t = refl
 
+-- a transfer that was answered by WAIT w times
+abbrev waitingFor : Request → (w : ℕ) → Waits
+waitingFor q zero = noWaits
+waitingFor q (suc w) = waitsOn q (suc w)
+
+waits-so-far : (q : Request) (w : ℕ) → waitsOf q (waitingFor q w) ≡ w
+waits-so-far q zero = refl
+waits-so-far q (suc w) = rw (eq-eqb (byteIn (packetOf q)) (byteIn (packetOf q)) refl, eq-eqb (wordIn (packetOf q)) (wordIn (packetOf q)) refl)
+
+-- a run in which the standing request has been answered so; with none it is `sync`
+abbrev paused : Request → Entry → (n w p a k : ℕ) → Target → Watch → Env → Run
+paused q y n w p a k b t e = record {
+  session = running y n w p a k (e .traffic .transfers);
+  target = b;
+  lists = e .lists;
+  monitor = watching (waitingFor q w) p a t (e .delays);
+  traffic = e .traffic;
+}
+
 module _ {i : Image} (f : Frame i) where
   -- the run after a verdict
   abbrev onward : (s : ℕ) → Request → Purpose → Entry → (n w p a k : ℕ) → Target → Watch → Lists → Verdict → Env → Run
@@ -68,7 +87,7 @@ module _ {i : Image} (f : Frame i) where
     session = heardBy false i (move s q u) v y n w p a k (suc (e .traffic .transfers));
     target = b;
     lists = l;
-    monitor = watchBy false (i .geometry) q v w p a t (e .delays);
+    monitor = watchBy false (i .geometry) q v (waitingFor q w) p a t (e .delays);
     traffic = more (e .traffic);
   }
 
@@ -87,7 +106,7 @@ module _ {i : Image} (f : Frame i) where
 
   arrives : {q : Request} → Plain q → {s : ℕ} {u : Purpose} {y : Entry} {n : ℕ} {ms : List Move} {κ : Allowance} {e : Env} (w p a k : ℕ) (b : Target) (t : Watch)
       → Stood f y n (move s q u ∷ ms) κ e
-      → advance i (sync y n w p a k b t e) ≡ onward s q u y n w p a k ((metBy q b e) .target) t ((metBy q b e) .lists) (verdict q ((metBy q b e) .answer)) e
+      → advance i (paused q y n w p a k b t e) ≡ onward s q u y n w p a k ((metBy q b e) .target) t ((metBy q b e) .lists) (verdict q ((metBy q b e) .answer)) e
   unfolding advance stepOf watch
   arrives (aTar {a = v}) {e = e} w p a k b t st = rw (at-move st, meets (i .geometry) (plain (aTar {a = v})) (e .lists) b)
   arrives (aDrw {w = v}) {e = e} w p a k b t st = rw (at-move st, meets (i .geometry) (plain (aDrw {w = v})) (e .lists) b)
@@ -97,7 +116,7 @@ module _ {i : Image} (f : Frame i) where
   arrives (aCsw {w = v}) {e = e} w p a k b t st = rw (at-move st, meets (i .geometry) (plain (aCsw {w = v})) (e .lists) b)
 
   bounded : {q : Request} → Plain q → {s : ℕ} {u : Purpose} {y : Entry} {n : ℕ} {ms : List Move} (v : ℕ) (κ : Allowance) {e : Env} (w p a k : ℕ) (b : Target) (t : Watch)
-      → Stood f y n (move s q u ∷ ms) (waiting v κ) e → Bounded f (handedOut i (sync y n w p a k b t e))
+      → Stood f y n (move s q u ∷ ms) (waiting v κ) e → Bounded f (handedOut i (paused q y n w p a k b t e))
   bounded h v κ {e} w p a k b t st =
       rw (at-move st, counts h (e .traffic)) (record { transfers = omega (arith, st .room); xresets = omega (arith, st .xres); lineResets = omega (arith, st .lines) })
 
@@ -108,9 +127,9 @@ module _ {i : Image} (f : Frame i) where
       → (onWait : (f .Still → ⊥) → Reaches f (onward s q u y n w p a k b t (record { line = rest (e .lists .line); calls = e .lists .calls }) again e))
       → (next : (o : ℕ) → Stood f y (suc n) ms κ (passed (listsAfter (i .geometry) q b (e .lists)) e)
       → Reaches f (okayed s q u y n p a k (gives q b) (carry (i .geometry) q o (nextOutcome (e .lists .calls)) b) t (passed (listsAfter (i .geometry) q b (e .lists)) e)))
-      → Reaches f (sync y n w p a k b t e)
+      → Reaches f (paused q y n w p a k b t e)
   once {q} h {s} {u} {y} {n} {ms} v {κ} {e} w p a k b t st not-killed free safe safe′ onWait next =
-      steps f (sync y n w p a k b t e) met refl safe (bounded h v κ w p a k b t st) (clear w p a t (e .delays)) (arrives h w p a k b t st)
+      steps f (paused q y n w p a k b t e) met refl safe (bounded h v κ w p a k b t st) (clear (waitingFor q w) p a t (e .delays)) (arrives h w p a k b t st)
       (by (hears (i .geometry) (e .lists) b (plain h) (nextEvent (e .lists .line)) not-killed free))
     where
       not-calm : ((nextEvent (e .lists .line)) .outcome ≡ Clean → ⊥) → f .Still → ⊥
@@ -144,14 +163,14 @@ module _ {i : Image} (f : Frame i) where
       → f .Safe (b .memory) → ((o : ℕ) → f .Safe ((carry (i .geometry) q o (nextOutcome (e .lists .calls)) b) .memory))
       → (next : (o : ℕ) (e′ : Env) → e′ .lists .calls ≡ cond (callsOn (i .geometry) q b) (rest (e .lists .calls)) (e .lists .calls) → Stood f y (suc n) ms κ e′
       → Reaches f (okayed s q u y n p a k (gives q b) (carry (i .geometry) q o (nextOutcome (e .lists .calls)) b) t e′))
-      → Reaches f (sync y n w p a k b t e)
-  transfer-from zero h {s = s} e w p a k b t count st not-killed free safe safe′ next =
+      → Reaches f (paused q y n w p a k b t e)
+  transfer-from zero {q} h {s = s} e w p a k b t count st not-killed free safe safe′ next =
       once h 0 w p a k b t st not-killed free safe safe′
-      (λ bad. rw (le-ltb w 16 (omega arith)) (stop (f .caught 27 s b _ (more (e .traffic)) (lit≤ tt) bad safe)))
+      (λ bad. rw (waits-so-far q w, le-ltb w 16 (omega arith)) (stop (f .caught 27 s b _ (more (e .traffic)) (lit≤ tt) bad safe)))
       (λ o st′. next o _ refl st′)
-  transfer-from (suc v) h {κ = κ} e w p a k b t count st not-killed free safe safe′ next =
+  transfer-from (suc v) {q} h {κ = κ} e w p a k b t count st not-killed free safe safe′ next =
       once h (suc v) w p a k b t st not-killed free safe safe′
-      (λ bad. rw (lt-ltb w 16 (omega arith))
+      (λ bad. rw (waits-so-far q w, lt-ltb w 16 (omega arith))
       (transfer-from v h (record { lists = record { line = rest (e .lists .line); calls = e .lists .calls }; delays = oneWait (e .delays); traffic = more (e .traffic) })
       (suc w) p a k b t (omega arith)
       (record { at = st .at; accounted = omega (arith, st .accounted); room = omega (arith, st .room); xres = st .xres; lines = st .lines; calm = λ still. absurd (bad still) })
@@ -164,5 +183,5 @@ module _ {i : Image} (f : Frame i) where
       → f .Safe (b .memory) → ((o : ℕ) → f .Safe ((carry (i .geometry) q o (nextOutcome (e .lists .calls)) b) .memory))
       → (next : (o : ℕ) (e′ : Env) → e′ .lists .calls ≡ cond (callsOn (i .geometry) q b) (rest (e .lists .calls)) (e .lists .calls) → Stood f y (suc n) ms κ e′
       → Reaches f (okayed s q u y n p a k (gives q b) (carry (i .geometry) q o (nextOutcome (e .lists .calls)) b) t e′))
-      → Reaches f (sync y n 0 p a k b t e)
+      → Reaches f (sync y n p a k b t e)
   transfer h {e = e} st not-killed free safe safe′ next = transfer-from 16 h e 0 _ _ _ _ _ refl st not-killed free safe safe′ next

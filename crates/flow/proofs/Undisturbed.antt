@@ -7,7 +7,8 @@ use Prim.Native.Nat.{ℕ, zero, suc, _≤_, _<_}
 use native.Mathlib.Nat.{le-refl}
 use native.Mathlib.Omega.{arith}
 use lib.ListN.{length, length-append}
-use Rattle.flow.specs.Claim.{Used, UndisturbedHolds}
+use Rattle.flow.specs.Claim.{UndisturbedHolds}
+use Rattle.flow.specs.Terms.{Used}
 use Rattle.flow.specs.Exchange.{decode, carry, store, begin, isCall, isSysreq, killed, barred, carriedOut, callsOn, silentReply, replyTo, gives, Met, met, transferred, meetOn, meet}
 use Rattle.flow.specs.Map.{place}
 use Rattle.flow.specs.Packets.{packetOf, isRead}

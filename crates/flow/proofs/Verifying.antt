@@ -43,8 +43,8 @@ level-read isKill o = let e : (o / 268435456 * 268435456 + 4 * 16777216 + o % 16
 module _ {i : Image} (f : Frame i) (y : Entry) where
   word-reaches : (s z a w : ℕ) {n x k : ℕ} {later : List Move} {κ : Allowance} {e : Env} {b : Target} → Holds (i .geometry) (core b) a w → b .effect ≡ 1 → f .Safe (b .memory)
       → Stands f y n (read s a (Same w z)) later κ e
-      → (next : (n′ : ℕ) (e′ : Env) → Stood f y n′ later κ e′ → Reaches f (sync y n′ 0 0 0 k (aim a w b) (idleAt a) e′))
-      → Reaches f (sync y n 0 0 0 k b (idleAt x) e)
+      → (next : (n′ : ℕ) (e′ : Env) → Stood f y n′ later κ e′ → Reaches f (sync y n′ 0 0 k (aim a w b) (idleAt a) e′))
+      → Reaches f (sync y n 0 0 k b (idleAt x) e)
   unfolding judge noticeRead withMoves read
   word-reaches s z a w {b = b} (flashHolds o hp hw) he safe st next =
       read-still f s a (Same w z) st (InFlash o) hp (admits-open (b .effect) (InFlash o) he) safe (λ _. w) (λ _ _. rw hw) λ _ _ e′ h st′.

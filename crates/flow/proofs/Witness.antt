@@ -10,7 +10,8 @@ use lib.Dec.{eqb, ltb, lit<}
 use lib.ListN.{length, getD, take, drop, replicate, length-replicate, length-take, List·getD-eq-default}
 use lib.Seq.{getD-take, getD-drop}
 use borrow.Author.Tests.{eq-eqb, ltb-true, ltb-false}
-use Rattle.flow.specs.Claim.{Passes, Startable, RightPart, calmEnd, callsEnd, entryOf, Achieved}
+use Rattle.flow.specs.Claim.{Achieved}
+use Rattle.flow.specs.Terms.{Passes, Startable, RightPart, calmEnd, callsEnd, entryOf}
 use Rattle.flow.specs.Plan.{mostTraffic}
 use Rattle.flow.specs.Run.{runAfter, started}
 use Rattle.flow.specs.Session.{reported}

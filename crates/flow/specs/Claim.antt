@@ -1,79 +1,18 @@
--- Demand 3 on the definitions: one claim about a whole run, whatever the free lists hold. Assumes nothing.
-use mathlib.Core.Bool.{true, cond}
-use mathlib.Core.List.{List, [], _∷_, _++_}
+-- Demand 3 over a run of the session and the target, whatever the free lists hold. `Demand3` of crate session is the claim over calls; this
+-- one is what its proof rests on. Assumes nothing.
+use mathlib.Core.List.{List, []}
 use mathlib.Core.Logic.{_⊎_, _↔_}
 use mathlib.Core.Path.{_≡_}
-use Prim.Native.Nat.{ℕ, _+_, _/_, _≤_, _<_}
-use lib.Dec.{eqb}
-use lib.ListN.{length, getD}
-use Rattle.flow.specs.Monitor.{Monitor, watching, linkError, delayed}
+use Prim.Native.Nat.{ℕ, _+_, _≤_}
+use Rattle.flow.specs.Monitor.{linkError}
 use Rattle.flow.specs.Plan.{plan, mostTraffic}
 use Rattle.flow.specs.Run.{Run, runAfter, started, handedOut}
-use Rattle.flow.specs.Session.{running, reported}
-use Rattle.flow.specs.Target.{Target, idle, CallOutcome, Lists}
-use Rattle.flow.specs.declared.Entry.{Entry}
-use Rattle.flow.specs.declared.Entry.the-variants.{FromOpen, FromProtected}
-use Rattle.flow.specs.declared.LineEvent.{LineEvent}
-use Rattle.flow.specs.declared.Silicon.{Silicon}
-use Rattle.flow.specs.declared.TransferOutcome.the-variants.{Clean}
-use Rattle.image.specs.Checks.{metadataAt, imageFault}
+use Rattle.flow.specs.Session.{reported}
+use Rattle.flow.specs.Target.{Target, idle, Lists}
+use Rattle.flow.specs.Terms.{Passes, Startable, RightPart, NoError, Calm, entryOf, delaysIn, Used, entries}
 use Rattle.image.specs.Image.{Image, imageOf}
 use Rattle.image.specs.declared.Header.{Header}
-use Rattle.parts.specs.Parts.{lookupOf, lowFits}
-use Rattle.parts.specs.Sizes.{rowBytes, flashSize, lockTotal}
 use Rattle.parts.specs.declared.Geometry.{Geometry}
-use Rattle.parts.specs.declared.Lookup.the-variants.{Found}
-
--- an image that the checks let pass: 11, 12, 6 to 10; the lent bytes are bytes
-pub record Passes (g : Geometry) (h : Header) (bytes : List ℕ) : Type 0 where
-  pub found : lookupOf (h .part) (h .macros) ≡ Found g
-  pub checked : imageFault h bytes ≡ 0
-  pub small : (j : ℕ) → getD bytes j 0 < 256
-
--- a target that a session may be started on: 'Sizes and addresses are those of the image's part and M', ID bytes, OPEN or
--- PROTECTED stored, no call running; all else is free
-pub record Startable (g : Geometry) (b : Target) : Type 0 where
-  pub flash : length (b .memory .flash) ≡ flashSize g
-  pub locks : length (b .memory .locks) ≡ lockTotal g
-  pub latch : length (b .memory .latch) ≡ rowBytes g
-  pub params : 2 + rowBytes g / 4 ≤ length (b .params)
-  pub high : b .silicon .high < 256
-  pub low : b .silicon .low < 256
-  pub revision : b .silicon .revision < 256
-  pub family : b .silicon .family < 256
-  pub level : (b .memory .stored ≡ 1) ⊎ (b .memory .stored ≡ 2)
-  pub quiet : b .running ≡ idle
-
--- 'the right part is one that 16 and 20 let pass'
-pub record RightPart (i : Image) (x : Silicon) : Type 0 where
-  pub idcode : x .idcode ≡ 0x0BB11477
-  pub high : x .high ≡ metadataAt (i .header) 2
-  pub family : x .family ≡ metadataAt (i .header) 5
-  pub low : lowFits (i .geometry .part) (x .low) ≡ true
-
-abbrev pub NoError : Monitor → Type 0
-NoError m = (number : ℕ) → ¬ (m ≡ linkError number)
-
--- free lists without mishap and without delay
-pub data CalmLine : List LineEvent → Type 0 where
-  calmEnd : CalmLine []
-  calmEvent : {e : LineEvent} {es : List LineEvent} → e .outcome ≡ Clean → CalmLine es → CalmLine (e ∷ es)
-
-pub data CalmCalls : List CallOutcome → Type 0 where
-  callsEnd : CalmCalls []
-  calmCall : {o : CallOutcome} {os : List CallOutcome} → o .busyReads ≡ 0 → o .succeeds ≡ true → CalmCalls os → CalmCalls (o ∷ os)
-
-pub record Calm (l : Lists) : Type 0 where
-  pub line : CalmLine (l .line)
-  pub calls : CalmCalls (l .calls)
-
-abbrev pub entryOf : Target → Entry
-entryOf b = cond (eqb (b .memory .stored) 2) FromProtected FromOpen
-
--- what the monitor has counted
-abbrev pub delaysIn : Monitor → ℕ
-delaysIn (watching w p a t d) = delayed d
-delaysIn (linkError n) = 0
 
 -- the image i, the target b and the lists l at the start; the run r after n steps
 pub record RunDemand3 (i : Image) (b : Target) (l : Lists) (n : ℕ) (r : Run) : Type 0 where
@@ -113,13 +52,6 @@ RunDemand3Holds =
     (g : Geometry) (h : Header) (bytes : List ℕ) → Passes g h bytes → (b : Target) → Startable g b → (l : Lists) (n : ℕ)
     → RunDemand3 (imageOf g h bytes) b l n (runAfter (imageOf g h bytes) n (started b l))
 
--- the entries that were used: what the lists have lost
-pub record Used (l left : Lists) : Type 0 where
-  pub line : List LineEvent
-  pub calls : List CallOutcome
-  pub lineIs : l .line ≡ line ++ left .line
-  pub callsIs : l .calls ≡ calls ++ left .calls
-
 -- where the entries that were used are calm: no mishap, and the right part is done with exactly the plan
 pub record Undisturbed (i : Image) (b : Target) (r : Run) : Type 0 where
   pub clean : NoError (r .monitor)
@@ -129,8 +61,21 @@ pub record Undisturbed (i : Image) (b : Target) (r : Run) : Type 0 where
 abbrev pub UndisturbedHolds : Type 0
 UndisturbedHolds =
     (g : Geometry) (h : Header) (bytes : List ℕ) → Passes g h bytes → (b : Target) → Startable g b → (l : Lists) (n : ℕ)
-    → (u : Used l ((runAfter (imageOf g h bytes) n (started b l)) .lists)) → Calm (record { line = u .line; calls = u .calls })
+    → (u : Used l ((runAfter (imageOf g h bytes) n (started b l)) .lists)) → Calm (entries u)
     → Undisturbed (imageOf g h bytes) b (runAfter (imageOf g h bytes) n (started b l))
+
+-- a target of another part keeps its memory: flash, locks, latch and stored level
+abbrev pub OtherPartSpared : Type 0
+OtherPartSpared =
+    (g : Geometry) (h : Header) (bytes : List ℕ) → Passes g h bytes → (b : Target) → Startable g b → (l : Lists) (n : ℕ)
+    → ¬ RightPart (imageOf g h bytes) (b .silicon) → (runAfter (imageOf g h bytes) n (started b l)) .target .memory ≡ b .memory
+
+-- and so does every target, whatever the image, where the report has step 1 or 2 and no second XRES was handed out: step 3 has not begun
+abbrev pub EarlySpared : Type 0
+EarlySpared =
+    (i : Image) (b : Target) → b .running ≡ idle → (l : Lists) (n number step sent : ℕ)
+    → (runAfter i n (started b l)) .session ≡ reported number step sent → step ≤ 2 → (runAfter i n (started b l)) .traffic .xresets ≤ 1
+    → (runAfter i n (started b l)) .target .memory ≡ b .memory
 
 -- the hypotheses can be met, and done be reached: an image of the geometry, a right target with this level, lists that are empty
 pub record Achieved (g : Geometry) (level : ℕ) : Type 0 where

@@ -10,6 +10,7 @@ pub mod Monitor
 pub mod Judge
 pub mod Session
 pub mod Machine
+pub mod Terms
 pub mod Run
 pub mod Claim
 pub mod Examples

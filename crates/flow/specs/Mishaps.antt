@@ -3,11 +3,11 @@ use mathlib.Core.Bool.{Bool, true, false}
 use mathlib.Core.Path.{_≡_}
 use Prim.Native.Nat.{ℕ}
 use Rattle.flow.specs.Examples.{partOne}
-use Rattle.flow.specs.Monitor.{noDelays, Watch, Monitor, watching, linkError, watch}
+use Rattle.flow.specs.Monitor.{Delays, noDelays, Watch, Waits, noWaits, waitsOn, Monitor, watching, linkError, watch}
 use Rattle.flow.specs.declared.Answer.{Answer}
 use Rattle.flow.specs.declared.Answer.the-variants.{ResetDone, Transferred}
 use Rattle.flow.specs.declared.Request.{Request}
-use Rattle.flow.specs.declared.Request.the-variants.{Xres, LineReset, ReadIdcode, ReadDrw, WriteDrw}
+use Rattle.flow.specs.declared.Request.the-variants.{Xres, LineReset, ReadIdcode, ReadDrw, WriteTar, WriteDrw}
 use Rattle.parts.specs.Sizes.{sysreqOf, sysargOf, PARAMS, TEST-MODE}
 use Rattle.wire.specs.Wire.{parity}
 
@@ -20,6 +20,9 @@ answer k w p = Transferred (record { ack = k; word = w; parity = p })
 abbrev pub okayWith : (word : ℕ) → Answer
 okayWith w = answer 1 w (parity w)
 
+abbrev pub wait : Answer
+wait = answer 2 0 0
+
 -- ---- what the monitor has seen
 
 -- TAR at an address, the next DRW read's word counts; in a poll loop, with a call's SYSARG Read due
@@ -30,19 +33,20 @@ countingAt a y u = record { tar = a; counts = true; polling = y; due = u }
 abbrev pub readAt : (address : ℕ) → (polling due : Bool) → Watch
 readAt a y u = record { tar = a; counts = false; polling = y; due = u }
 
--- WAITs running, polls of this loop, attempts running; nothing has been delayed
-abbrev pub seen : (waits polls attempts : ℕ) → Watch → Monitor
-seen w p a t = watching w p a t noDelays
+-- polls of this loop, attempts running; no transfer waits, nothing has been delayed
+abbrev pub seen : (polls attempts : ℕ) → Watch → Monitor
+seen p a t = watching noWaits p a t noDelays
 
--- one WAIT, one busy poll, one failed attempt more than that
-abbrev pub waited : (waits polls attempts : ℕ) → Watch → Monitor
-waited w p a t = watching w p a t (record { waits = 1; busyPolls = 0; missed = 0 })
+-- one busy poll, one failed attempt more than that
+abbrev pub polledBusy : (polls attempts : ℕ) → Watch → Monitor
+polledBusy p a t = watching noWaits p a t (record { waits = 0; busyPolls = 1; missed = 0 })
 
-abbrev pub polledBusy : (waits polls attempts : ℕ) → Watch → Monitor
-polledBusy w p a t = watching w p a t (record { waits = 0; busyPolls = 1; missed = 0 })
+abbrev pub missedOne : (polls attempts : ℕ) → Watch → Monitor
+missedOne p a t = watching noWaits p a t (record { waits = 0; busyPolls = 0; missed = 1 })
 
-abbrev pub missedOne : (waits polls attempts : ℕ) → Watch → Monitor
-missedOne w p a t = watching w p a t (record { waits = 0; busyPolls = 0; missed = 1 })
+-- a request has been answered by WAIT so often, `all` WAITs in all
+abbrev pub waited : Request → (times all : ℕ) → Monitor
+waited q n k = watching (waitsOn q n) 0 0 (readAt 0 false false) (record { waits = k; busyPolls = 0; missed = 0 })
 
 -- a DRW read, and an attempt's read of IDCODE
 abbrev pub afterRead : Answer → Monitor → Monitor
@@ -60,46 +64,52 @@ SYSARG = sysargOf partOne
 -- 17 to 19: what the words say
 pub record WordMishaps : Type 0 where
   -- 'a Read of TEST_MODE that gives a word without bit 31 (17)'; with it the poll loop of step 1 begins
-  pub testBitClear : afterRead (okayWith 0x7FFFFFFF) (seen 0 0 0 (countingAt TEST-MODE false false)) ≡ linkError 17
-  pub testBitSet : afterRead (okayWith 0x80000000) (seen 0 0 0 (countingAt TEST-MODE false false)) ≡ seen 0 0 0 (readAt TEST-MODE true false)
+  pub testBitClear : afterRead (okayWith 0x7FFFFFFF) (seen 0 0 (countingAt TEST-MODE false false)) ≡ linkError 17
+  pub testBitSet : afterRead (okayWith 0x80000000) (seen 0 0 (countingAt TEST-MODE false false)) ≡ seen 0 0 (readAt TEST-MODE true false)
   -- the stale word before it is not judged
-  pub stale : afterRead (okayWith 0x7FFFFFFF) (seen 0 0 0 (readAt TEST-MODE false false)) ≡ seen 0 0 0 (countingAt TEST-MODE false false)
+  pub stale : afterRead (okayWith 0x7FFFFFFF) (seen 0 0 (readAt TEST-MODE false false)) ≡ seen 0 0 (countingAt TEST-MODE false false)
   -- 'a poll loop's 10,000th poll with bit 31 or 28 still set (18)': not the 9,999th, not with any other bit
-  pub poll10000 : afterRead (okayWith 0x80000000) (seen 0 9999 0 (countingAt SYSREQ true true)) ≡ linkError 18
-  pub bit28 : afterRead (okayWith 0x10000000) (seen 0 9999 0 (countingAt SYSREQ true true)) ≡ linkError 18
-  pub poll9999 : afterRead (okayWith 0x10000000) (seen 0 9998 0 (countingAt SYSREQ true true)) ≡ polledBusy 0 9999 0 (readAt SYSREQ true true)
-  pub otherBits : afterRead (okayWith 0x6FFFFFFF) (seen 0 9999 0 (countingAt SYSREQ true true)) ≡ seen 0 0 0 (readAt SYSREQ false true)
+  pub poll10000 : afterRead (okayWith 0x80000000) (seen 9999 0 (countingAt SYSREQ true true)) ≡ linkError 18
+  pub bit28 : afterRead (okayWith 0x10000000) (seen 9999 0 (countingAt SYSREQ true true)) ≡ linkError 18
+  pub poll9999 : afterRead (okayWith 0x10000000) (seen 9998 0 (countingAt SYSREQ true true)) ≡ polledBusy 9999 0 (readAt SYSREQ true true)
+  pub otherBits : afterRead (okayWith 0x6FFFFFFF) (seen 9999 0 (countingAt SYSREQ true true)) ≡ seen 0 0 (readAt SYSREQ false true)
   -- a Read of SYSREQ after the loop's end is no poll, and a Read of another place ends a loop
-  pub noPoll : afterRead (okayWith 0x80000000) (seen 0 9999 0 (countingAt SYSREQ false false)) ≡ seen 0 9999 0 (readAt SYSREQ false false)
-  pub loopLeft : afterRead (okayWith 0) (seen 0 9999 0 (countingAt 0 true true)) ≡ seen 0 0 0 (readAt 0 false true)
+  pub noPoll : afterRead (okayWith 0x80000000) (seen 9999 0 (countingAt SYSREQ false false)) ≡ seen 9999 0 (readAt SYSREQ false false)
+  pub loopLeft : afterRead (okayWith 0) (seen 9999 0 (countingAt 0 true true)) ≡ seen 0 0 (readAt 0 false true)
   -- 'a call after which the Read of SYSARG gives a top digit other than 0xA (19)': the first Read after the call alone
-  pub digitB : afterRead (okayWith 0xB0000000) (seen 0 0 0 (countingAt SYSARG false true)) ≡ linkError 19
-  pub digit2 : afterRead (okayWith 0x2A000000) (seen 0 0 0 (countingAt SYSARG false true)) ≡ linkError 19
-  pub digitA : afterRead (okayWith 0xAFFFFFFF) (seen 0 0 0 (countingAt SYSARG false true)) ≡ seen 0 0 0 (readAt SYSARG false false)
-  pub secondRead : afterRead (okayWith 0xB0000000) (seen 0 0 0 (countingAt SYSARG false false)) ≡ seen 0 0 0 (readAt SYSARG false false)
+  pub digitB : afterRead (okayWith 0xB0000000) (seen 0 0 (countingAt SYSARG false true)) ≡ linkError 19
+  pub digit2 : afterRead (okayWith 0x2A000000) (seen 0 0 (countingAt SYSARG false true)) ≡ linkError 19
+  pub digitA : afterRead (okayWith 0xAFFFFFFF) (seen 0 0 (countingAt SYSARG false true)) ≡ seen 0 0 (readAt SYSARG false false)
+  pub secondRead : afterRead (okayWith 0xB0000000) (seen 0 0 (countingAt SYSARG false false)) ≡ seen 0 0 (readAt SYSARG false false)
   -- a call is a write of SYSREQ with bit 31; neither another word there nor that word elsewhere
-  pub call : watch partOne (WriteDrw 0x80000004) (answer 1 0 0) (seen 0 3 0 (readAt SYSREQ false false)) ≡ seen 0 0 0 (readAt SYSREQ true true)
-  pub noCall : watch partOne (WriteDrw 0x7FFFFFFF) (answer 1 0 0) (seen 0 3 0 (readAt SYSREQ false false)) ≡ seen 0 3 0 (readAt SYSREQ false false)
-  pub listWord : watch partOne (WriteDrw 0x80000004) (answer 1 0 0) (seen 0 3 0 (readAt PARAMS false false)) ≡ seen 0 3 0 (readAt PARAMS false false)
+  pub call : watch partOne (WriteDrw 0x80000004) (answer 1 0 0) (seen 3 0 (readAt SYSREQ false false)) ≡ seen 0 0 (readAt SYSREQ true true)
+  pub noCall : watch partOne (WriteDrw 0x7FFFFFFF) (answer 1 0 0) (seen 3 0 (readAt SYSREQ false false)) ≡ seen 3 0 (readAt SYSREQ false false)
+  pub listWord : watch partOne (WriteDrw 0x80000004) (answer 1 0 0) (seen 3 0 (readAt PARAMS false false)) ≡ seen 3 0 (readAt PARAMS false false)
 
 -- 26 to 30: what the line does
 pub record LineMishaps : Type 0 where
   -- 'thirty attempts running without an OK of right parity (26)'; 'Inside the IDCODE attempts only 26 counts.'
-  pub attempt30 : afterAttempt (answer 2 0 0) (seen 0 0 29 (readAt 0 false false)) ≡ linkError 26
-  pub attemptFault : afterAttempt (answer 4 0 0) (seen 0 0 29 (readAt 0 false false)) ≡ linkError 26
-  pub attempt29 : afterAttempt (answer 1 0 1) (seen 0 0 28 (readAt 0 false false)) ≡ missedOne 0 0 29 (readAt 0 false false)
-  pub attemptOkay : afterAttempt (answer 1 0 0) (seen 0 0 29 (readAt 0 false false)) ≡ seen 0 0 0 (readAt 0 false false)
-  -- 'one transfer's seventeenth WAIT running (27)'; the run starts afresh at each transfer
-  pub wait17 : afterRead (answer 2 0 0) (seen 16 0 0 (readAt 0 false false)) ≡ linkError 27
-  pub wait16 : afterRead (answer 2 0 0) (seen 15 0 0 (readAt 0 false false)) ≡ waited 16 0 0 (readAt 0 false false)
-  pub afresh : afterRead (answer 1 0 0) (seen 16 0 0 (readAt 0 false false)) ≡ seen 0 0 0 (countingAt 0 false false)
+  pub attempt30 : afterAttempt (answer 2 0 0) (seen 0 29 (readAt 0 false false)) ≡ linkError 26
+  pub attemptFault : afterAttempt (answer 4 0 0) (seen 0 29 (readAt 0 false false)) ≡ linkError 26
+  pub attempt29 : afterAttempt (answer 1 0 1) (seen 0 28 (readAt 0 false false)) ≡ missedOne 0 29 (readAt 0 false false)
+  pub attemptOkay : afterAttempt (answer 1 0 0) (seen 0 29 (readAt 0 false false)) ≡ seen 0 0 (readAt 0 false false)
+  -- 'one transfer's seventeenth WAIT running (27)'
+  pub wait17 : afterRead wait (waited ReadDrw 16 16) ≡ linkError 27
+  pub wait16 : afterRead wait (waited ReadDrw 15 15) ≡ waited ReadDrw 16 16
+  -- the run starts afresh with an OK, with another register, with another word, and after a reset
+  pub afresh : afterRead (answer 1 0 0) (waited ReadDrw 16 0) ≡ seen 0 0 (countingAt 0 false false)
+  pub otherRegister : watch partOne (WriteTar 5) wait (waited (WriteDrw 5) 16 16) ≡ waited (WriteTar 5) 1 17
+  pub otherWord : watch partOne (WriteDrw 5) wait (waited (WriteDrw 6) 16 16) ≡ waited (WriteDrw 5) 1 17
+  pub sameWord : watch partOne (WriteDrw 5) wait (waited (WriteDrw 5) 16 16) ≡ linkError 27
+  pub xresBetween : watch partOne Xres ResetDone (waited ReadDrw 16 0) ≡ seen 0 0 (readAt 0 false false)
+  pub lineResetBetween : watch partOne LineReset ResetDone (waited ReadDrw 16 0) ≡ seen 0 0 (readAt 0 false false)
   -- 'FAULT (28), silence (29), wrong parity on a read answered OK (30)'; on a write word and parity say nothing
-  pub fault : afterRead (answer 4 0 0) (seen 0 0 0 (readAt 0 false false)) ≡ linkError 28
-  pub silence : afterRead (answer 0 0 0) (seen 0 0 0 (readAt 0 false false)) ≡ linkError 29
-  pub noise : afterRead (answer 3 0 0) (seen 0 0 0 (readAt 0 false false)) ≡ linkError 29
-  pub wrongParity : afterRead (answer 1 0 1) (seen 0 0 0 (readAt 0 false false)) ≡ linkError 30
-  pub writtenParity : watch partOne (WriteDrw 0) (answer 1 0 1) (seen 0 0 0 (readAt 0 false false)) ≡ seen 0 0 0 (readAt 0 false false)
-  -- the first mishap stays; a reset is none
+  pub fault : afterRead (answer 4 0 0) (seen 0 0 (readAt 0 false false)) ≡ linkError 28
+  pub silence : afterRead (answer 0 0 0) (seen 0 0 (readAt 0 false false)) ≡ linkError 29
+  pub noise : afterRead (answer 3 0 0) (seen 0 0 (readAt 0 false false)) ≡ linkError 29
+  pub wrongParity : afterRead (answer 1 0 1) (seen 0 0 (readAt 0 false false)) ≡ linkError 30
+  pub writtenParity : watch partOne (WriteDrw 0) (answer 1 0 1) (seen 0 0 (readAt 0 false false)) ≡ seen 0 0 (readAt 0 false false)
+  -- the first mishap stays; a reset is none, and changes nothing else of what has been seen
   pub first : (q : Request) (r : Answer) (number : ℕ) → watch partOne q r (linkError number) ≡ linkError number
-  pub xres : (m : Monitor) → watch partOne Xres ResetDone m ≡ m
-  pub lineReset : (m : Monitor) → watch partOne LineReset ResetDone m ≡ m
+  pub xres : (w : Waits) (p a : ℕ) (t : Watch) (d : Delays) → watch partOne Xres ResetDone (watching w p a t d) ≡ watching noWaits p a t d
+  pub lineReset : (w : Waits) (p a : ℕ) (t : Watch) (d : Delays) → watch partOne LineReset ResetDone (watching w p a t d) ≡ watching noWaits p a t d

@@ -1,5 +1,5 @@
 -- What goes over the wire for each request, and how an answer reads: document 01, 'Wire'. Assumes nothing.
-use mathlib.Core.Bool.{Bool, true, false, cond}
+use mathlib.Core.Bool.{Bool, true, false, _&&_, cond}
 use Prim.Native.Nat.{ℕ}
 use lib.Dec.{eqb}
 use Rattle.flow.specs.declared.Answer.{Answer}
@@ -31,6 +31,23 @@ packetOf ReadDrw = readPacket Drw
 packetOf (WriteTar w) = writePacket Tar w
 packetOf (WriteDrw w) = writePacket Drw w
 packetOf (WriteSetup r w) = writePacket r w
+
+-- the byte and the word of a packet
+abbrev pub byteIn : Packet → ℕ
+byteIn Packets.the-variants.Xres = 0
+byteIn Packets.the-variants.LineReset = 0
+byteIn (Packets.the-variants.Read r) = r
+byteIn (Packets.the-variants.Write r w p) = r
+
+abbrev pub wordIn : Packet → ℕ
+wordIn Packets.the-variants.Xres = 0
+wordIn Packets.the-variants.LineReset = 0
+wordIn (Packets.the-variants.Read r) = 0
+wordIn (Packets.the-variants.Write r w p) = w
+
+-- whether two requests for transfers are the same on the wire
+abbrev pub sameRequest : Request → Request → Bool
+sameRequest q q′ = eqb (byteIn (packetOf q)) (byteIn (packetOf q′)) && eqb (wordIn (packetOf q)) (wordIn (packetOf q′))
 
 abbrev pub isRead : Request → Bool
 isRead Xres = false

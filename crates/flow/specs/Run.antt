@@ -1,8 +1,7 @@
 -- A session and a target, step by step: 'The board meets every request once, in order, and nothing else.' Assumes nothing.
-use mathlib.Core.Bool.{false}
 use Prim.Native.Nat.{ℕ, zero, suc}
 use Rattle.flow.specs.Exchange.{Met, meet}
-use Rattle.flow.specs.Monitor.{Monitor, watching, watch, noDelays}
+use Rattle.flow.specs.Monitor.{Monitor, nothingSeen, watch}
 use Rattle.flow.specs.Packets.{packetOf}
 use Rattle.flow.specs.Plan.{Traffic, noTraffic, counting}
 use Rattle.flow.specs.Session.{SessionState, running, reported, moveAt, stepOf, firstSession}
@@ -47,7 +46,7 @@ started b l = record {
   session = firstSession;
   target = b;
   lists = l;
-  monitor = watching 0 0 0 (record { tar = 0; counts = false; polling = false; due = false }) noDelays;
+  monitor = nothingSeen;
   traffic = noTraffic;
 }
 

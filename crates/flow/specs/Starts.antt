@@ -5,7 +5,7 @@ use mathlib.Core.Logic.{_⊎_}
 use mathlib.Core.Path.{_≡_}
 use Prim.Native.Nat.{ℕ, _+_, _/_, _≤_, _<_}
 use lib.ListN.{length, getD}
-use Rattle.flow.specs.Claim.{Passes, Startable, Calm}
+use Rattle.flow.specs.Terms.{Passes, Startable, Calm}
 use Rattle.flow.specs.Examples.{partOne, twoMacros}
 use Rattle.flow.specs.Plan.{mostTraffic}
 use Rattle.flow.specs.Target.{Target, Memory, Residue, idle}

@@ -6,7 +6,7 @@ use Prim.Native.Nat.{ℕ, zero, suc, _≤_, _<_}
 use native.Mathlib.Omega.{arith}
 use borrow.Author.Tests.{lt-ltb}
 use Rattle.flow.proofs.Demand.{run-demand3-holds}
-use Rattle.flow.specs.Claim.{Passes, Startable, entryOf}
+use Rattle.flow.specs.Terms.{Passes, Startable, entryOf}
 use Rattle.flow.specs.Plan.{Traffic, counting, plan, loops, mostTraffic}
 use Rattle.flow.specs.Run.{Run, advance, runAfter, started, handedOutBy}
 use Rattle.flow.specs.Sequence.{sequence, opening, acquire}
