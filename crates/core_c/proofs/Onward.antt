@@ -15,7 +15,7 @@ use Rattle.core_c.specs.Sessions.{sessionBytes, sessionIn}
 use Rattle.flow.specs.declared.Entry.{Entry}
 use Rattle.image.specs.declared.Header.{Header}
 use Rattle.layout.proofs.Bytes.{low-less}
-use Rattle.moves.specs.Moves.{moveCount}
+use Rattle.flow.specs.Session.{moveCount}
 use Rattle.parts.specs.Parts.{lookupOf}
 use Rattle.parts.specs.declared.Geometry.{Geometry}
 use Rattle.parts.specs.declared.Lookup.{Lookup}

@@ -5,13 +5,13 @@ use Prim.Native.Nat.{ℕ, zero, suc, _+_, _*_, _/_, _≤_}
 use native.Mathlib.Omega.{arith}
 use lib.ListN.{length}
 use Rattle.flow.specs.Plan.{Traffic, counting, trafficIn, isPoll, pollsIn, fromProtected, plan, loops, acquisitions}
-use Rattle.flow.specs.Sequence.{write, read, call, writes, listed, inTurn, imoCall, acquire, silicon, privileged, programRow, compareWord, lockStart, lockMacro, verifyMacro, program, opening, afterwards, sequence, key}
+use Rattle.flow.specs.Sequence.{write, read, call, writes, listed, inTurn, imoCall, acquire, silicon, privileged, programRow, compareWords, verifyRow, lockStart, lockMacro, verifyMacro, program, opening, afterwards, sequence, key}
 use Rattle.flow.specs.Totals.{SequenceCounts}
 use Rattle.flow.specs.declared.Entry.{Entry}
 use Rattle.flow.specs.declared.Entry.the-variants.{FromOpen, FromProtected}
 use Rattle.flow.specs.declared.Move.{Move}
 use Rattle.flow.specs.declared.Purpose.{Purpose}
-use Rattle.flow.specs.declared.Purpose.the-variants.{Keep, EntryLevel, Reopened, StoredLevel, LastSum}
+use Rattle.flow.specs.declared.Purpose.the-variants.{FlashWord, LockWord, Keep, EntryLevel, Reopened, StoredLevel, LastSum}
 use Rattle.flow.specs.declared.Request.{Request}
 use Rattle.flow.specs.declared.Request.the-variants.{Xres, LineReset, ReadIdcode, ReadDrw, WriteTar, WriteDrw, WriteSetup}
 use Rattle.flow.proofs.Table.{Facts, facts}
@@ -112,9 +112,17 @@ count-row i r =
     let w = length-words (i .flash) (r * rowBytes (i .geometry)) (rowBytes (i .geometry) / 4) in
     recount (joined (count-listed (i .geometry) 5 4 _) (count-listed (i .geometry) 5 6 ((key 6 + r * 0x10000) ∷ []))) (omega (arith, w)) refl refl refl
 
-count-word : (s e a : ℕ) (bytes : List ℕ) (o j : ℕ) → Totals (compareWord s e a bytes o j) 3 0 0 0
+count-read : (s a : ℕ) (u : Purpose) → isPoll u ≡ 0 → Totals (read s a u) 3 0 0 0
 unfolding read trafficIn pollsIn
-count-word s e a bytes o j = record { transfers = refl; polls = refl; xresets = refl; lineResets = refl }
+count-read s a u h = record { transfers = refl; polls = omega (arith, h); xresets = refl; lineResets = refl }
+
+-- words compared by a purpose that is no poll
+count-words : (s a : ℕ) (u : ℕ → Purpose) → ((o : ℕ) → isPoll (u o) ≡ 0) → (n : ℕ) → Totals (compareWords s a u n) (3 * n) 0 0 0
+count-words s a u h n = recount (count-in-turn _ 3 0 (λ j. count-read s (a + 4 * j) (u (4 * j)) (h (4 * j))) 0 n) (omega arith) (omega arith) refl refl
+
+count-verify-row : (g : Geometry) (r : ℕ) → Totals (verifyRow g r) (3 * (rowBytes g / 4)) 0 0 0
+unfolding verifyRow
+count-verify-row g r = count-words 6 _ (FlashWord r) (λ o. refl) (rowBytes g / 4)
 
 count-lock : (i : Image) (m : ℕ) → Totals (lockMacro i m) (24 + 2 * (locksIn (i .geometry) m / 4)) 2 0 0
 unfolding lockMacro
@@ -122,9 +130,9 @@ count-lock i m =
     let w = length-words (i .protection) (lockStart (i .geometry) m) (locksIn (i .geometry) m / 4) in
     recount (joined (count-listed (i .geometry) 7 4 _) (count-call (i .geometry) 7 0x0D _)) (omega (arith, w)) refl refl refl
 
-count-verify : (i : Image) (m : ℕ) → Totals (verifyMacro i m) (3 * (locksIn (i .geometry) m / 4)) 0 0 0
+count-verify : (g : Geometry) (m : ℕ) → Totals (verifyMacro g m) (3 * (locksIn g m / 4)) 0 0 0
 unfolding verifyMacro
-count-verify i m = recount (count-in-turn _ 3 0 (λ k. count-word 8 23 _ _ _ k) 0 (locksIn (i .geometry) m / 4)) (omega arith) (omega arith) refl refl
+count-verify g m = count-words 8 _ (LockWord m) (λ o. refl) (locksIn g m / 4)
 
 count-privileged : (g : Geometry) (s : ℕ) (u : Purpose) → isPoll u ≡ 0 → Totals (privileged g s u) 13 1 0 0
 unfolding privileged call write read trafficIn pollsIn
@@ -145,10 +153,6 @@ count-acquire g f =
     let h = count-imo g (imoOf g) (f .imo) in
     record { transfers = omega (arith, h .transfers); polls = omega (arith, h .polls); xresets = omega (arith, h .xresets); lineResets = omega (arith, h .lineResets) }
 
-count-read : (s a : ℕ) (u : Purpose) → isPoll u ≡ 0 → Totals (read s a u) 3 0 0 0
-unfolding read trafficIn pollsIn
-count-read s a u h = record { transfers = refl; polls = omega (arith, h); xresets = refl; lineResets = refl }
-
 module _ (i : Image) (f : Facts (i .geometry)) where
   count-program : Totals (program i)
       (29 + rowsOf (i .geometry) * (26 + 5 * (rowBytes (i .geometry) / 4)) + macrosOf (i .geometry) * (24 + 5 * (locksIn (i .geometry) 0 / 4)))
@@ -159,9 +163,9 @@ module _ (i : Image) (f : Facts (i .geometry)) where
       recount
       (joined (count-privileged g 4 Keep refl)
       (joined (count-in-turn _ _ 2 (count-row i) 0 (rowsOf g))
-      (joined (count-in-turn _ 3 0 (λ k. count-word 6 22 _ _ _ k) 0 (rowsOf g * (rowBytes g / 4)))
+      (joined (count-in-turn _ _ 0 (count-verify-row g) 0 (rowsOf g))
       (joined (count-in-turn _ _ 2 (count-lock i) 0 (macrosOf g))
-      (joined (count-in-turn _ _ 0 (count-verify i) 0 (macrosOf g))
+      (joined (count-in-turn _ _ 0 (count-verify g) 0 (macrosOf g))
       (joined (count-read 8 _ StoredLevel refl) (count-privileged g 9 LastSum refl)))))))
       (omega arith) (omega arith) refl refl
 

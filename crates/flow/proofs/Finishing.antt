@@ -11,7 +11,7 @@ use Rattle.flow.specs.Calls.{finish, effectOf, sysargAfter, sysreqAfter,
 use Rattle.flow.specs.Judge.{free, succeeded, sumsFit, judge}
 use Rattle.flow.specs.Monitor.{noWaits, watching, noticeRead}
 use Rattle.flow.specs.Run.{Run}
-use Rattle.flow.specs.Sequence.{key, call, read, privileged, inTurn, programRow, verifyFlash, lockMacro, verifyMacro, program}
+use Rattle.flow.specs.Sequence.{key, call, read, privileged, inTurn, programRow, verifyRow, lockMacro, verifyMacro, program}
 use Rattle.flow.specs.Session.{judgedTo}
 use Rattle.flow.specs.Target.{Target, Memory, Residue}
 use Rattle.flow.specs.declared.Entry.{Entry}
@@ -132,13 +132,13 @@ module _ {i : Image} (f : Frame i) (fx : Facts (i .geometry)) (v : Valid i) wher
   after8 = read 8 (levelAt (i .geometry)) StoredLevel ++ privileged (i .geometry) 9 LastSum
 
   abbrev after7 : List Move
-  after7 = inTurn (verifyMacro i) 0 (macrosOf (i .geometry)) ++ after8
+  after7 = inTurn (verifyMacro (i .geometry)) 0 (macrosOf (i .geometry)) ++ after8
 
   abbrev after6 : List Move
   after6 = inTurn (lockMacro i) 0 (macrosOf (i .geometry)) ++ after7
 
   abbrev after5 : List Move
-  after5 = verifyFlash i ++ after6
+  after5 = inTurn (verifyRow (i .geometry)) 0 (rowsOf (i .geometry)) ++ after6
 
   abbrev after4 : List Move
   after4 = inTurn (programRow i) 0 (rowsOf (i .geometry)) ++ after5
@@ -175,8 +175,8 @@ module _ {i : Image} (f : Frame i) (fx : Facts (i .geometry)) (v : Valid i) wher
   program-reaches {y} right blank st =
       (first-leg y) .along _ _ _ _ _ _ _ blank (split (privileged (i .geometry) 4 Keep) after4 [] nothing st) λ k₁ b₁ w₁ n₁ x₁ e₁ st₁.
       (rows-leg f fx v y) .along _ _ _ _ _ _ _ w₁ (split (inTurn (programRow i) 0 (rowsOf (i .geometry))) after5 [] nothing st₁) λ k₂ b₂ w₂ n₂ x₂ e₂ st₂.
-      (flash-leg f y fx v) .along _ _ _ _ _ _ _ w₂ (split (verifyFlash i) after6 [] nothing st₂) λ k₃ b₃ w₃ n₃ x₃ e₃ st₃.
+      (flash-leg f y fx v) .along _ _ _ _ _ _ _ w₂ (split (inTurn (verifyRow (i .geometry)) 0 (rowsOf (i .geometry))) after6 [] nothing st₂) λ k₃ b₃ w₃ n₃ x₃ e₃ st₃.
       (macros-leg f fx v y) .along _ _ _ _ _ _ _ (unlocked w₃) (split (inTurn (lockMacro i) 0 (macrosOf (i .geometry))) after7 [] nothing st₃) λ k₄ b₄ w₄ n₄ x₄ e₄ st₄.
-      (locks-leg f y fx v) .along _ _ _ _ _ _ _ w₄ (split (inTurn (verifyMacro i) 0 (macrosOf (i .geometry))) after8 [] nothing st₄) λ k₅ b₅ w₅ n₅ x₅ e₅ st₅.
+      (locks-leg f y fx v) .along _ _ _ _ _ _ _ w₄ (split (inTurn (verifyMacro (i .geometry)) 0 (macrosOf (i .geometry))) after8 [] nothing st₄) λ k₅ b₅ w₅ n₅ x₅ e₅ st₅.
       (level-leg f y fx v) .along _ _ _ _ _ _ _ w₅ (split (read 8 (levelAt (i .geometry)) StoredLevel) (privileged (i .geometry) 9 LastSum) [] nothing st₅) λ k₆ b₆ w₆ n₆ x₆ e₆ st₆.
       last-reaches right w₆ st₆

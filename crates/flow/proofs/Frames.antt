@@ -15,7 +15,7 @@ use Rattle.flow.specs.Target.{Target, Memory, Lists}
 use Rattle.flow.specs.declared.Entry.the-variants.{FromOpen}
 use Rattle.flow.specs.declared.Move.{Move}
 use Rattle.flow.specs.declared.Purpose.{Purpose}
-use Rattle.flow.specs.declared.Purpose.the-variants.{Sent, Idcode, TestBit, Poll, Status, Keep, EntryLevel, Reopened, Same, StoredLevel, LastSum}
+use Rattle.flow.specs.declared.Purpose.the-variants.{Sent, Idcode, TestBit, Poll, Status, Keep, EntryLevel, Reopened, FlashWord, LockWord, StoredLevel, LastSum}
 use Rattle.flow.specs.declared.Request.{Request}
 use Rattle.flow.specs.declared.Request.the-variants.{Xres, LineReset, ReadIdcode, ReadDrw, WriteTar, WriteDrw, WriteSetup}
 use Rattle.flow.specs.declared.Silicon.{Silicon}
@@ -43,7 +43,8 @@ read-room Status κ = record { room = omega arith; due = refl; xres = refl; line
 read-room Keep κ = record { room = omega arith; due = refl; xres = refl; lines = refl }
 read-room EntryLevel κ = record { room = omega arith; due = refl; xres = refl; lines = refl }
 read-room Reopened κ = record { room = omega arith; due = refl; xres = refl; lines = refl }
-read-room (Same w n) κ = record { room = omega arith; due = refl; xres = refl; lines = refl }
+read-room (FlashWord r o) κ = record { room = omega arith; due = refl; xres = refl; lines = refl }
+read-room (LockWord m o) κ = record { room = omega arith; due = refl; xres = refl; lines = refl }
 read-room StoredLevel κ = record { room = omega arith; due = refl; xres = refl; lines = refl }
 read-room LastSum κ = record { room = omega arith; due = refl; xres = refl; lines = refl }
 

@@ -1,10 +1,12 @@
 -- The examples of what each word is judged by hold. Assumes nothing.
 use mathlib.Core.Path.{refl}
 use Rattle.flow.specs.Judge.{free, testBitSet, succeeded, idsFit, levelShown, sumsFit, judge}
+use Rattle.image.specs.Words.{wordAt}
+use Rattle.parts.specs.Sizes.{locksIn}
 use Rattle.flow.specs.Judgements.{JudgeExamples}
 
 pub judge-examples : JudgeExamples
-unfolding judge free testBitSet succeeded idsFit levelShown sumsFit
+unfolding wordAt locksIn judge free testBitSet succeeded idsFit levelShown sumsFit
 judge-examples = record {
   idcode = refl;
   otherIdcode = refl;
@@ -25,8 +27,11 @@ judge-examples = record {
   family = refl;
   lowFits = refl;
   lowFitsNot = refl;
-  same = refl;
-  notSame = refl;
+  flash = refl;
+  otherFlash = refl;
+  otherRow = refl;
+  locks = refl;
+  otherLocks = refl;
   stored = refl;
   storedVirgin = refl;
   storedEight = refl;

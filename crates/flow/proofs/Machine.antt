@@ -8,7 +8,7 @@ use borrow.Author.Tests.{ltb-true, ltb-false}
 use lib.Dec.{eqb, ltb}
 use lib.ListN.{length, getD, length-reverse, List·getD-append}
 use lib.Seq.{getD-append-add}
-use Rattle.flow.specs.Judge.{Judged, go, pollAgain, enter, report, judge, goIf, polled, entryBy, free, testBitSet, succeeded, idsFit, levelIn, levelShown, sumsFit}
+use Rattle.flow.specs.Judge.{Judged, rowIn, macroLocks, go, pollAgain, enter, report, judge, goIf, polled, entryBy, free, testBitSet, succeeded, idsFit, levelIn, levelShown, sumsFit}
 use Rattle.flow.specs.Machine.{Cursor, standingMove, onward, back, entering, Machine, underWay, ended, judgedOn, heardOn, answerOn, machineStep, Placed, StandsFor, placed, finished, sessionMove, machineMove, Agrees}
 use Rattle.flow.specs.Monitor.{isAttempt, isReset}
 use Rattle.flow.specs.Packets.{Verdict, okay, again, broken, verdict}
@@ -19,9 +19,10 @@ use Rattle.flow.specs.declared.Entry.{Entry}
 use Rattle.flow.specs.declared.Entry.the-variants.{FromOpen, FromProtected}
 use Rattle.flow.specs.declared.Move.{Move}
 use Rattle.flow.specs.declared.Purpose.{Purpose}
-use Rattle.flow.specs.declared.Purpose.the-variants.{Sent, Idcode, TestBit, Poll, Status, Keep, EntryLevel, Reopened, Same, StoredLevel, LastSum}
+use Rattle.flow.specs.declared.Purpose.the-variants.{Sent, Idcode, TestBit, Poll, Status, Keep, EntryLevel, Reopened, FlashWord, LockWord, StoredLevel, LastSum}
 use Rattle.flow.proofs.Moves.{Reports, Proper, proper-at}
 use Rattle.image.specs.Image.{Image}
+use Rattle.image.specs.Words.{sameWord}
 
 -- ---- lists
 
@@ -145,7 +146,8 @@ module _ (E : Type 0) where
       (either (eqb (levelIn w) 2) (enter FromProtected p k) (report 21) r tt)) tt
   judged i Reopened s p k w r =
       either (idsFit i k w) (goIf (eqb (levelIn w) 1) 21 p k) (report 20) (go-if (eqb (levelIn w) 1) 21 p k) tt
-  judged i (Same v n) s p k w r = go-if (eqb w v) n p k
+  judged i (FlashWord x o) s p k w r = go-if (sameWord (rowIn i x) o w) 22 p k
+  judged i (LockWord m o) s p k w r = go-if (sameWord (macroLocks i m) o w) 23 p k
   judged i StoredLevel s p k w r = go-if (eqb (levelShown w) (i .header .level)) 24 p k
   judged i LastSum s p k w r = either (sumsFit i w k) (report 0) (report 25) tt tt
 

@@ -8,18 +8,18 @@ use lib.ListN.{length, getD, length-append}
 use Rattle.flow.proofs.Hearing.{aTar, aDrw, aRead, aCtrl, aSelect, aCsw, attempt, plain, decodes}
 use Rattle.flow.specs.Exchange.{decode}
 use Rattle.flow.specs.Packets.{packetOf}
-use Rattle.flow.specs.Sequence.{move, write, read, call, writes, listed, inTurn, imoCall, acquire, silicon, privileged, programRow, lockMacro, verifyMacro, program, opening, afterwards, sequence, endMove, key}
+use Rattle.flow.specs.Sequence.{move, write, read, call, writes, listed, inTurn, imoCall, acquire, silicon, privileged, programRow, verifyRow, lockMacro, verifyMacro, program, opening, afterwards, sequence, endMove, key}
 use Rattle.flow.specs.Session.{moveAt}
 use Rattle.flow.specs.declared.Decoded.the-variants.{Known}
 use Rattle.flow.specs.declared.Entry.{Entry}
 use Rattle.flow.specs.declared.Entry.the-variants.{FromOpen, FromProtected}
 use Rattle.flow.specs.declared.Move.{Move}
 use Rattle.flow.specs.declared.Purpose.{Purpose}
-use Rattle.flow.specs.declared.Purpose.the-variants.{Sent, Idcode, TestBit, Poll, Status, Keep, EntryLevel, Reopened, Same, StoredLevel, LastSum}
+use Rattle.flow.specs.declared.Purpose.the-variants.{Sent, Idcode, TestBit, Poll, Status, Keep, EntryLevel, Reopened, FlashWord, LockWord, StoredLevel, LastSum}
 use Rattle.flow.specs.declared.Request.{Request}
 use Rattle.flow.specs.declared.Request.the-variants.{Xres, LineReset, ReadIdcode, ReadDrw, WriteTar, WriteDrw}
 use Rattle.image.specs.Image.{Image}
-use Rattle.parts.specs.Sizes.{macrosOf, rowsOf, locksIn, sysreqOf, sysargOf, imoOf, PARAMS}
+use Rattle.parts.specs.Sizes.{rowBytes, macrosOf, rowsOf, locksIn, sysreqOf, sysargOf, imoOf, PARAMS}
 use Rattle.parts.specs.declared.Geometry.{Geometry}
 
 data All (P : Move → Type 0) : List Move → Type 0 where
@@ -46,7 +46,8 @@ Reports E Status s = Unit {0}
 Reports E Keep s = Unit {0}
 Reports E EntryLevel s = E
 Reports E Reopened s = Unit {0}
-Reports E (Same w n) s = (16 ≤ n) × (n ≤ 30)
+Reports E (FlashWord r o) s = Unit {0}
+Reports E (LockWord m o) s = Unit {0}
 Reports E StoredLevel s = Unit {0}
 Reports E LastSum s = s ≡ 9
 
@@ -77,7 +78,8 @@ relax h Status s r = tt
 relax h Keep s r = tt
 relax h EntryLevel s r = h r
 relax h Reopened s r = tt
-relax h (Same w n) s r = r
+relax h (FlashWord r o) s x = tt
+relax h (LockWord m o) s x = tt
 relax h StoredLevel s r = tt
 relax h LastSum s r = r
 
@@ -144,17 +146,18 @@ module _ (E : Type 0) where
       (joined (all-read E 2 (lit≤ tt) (lit≤ tt) _ Keep tt) (all-read E 2 (lit≤ tt) (lit≤ tt) _ u r))
 
   all-program : (i : Image) → All (Proper E) (program i)
-  unfolding program programRow lockMacro verifyMacro
+  unfolding program programRow verifyRow lockMacro verifyMacro
   all-program i =
       let g = i .geometry in
       joined (all-privileged E 4 (lit≤ tt) (lit≤ tt) g Keep tt)
       (joined
       (all-pieces _ (λ r. joined (all-listed E 5 (lit≤ tt) (lit≤ tt) g 4 _) (all-listed E 5 (lit≤ tt) (lit≤ tt) g 6 _)) 0 (rowsOf g))
-      (joined (all-pieces _ (λ j. all-read E 6 (lit≤ tt) (lit≤ tt) _ (Same _ 22) (lit≤ tt, lit≤ tt)) 0 _)
+      (joined
+      (all-pieces _ (λ r. all-pieces _ (λ j. all-read E 6 (lit≤ tt) (lit≤ tt) _ (FlashWord r _) tt) 0 (rowBytes g / 4)) 0 (rowsOf g))
       (joined
       (all-pieces _ (λ m. joined (all-listed E 7 (lit≤ tt) (lit≤ tt) g 4 _) (all-call E 7 (lit≤ tt) (lit≤ tt) g 0x0D _)) 0 (macrosOf g))
       (joined
-      (all-pieces _ (λ m. all-pieces _ (λ j. all-read E 8 (lit≤ tt) (lit≤ tt) _ (Same _ 23) (lit≤ tt, lit≤ tt)) 0 (locksIn g m / 4)) 0 (macrosOf g))
+      (all-pieces _ (λ m. all-pieces _ (λ j. all-read E 8 (lit≤ tt) (lit≤ tt) _ (LockWord m _) tt) 0 (locksIn g m / 4)) 0 (macrosOf g))
       (joined (all-read E 8 (lit≤ tt) (lit≤ tt) _ StoredLevel tt) (all-privileged E 9 (lit≤ tt) (lit≤ tt) g LastSum refl))))))
 
 all-afterwards : (i : Image) (y : Entry) → All (Proper ⊥) (afterwards i y)

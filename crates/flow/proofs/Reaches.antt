@@ -17,7 +17,7 @@ use Rattle.flow.specs.Target.{Target, Memory, Lists}
 use Rattle.flow.specs.declared.Entry.{Entry}
 use Rattle.flow.specs.declared.Move.{Move}
 use Rattle.flow.specs.declared.Purpose.{Purpose}
-use Rattle.flow.specs.declared.Purpose.the-variants.{Sent, Idcode, TestBit, Poll, Status, Keep, EntryLevel, Reopened, Same, StoredLevel, LastSum}
+use Rattle.flow.specs.declared.Purpose.the-variants.{Sent, Idcode, TestBit, Poll, Status, Keep, EntryLevel, Reopened, FlashWord, LockWord, StoredLevel, LastSum}
 use Rattle.flow.specs.declared.Request.{Request}
 use Rattle.flow.specs.declared.Request.the-variants.{Xres, LineReset, ReadIdcode, ReadDrw, WriteTar, WriteDrw, WriteSetup}
 use Rattle.flow.specs.declared.Silicon.{Silicon}
@@ -48,7 +48,8 @@ withRead Status κ = withTransfer κ
 withRead Keep κ = withTransfer κ
 withRead EntryLevel κ = withTransfer κ
 withRead Reopened κ = withTransfer κ
-withRead (Same w n) κ = withTransfer κ
+withRead (FlashWord r o) κ = withTransfer κ
+withRead (LockWord m o) κ = withTransfer κ
 withRead StoredLevel κ = withTransfer κ
 withRead LastSum κ = withTransfer κ
 

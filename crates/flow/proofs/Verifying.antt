@@ -1,29 +1,31 @@
 -- Words read and compared: steps 6 and 8. Assumes nothing.
-use mathlib.Core.Bool.{true}
+use mathlib.Core.Bool.{Bool, true, false, false≢true}
 use mathlib.Core.List.{List}
-use mathlib.Core.Path.{_≡_, refl}
-use Prim.Native.Nat.{ℕ, _+_, _*_, _/_, _%_, _≤_, _<_}
-use native.Mathlib.Nat.{mul-le-mul-left, le-of-eq}
+use mathlib.Core.Path.{_≡_, refl, sym}
+use Prim.Native.Nat.{ℕ, suc, _+_, _*_, _/_, _%_, _≤_, _<_}
+use native.Mathlib.Nat.{mul-le-mul-right, suc-mul}
 use native.Mathlib.Omega.{arith}
 use lib.Dec.{eqb}
 use borrow.Author.Tests.{eq-eqb}
 use Rattle.flow.specs.Exchange.{levelWord}
-use Rattle.flow.specs.Judge.{judge, levelShown}
+use Rattle.flow.specs.Judge.{go, goIf, judge, levelShown}
 use Rattle.flow.specs.Map.{place}
 use Rattle.flow.specs.Monitor.{noticeRead}
-use Rattle.flow.specs.Sequence.{read, inTurn, compareWord, verifyFlash, lockStart, verifyMacro}
+use Rattle.flow.specs.Sequence.{read, inTurn, compareWords, verifyRow, lockStart, verifyMacro}
 use Rattle.flow.specs.Target.{Target}
 use Rattle.flow.specs.declared.Entry.{Entry}
 use Rattle.flow.specs.declared.Move.{Move}
+use Rattle.flow.specs.declared.Purpose.{Purpose}
 use Rattle.flow.specs.declared.Place.the-variants.{InFlash, InLocks, AtLevel}
-use Rattle.flow.specs.declared.Purpose.the-variants.{Same, StoredLevel}
+use Rattle.flow.specs.declared.Purpose.the-variants.{FlashWord, LockWord, StoredLevel}
 use Rattle.flow.proofs.Access.{aim, admits-open, read-still}
 use Rattle.flow.proofs.Legs.{Core, core, Known, Leg, leg-pieces}
 use Rattle.flow.proofs.Phases.{Level, isOpen, isProtected, isKill, Valid, Wrote, Locked, level-safe, wrote-all, locked-all, last-level}
 use Rattle.flow.proofs.Places.{place-flash, place-locks, place-level}
 use Rattle.flow.proofs.Polling.{idleAt}
-use Rattle.flow.proofs.Reaches.{Allowance, withMoves, Env, sync, Frame, Stood, Stands, Reaches}
+use Rattle.flow.proofs.Reaches.{Allowance, withTransfer, withRead, withMoves, Env, sync, Frame, Stood, Stands, Reaches}
 use Rattle.flow.proofs.Table.{Facts}
+use Rattle.image.proofs.Words.{part-word}
 use Rattle.image.specs.Image.{Image}
 use Rattle.image.specs.Words.{wordAt}
 use Rattle.parts.specs.Sizes.{rowBytes, macrosOf, rowsOf, flashSize, locksIn, locksAt, levelAt}
@@ -40,57 +42,82 @@ level-read isOpen o = let e : (o / 268435456 * 268435456 + 0 * 16777216 + o % 16
 level-read isProtected o = let e : (o / 268435456 * 268435456 + 2 * 16777216 + o % 16777216) / 16777216 % 16 ≡ 2 = omega arith in rw e
 level-read isKill o = let e : (o / 268435456 * 268435456 + 4 * 16777216 + o % 16777216) / 16777216 % 16 ≡ 4 = omega arith in rw e
 
+-- a purpose that takes the word w, and costs what any read does
+record Takes (i : Image) (u : Purpose) (w : ℕ) : Type 0 where
+  pub judged : (k : ℕ) → judge i u 0 k w ≡ go 0 k
+  pub cost : (κ : Allowance) → withRead u κ ≡ withTransfer κ
+
+same-go : (y : Bool) (number k : ℕ) → y ≡ true → goIf y number 0 k ≡ go 0 k
+same-go true number k e = refl
+same-go false number k e = absurd (false≢true e)
+
+-- the word of a row, and of a macro's locks
+takes-flash : (i : Image) (r o : ℕ) → o + 4 ≤ rowBytes (i .geometry) → Takes i (FlashWord r o) (wordAt (i .flash) (r * rowBytes (i .geometry) + o))
+unfolding judge
+takes-flash i r o h = record {
+  judged = λ k. same-go _ 22 k (eq-eqb _ _ (sym (part-word (i .flash) (r * rowBytes (i .geometry)) (rowBytes (i .geometry)) o h)));
+  cost = λ κ. refl;
+}
+
+takes-locks : (i : Image) (m o : ℕ) → o + 4 ≤ locksIn (i .geometry) m → Takes i (LockWord m o) (wordAt (i .protection) (lockStart (i .geometry) m + o))
+unfolding judge
+takes-locks i m o h = record {
+  judged = λ k. same-go _ 23 k (eq-eqb _ _ (sym (part-word (i .protection) (lockStart (i .geometry) m) (locksIn (i .geometry) m) o h)));
+  cost = λ κ. refl;
+}
+
 module _ {i : Image} (f : Frame i) (y : Entry) where
-  word-reaches : (s z a w : ℕ) {n x k : ℕ} {later : List Move} {κ : Allowance} {e : Env} {b : Target} → Holds (i .geometry) (core b) a w → b .effect ≡ 1 → f .Safe (b .memory)
-      → Stands f y n (read s a (Same w z)) later κ e
+  word-reaches : (s a w : ℕ) (u : Purpose) → Takes i u w → {n x k : ℕ} {later : List Move} {κ : Allowance} {e : Env} {b : Target} → Holds (i .geometry) (core b) a w → b .effect ≡ 1 → f .Safe (b .memory)
+      → Stands f y n (read s a u) later κ e
       → (next : (n′ : ℕ) (e′ : Env) → Stood f y n′ later κ e′ → Reaches f (sync y n′ 0 0 k (aim a w b) (idleAt a) e′))
       → Reaches f (sync y n 0 0 k b (idleAt x) e)
-  unfolding judge noticeRead withMoves read
-  word-reaches s z a w {b = b} (flashHolds o hp hw) he safe st next =
-      read-still f s a (Same w z) st (InFlash o) hp (admits-open (b .effect) (InFlash o) he) safe (λ _. w) (λ _ _. rw hw) λ _ _ e′ h st′.
-      rw (eq-eqb w w refl) (next _ e′ st′)
-  word-reaches s z a w {b = b} (locksHold o hp hw) he safe st next =
-      read-still f s a (Same w z) st (InLocks o) hp (admits-open (b .effect) (InLocks o) he) safe (λ _. w) (λ _ _. rw hw) λ _ _ e′ h st′.
-      rw (eq-eqb w w refl) (next _ e′ st′)
+  unfolding noticeRead withMoves read
+  word-reaches s a w u takes {k = k} {κ = κ} {b = b} (flashHolds o hp hw) he safe st next =
+      read-still f s a u (rw (takes .cost κ) at st) (InFlash o) hp (admits-open (b .effect) (InFlash o) he) safe (λ _. w) (λ _ _. rw hw) λ _ _ e′ h st′.
+      rw (takes .judged k) (next _ e′ st′)
+  word-reaches s a w u takes {k = k} {κ = κ} {b = b} (locksHold o hp hw) he safe st next =
+      read-still f s a u (rw (takes .cost κ) at st) (InLocks o) hp (admits-open (b .effect) (InLocks o) he) safe (λ _. w) (λ _ _. rw hw) λ _ _ e′ h st′.
+      rw (takes .judged k) (next _ e′ st′)
 
-  -- where P holds, OPEN is in effect and the word at a is w
-  word-leg : (s z a w : ℕ) (P : Known) → ((k : ℕ) (c : Core) → P k c → Holds (i .geometry) c a w) → ((k : ℕ) (c : Core) → P k c → c .effect ≡ 1)
-      → ((k : ℕ) (c : Core) → P k c → f .Safe (c .memory)) → Leg f y (read s a (Same w z)) P P
-  word-leg s z a w P held opens safes = record {
-    along = λ n x k later κ e b p st next.
-        word-reaches s z a w (held k (core b) p) (opens k (core b) p) (safes k (core b) p) st λ n′ e′ st′. next k _ p n′ a e′ st′;
-  }
+  -- where P holds, OPEN is in effect, and the words from a on are those that u takes
+  words-leg : (s a n : ℕ) (u : ℕ → Purpose) (w : ℕ → ℕ) (P : Known) → ((j : ℕ) → j < n → Takes i (u (4 * j)) (w j))
+      → ((j : ℕ) → j < n → (k : ℕ) (c : Core) → P k c → Holds (i .geometry) c (a + 4 * j) (w j)) → ((k : ℕ) (c : Core) → P k c → c .effect ≡ 1)
+      → ((k : ℕ) (c : Core) → P k c → f .Safe (c .memory)) → Leg f y (compareWords s a u n) P P
+  words-leg s a n u w P takes held opens safes =
+      leg-pieces f y _ (λ j. P) _
+      (λ j h. record {
+        along = λ n x k later κ e b p st next.
+            word-reaches s (a + 4 * j) (w j) (u (4 * j)) (takes j h) (held j h k (core b) p) (opens k (core b) p) (safes k (core b) p) st λ n′ e′ st′. next k _ p n′ _ e′ st′;
+      })
+      n 0 (omega arith)
 
   module _ (fx : Facts (i .geometry)) (v : Valid i) where
     -- step 6
-    pub flash-leg : Leg f y (verifyFlash i) (Wrote f (rowsOf (i .geometry))) (Wrote f (rowsOf (i .geometry)))
-    unfolding flashSize
-    flash-leg = leg-pieces f y _ (λ j. Wrote f (rowsOf (i .geometry))) _ each (rowsOf (i .geometry) * (rowBytes (i .geometry) / 4)) 0 (omega arith)
+    row-leg : (r : ℕ) → r < rowsOf (i .geometry) → Leg f y (verifyRow (i .geometry) r) (Wrote f (rowsOf (i .geometry))) (Wrote f (rowsOf (i .geometry)))
+    unfolding verifyRow flashSize
+    row-leg r hr =
+        words-leg 6 (r * rowBytes (i .geometry)) (rowBytes (i .geometry) / 4) (FlashWord r) (λ j. wordAt (i .flash) (r * rowBytes (i .geometry) + 4 * j)) (Wrote f (rowsOf (i .geometry)))
+        (λ j h. takes-flash i r (4 * j) (omega (arith, fx .quads)))
+        (λ j h k c p. flashHolds (r * rowBytes (i .geometry) + 4 * j) (place-flash (i .geometry) fx _ (omega (arith, within, fx .quads))) (rw (wrote-all v p)))
+        (λ k c p. p .opened .effect) (λ k c p. f .safeOpen _ (p .level))
       where
-        whole : 4 * (rowsOf (i .geometry) * (rowBytes (i .geometry) / 4)) ≤ flashSize (i .geometry)
-        whole = omega (arith, mul-le-mul-left (rowsOf (i .geometry)) (le-of-eq (fx .quads)))
+        within : r * rowBytes (i .geometry) + rowBytes (i .geometry) ≤ flashSize (i .geometry)
+        within = let l : suc r * rowBytes (i .geometry) ≤ rowsOf (i .geometry) * rowBytes (i .geometry) = mul-le-mul-right (rowBytes (i .geometry)) hr in omega (arith, suc-mul r (rowBytes (i .geometry)))
 
-        each : (j : ℕ) → j < rowsOf (i .geometry) * (rowBytes (i .geometry) / 4)
-            → Leg f y (compareWord 6 22 0 (i .flash) 0 j) (Wrote f (rowsOf (i .geometry))) (Wrote f (rowsOf (i .geometry)))
-        each j h =
-            word-leg 6 22 (0 + 4 * j) (wordAt (i .flash) (0 + 4 * j)) (Wrote f (rowsOf (i .geometry)))
-            (λ k c p. flashHolds (0 + 4 * j) (place-flash (i .geometry) fx (0 + 4 * j) (omega (arith, whole))) (rw (wrote-all v p)))
-            (λ k c p. p .opened .effect) (λ k c p. f .safeOpen _ (p .level))
+    pub flash-leg : Leg f y (inTurn (verifyRow (i .geometry)) 0 (rowsOf (i .geometry))) (Wrote f (rowsOf (i .geometry))) (Wrote f (rowsOf (i .geometry)))
+    flash-leg = leg-pieces f y (verifyRow (i .geometry)) (λ r. Wrote f (rowsOf (i .geometry))) _ row-leg (rowsOf (i .geometry)) 0 (omega arith)
 
     -- step 8
-    macro-leg : (m : ℕ) → m < macrosOf (i .geometry) → Leg f y (verifyMacro i m) (Locked f (macrosOf (i .geometry))) (Locked f (macrosOf (i .geometry)))
+    macro-leg : (m : ℕ) → m < macrosOf (i .geometry) → Leg f y (verifyMacro (i .geometry) m) (Locked f (macrosOf (i .geometry))) (Locked f (macrosOf (i .geometry)))
     unfolding verifyMacro
-    macro-leg m hm = leg-pieces f y _ (λ j. Locked f (macrosOf (i .geometry))) _ each (locksIn (i .geometry) m / 4) 0 (omega arith)
-      where
-        each : (j : ℕ) → j < locksIn (i .geometry) m / 4
-            → Leg f y (compareWord 8 23 (locksAt (i .geometry) m) (i .protection) (lockStart (i .geometry) m) j) (Locked f (macrosOf (i .geometry))) (Locked f (macrosOf (i .geometry)))
-        each j h =
-            word-leg 8 23 (locksAt (i .geometry) m + 4 * j) (wordAt (i .protection) (lockStart (i .geometry) m + 4 * j)) (Locked f (macrosOf (i .geometry)))
-            (λ k c p. locksHold (lockStart (i .geometry) m + 4 * j) (place-locks (i .geometry) fx _ m (4 * j) refl hm (omega (arith, fx .lockQuads m))) (rw (locked-all v fx p)))
-            (λ k c p. p .opened .effect) (λ k c p. level-safe f (macrosOf (i .geometry)) (c .memory) (p .level))
+    macro-leg m hm =
+        words-leg 8 (locksAt (i .geometry) m) (locksIn (i .geometry) m / 4) (LockWord m) (λ j. wordAt (i .protection) (lockStart (i .geometry) m + 4 * j)) (Locked f (macrosOf (i .geometry)))
+        (λ j h. takes-locks i m (4 * j) (omega (arith, fx .lockQuads m)))
+        (λ j h k c p. locksHold (lockStart (i .geometry) m + 4 * j) (place-locks (i .geometry) fx _ m (4 * j) refl hm (omega (arith, fx .lockQuads m))) (rw (locked-all v fx p)))
+        (λ k c p. p .opened .effect) (λ k c p. level-safe f (macrosOf (i .geometry)) (c .memory) (p .level))
 
-    pub locks-leg : Leg f y (inTurn (verifyMacro i) 0 (macrosOf (i .geometry))) (Locked f (macrosOf (i .geometry))) (Locked f (macrosOf (i .geometry)))
-    locks-leg = leg-pieces f y (verifyMacro i) (λ m. Locked f (macrosOf (i .geometry))) _ macro-leg (macrosOf (i .geometry)) 0 (omega arith)
+    pub locks-leg : Leg f y (inTurn (verifyMacro (i .geometry)) 0 (macrosOf (i .geometry))) (Locked f (macrosOf (i .geometry))) (Locked f (macrosOf (i .geometry)))
+    locks-leg = leg-pieces f y (verifyMacro (i .geometry)) (λ m. Locked f (macrosOf (i .geometry))) _ macro-leg (macrosOf (i .geometry)) 0 (omega arith)
 
     pub level-leg : Leg f y (read 8 (levelAt (i .geometry)) StoredLevel) (Locked f (macrosOf (i .geometry))) (Locked f (macrosOf (i .geometry)))
     unfolding judge noticeRead withMoves read

@@ -1,14 +1,18 @@
 -- What each word is judged by: document 01, 'Flow', and the numbers 16 to 25. Assumes nothing.
 use mathlib.Core.Bool.{Bool, true, false, _&&_, cond}
-use Prim.Native.Nat.{ℕ, suc, _+_, _-_, _/_, _%_}
+use mathlib.Core.List.{List}
+use Prim.Native.Nat.{ℕ, suc, _+_, _*_, _-_, _/_, _%_}
 use lib.Dec.{eqb, ltb}
 use Rattle.flow.specs.declared.Entry.{Entry}
 use Rattle.flow.specs.declared.Entry.the-variants.{FromOpen, FromProtected}
 use Rattle.flow.specs.declared.Purpose.{Purpose}
-use Rattle.flow.specs.declared.Purpose.the-variants.{Sent, Idcode, TestBit, Poll, Status, Keep, EntryLevel, Reopened, Same, StoredLevel, LastSum}
+use Rattle.flow.specs.declared.Purpose.the-variants.{Sent, Idcode, TestBit, Poll, Status, Keep, EntryLevel, Reopened, FlashWord, LockWord, StoredLevel, LastSum}
 use Rattle.image.specs.Checks.{metadataAt}
+use Rattle.flow.specs.Sequence.{lockStart}
 use Rattle.image.specs.Image.{Image}
+use Rattle.image.specs.Words.{sameWord, partOf}
 use Rattle.parts.specs.Parts.{lowFits}
+use Rattle.parts.specs.Sizes.{rowBytes, locksIn}
 
 -- go on, with the polls so far and the word kept; poll again; go on by an entry; or the report
 pub data Judged : Type 0 where
@@ -52,6 +56,14 @@ levelIn q = q / 4096 % 16
 abbrev pub entryBy : (level polls kept : ℕ) → Judged
 entryBy l p k = cond (eqb l 1) (enter FromOpen p k) (cond (eqb l 2) (enter FromProtected p k) (report 21))
 
+-- 'The row's bytes start at row × L in the image.'
+abbrev pub rowIn : Image → (row : ℕ) → List ℕ
+rowIn i r = partOf (i .flash) (r * rowBytes (i .geometry)) (rowBytes (i .geometry))
+
+-- a macro's protection bytes
+abbrev pub macroLocks : Image → (m : ℕ) → List ℕ
+macroLocks i m = partOf (i .protection) (lockStart (i .geometry) m) (locksIn (i .geometry) m)
+
 -- 'top byte of the word .., its low four bits, with 0 and 1 exchanged'
 unfoldable pub levelShown : ℕ → ℕ
 levelShown w = cond (eqb (w / 16777216 % 16) 0) 1 (cond (eqb (w / 16777216 % 16) 1) 0 (w / 16777216 % 16))
@@ -70,6 +82,7 @@ judge i Status p k w = goIf (succeeded w) 19 p k
 judge i Keep p k w = go p w
 judge i EntryLevel p k w = cond (idsFit i k w) (entryBy (levelIn w) p k) (report 20)
 judge i Reopened p k w = cond (idsFit i k w) (goIf (eqb (levelIn w) 1) 21 p k) (report 20)
-judge i (Same v n) p k w = goIf (eqb w v) n p k
+judge i (FlashWord r o) p k w = goIf (sameWord (rowIn i r) o w) 22 p k
+judge i (LockWord m o) p k w = goIf (sameWord (macroLocks i m) o w) 23 p k
 judge i StoredLevel p k w = goIf (eqb (levelShown w) (i .header .level)) 24 p k
 judge i LastSum p k w = cond (sumsFit i w k) (report 0) (report 25)

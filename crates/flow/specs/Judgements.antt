@@ -5,17 +5,17 @@ use Prim.Native.Nat.{ℕ}
 use Rattle.flow.specs.Examples.{partOne}
 use Rattle.flow.specs.Judge.{go, pollAgain, enter, report, judge}
 use Rattle.flow.specs.declared.Entry.the-variants.{FromOpen, FromProtected}
-use Rattle.flow.specs.declared.Purpose.the-variants.{Idcode, TestBit, Poll, Status, EntryLevel, Reopened, Same, StoredLevel, LastSum}
+use Rattle.flow.specs.declared.Purpose.the-variants.{Idcode, TestBit, Poll, Status, EntryLevel, Reopened, FlashWord, LockWord, StoredLevel, LastSum}
 use Rattle.image.specs.Image.{Image}
 use Rattle.parts.specs.Parts.{part2}
 
--- images of part 1 with this sum and level, and one of part 2
+-- images of part 1 with this sum and level and the first of their bytes, and one of part 2
 abbrev pub imageWith : (sum level : ℕ) → Image
 imageWith s l = record {
   geometry = partOne;
   header = record { part = 1; macros = 1; sum = s; metadata = 0 ∷ 2 ∷ 0x0A ∷ 0x23 ∷ 0x45 ∷ 0x9A ∷ []; level = l };
-  flash = [];
-  protection = [];
+  flash = 1 ∷ 2 ∷ 3 ∷ 4 ∷ 5 ∷ 6 ∷ 7 ∷ 8 ∷ [];
+  protection = 0x11 ∷ 0x12 ∷ 0x13 ∷ 0x14 ∷ [];
 }
 
 abbrev pub ofPart2 : Image
@@ -57,8 +57,11 @@ pub record JudgeExamples : Type 0 where
   pub lowFits : judge ofPart2 EntryLevel 0 0xA045047F 0x1093 ≡ enter FromOpen 0 0xA045047F
   pub lowFitsNot : judge ofPart2 EntryLevel 0 0xA0450480 0x1093 ≡ report 20
   -- 'comparing each as read' (22, 23)
-  pub same : judge openImage (Same 0x04030201 22) 0 7 0x04030201 ≡ go 0 7
-  pub notSame : judge openImage (Same 0x04030201 22) 0 7 0x84030201 ≡ report 22
+  pub flash : judge openImage (FlashWord 0 4) 0 7 0x08070605 ≡ go 0 7
+  pub otherFlash : judge openImage (FlashWord 0 4) 0 7 0x88070605 ≡ report 22
+  pub otherRow : judge openImage (FlashWord 1 4) 0 7 0x08070605 ≡ report 22
+  pub locks : judge openImage (LockWord 0 0) 0 7 0x14131211 ≡ go 0 7
+  pub otherLocks : judge openImage (LockWord 0 0) 0 7 0x14131210 ≡ report 23
   -- 'top byte of the word .., its low four bits, with 0 and 1 exchanged' (24)
   pub stored : judge openImage StoredLevel 0 7 0xF0FFFFFF ≡ go 0 7
   pub storedVirgin : judge openImage StoredLevel 0 7 0x01000000 ≡ report 24

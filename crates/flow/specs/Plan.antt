@@ -8,7 +8,7 @@ use Rattle.flow.specs.declared.Move.{Move}
 use Rattle.flow.specs.declared.Packet.{Packet}
 use Rattle.flow.specs.declared.Packet.the-variants.{Xres, LineReset, Read, Write}
 use Rattle.flow.specs.declared.Purpose.{Purpose}
-use Rattle.flow.specs.declared.Purpose.the-variants.{Sent, Idcode, TestBit, Poll, Status, Keep, EntryLevel, Reopened, Same, StoredLevel, LastSum}
+use Rattle.flow.specs.declared.Purpose.the-variants.{Sent, Idcode, TestBit, Poll, Status, Keep, EntryLevel, Reopened, FlashWord, LockWord, StoredLevel, LastSum}
 use Rattle.flow.specs.declared.Request.{Request}
 use Rattle.parts.specs.Sizes.{rowBytes, macrosOf, rowsOf, locksIn, imoOf}
 use Rattle.parts.specs.declared.Geometry.{Geometry}
@@ -46,7 +46,8 @@ isPoll Status = 0
 isPoll Keep = 0
 isPoll EntryLevel = 0
 isPoll Reopened = 0
-isPoll (Same w n) = 0
+isPoll (FlashWord r o) = 0
+isPoll (LockWord m o) = 0
 isPoll StoredLevel = 0
 isPoll LastSum = 0
 

@@ -6,11 +6,11 @@ use Rattle.flow.specs.declared.Entry.{Entry}
 use Rattle.flow.specs.declared.Entry.the-variants.{FromOpen, FromProtected}
 use Rattle.flow.specs.declared.Move.{Move}
 use Rattle.flow.specs.declared.Purpose.{Purpose}
-use Rattle.flow.specs.declared.Purpose.the-variants.{Sent, Idcode, TestBit, Poll, Status, Keep, EntryLevel, Reopened, Same, StoredLevel, LastSum}
+use Rattle.flow.specs.declared.Purpose.the-variants.{Sent, Idcode, TestBit, Poll, Status, Keep, EntryLevel, Reopened, FlashWord, LockWord, StoredLevel, LastSum}
 use Rattle.flow.specs.declared.Request.{Request}
 use Rattle.flow.specs.declared.Request.the-variants.{Xres, LineReset, ReadIdcode, ReadDrw, WriteTar, WriteDrw, WriteSetup}
 use Rattle.image.specs.Image.{Image}
-use Rattle.image.specs.Words.{wordAt, wordsAt}
+use Rattle.image.specs.Words.{wordsAt}
 use Rattle.parts.specs.Sizes.{rowBytes, macrosOf, rowsPerMacro, rowsOf, locksIn, sysreqOf, sysargOf, PARAMS, TEST-MODE, locksAt, levelAt, imoOf}
 use Rattle.parts.specs.declared.Geometry.{Geometry}
 use Rattle.wire.specs.declared.Register.the-variants.{CtrlStat, Select, Csw}
@@ -88,13 +88,16 @@ programRow i r =
     let g = i .geometry in
     listed g 5 4 (latchList (r / rowsPerMacro g) (rowBytes g) (i .flash) (r * rowBytes g)) ++ listed g 5 6 ((key 6 + r * 0x10000) ∷ [])
 
--- one word read and compared with the word at offset o; a difference is number e
-abbrev pub compareWord : (s e a : ℕ) → List ℕ → (o j : ℕ) → List Move
-compareWord s e a bytes o j = read s (a + 4 * j) (Same (wordAt bytes (o + 4 * j)) e)
+-- n words read from an address on, each compared as u says of its offset
+abbrev pub compareWord : (step address : ℕ) → (ℕ → Purpose) → (j : ℕ) → List Move
+compareWord s a u j = read s (a + 4 * j) (u (4 * j))
+
+abbrev pub compareWords : (step address : ℕ) → (ℕ → Purpose) → (n : ℕ) → List Move
+compareWords s a u n = inTurn (compareWord s a u) 0 n
 
 -- '6. Read every flash word from address 0, comparing each as read.'
-abbrev pub verifyFlash : Image → List Move
-verifyFlash i = inTurn (compareWord 6 22 0 (i .flash) 0) 0 (rowsOf (i .geometry) * (rowBytes (i .geometry) / 4))
+unfoldable pub verifyRow : Geometry → (row : ℕ) → List Move
+verifyRow g r = compareWords 6 (r * rowBytes g) (FlashWord r) (rowBytes g / 4)
 
 -- where macro m's bytes start among the protection bytes
 abbrev pub lockStart : Geometry → (m : ℕ) → ℕ
@@ -108,10 +111,8 @@ lockMacro i m =
     listed g 7 4 (latchList m (locksIn g m) (i .protection) (lockStart g m)) ++ call g 7 0x0D (key 0x0D + i .header .level * 0x10000 + m * 0x1000000)
 
 -- '8. Read each macro's locks, comparing likewise'
-unfoldable pub verifyMacro : Image → (m : ℕ) → List Move
-verifyMacro i m =
-    let g = i .geometry in
-    inTurn (compareWord 8 23 (locksAt g m) (i .protection) (lockStart g m)) 0 (locksIn g m / 4)
+unfoldable pub verifyMacro : Geometry → (m : ℕ) → List Move
+verifyMacro g m = compareWords 8 (locksAt g m) (LockWord m) (locksIn g m / 4)
 
 -- steps 4 to 9; '9. As 4; (this sum - that sum) mod 65536 equals the image's sum.'
 unfoldable pub program : Image → List Move
@@ -119,9 +120,9 @@ program i =
     let g = i .geometry in
     privileged g 4 Keep
     ++ (inTurn (programRow i) 0 (rowsOf g)
-    ++ (verifyFlash i
+    ++ (inTurn (verifyRow g) 0 (rowsOf g)
     ++ (inTurn (lockMacro i) 0 (macrosOf g)
-    ++ (inTurn (verifyMacro i) 0 (macrosOf g)
+    ++ (inTurn (verifyMacro g) 0 (macrosOf g)
     ++ (read 8 (levelAt g) StoredLevel
     ++ privileged g 9 LastSum)))))
 

@@ -1,8 +1,9 @@
 -- The session as numbers: a place in the sequence, and counters; how one answer moves it on. Assumes nothing.
 use mathlib.Core.Bool.{Bool, true, false, cond}
+use mathlib.Core.List.{[]}
 use Prim.Native.Nat.{ℕ, suc, _-_}
 use lib.Dec.{ltb}
-use lib.ListN.{getD}
+use lib.ListN.{length, getD}
 use Rattle.flow.specs.Judge.{Judged, go, pollAgain, enter, report, judge}
 use Rattle.flow.specs.Monitor.{isAttempt, isReset}
 use Rattle.flow.specs.Packets.{Verdict, okay, again, broken, verdict}
@@ -11,7 +12,8 @@ use Rattle.flow.specs.declared.Answer.{Answer}
 use Rattle.flow.specs.declared.Entry.{Entry}
 use Rattle.flow.specs.declared.Entry.the-variants.{FromOpen}
 use Rattle.flow.specs.declared.Move.{Move}
-use Rattle.image.specs.Image.{Image}
+use Rattle.image.specs.Image.{Image, imageOf, noHeader}
+use Rattle.parts.specs.declared.Geometry.{Geometry}
 
 -- where a session stands in the flow; the `Session` of crate session is its fields with the image's header (`standOf` there).
 -- at: the index of the standing move; waits, polls, attempts: those running; kept: the IDs, then the first sum; transfers: the
@@ -22,6 +24,13 @@ pub data SessionState : Type 0 where
 
 abbrev pub moveAt : Image → Entry → (at : ℕ) → Move
 moveAt i y n = getD (sequence i y) n endMove
+
+-- how many moves there are; the geometry alone decides it, so an image without bytes tells
+abbrev pub bare : Geometry → Image
+bare g = imageOf g noHeader []
+
+abbrev pub moveCount : Geometry → Entry → ℕ
+moveCount g y = length (sequence (bare g) y)
 
 -- a busy poll goes back to its Read's first transfer
 abbrev pub judgedTo : Judged → Entry → (at step attempts transfers : ℕ) → SessionState

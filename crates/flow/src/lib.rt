@@ -30,8 +30,10 @@ pub enum Purpose {
     EntryLevel,
     // The same after reopening.
     Reopened,
-    // The word must be this one, else it is this number.
-    Same(u32, u8),
+    // The word must be the image's: of this row, at this offset in it.
+    FlashWord(u32, u32),
+    // The same of this macro's locks.
+    LockWord(u32, u32),
     StoredLevel,
     LastSum,
 }

@@ -1,15 +1,15 @@
 -- Laws of words and sums. Assumes nothing.
 use mathlib.Core.Bool.{true, false}
 use mathlib.Core.List.{List, [], _∷_}
-use mathlib.Core.Path.{_≡_, ap}
+use mathlib.Core.Path.{_≡_, refl, ap, sym, _∙_}
 use Prim.Native.Nat.{ℕ, suc, _+_, _-_, _%_, _≤_, _<_}
-use native.Mathlib.Nat.{add-assoc, add-zero, mod-add-mod, mod-eq-of-lt}
+use native.Mathlib.Nat.{le-refl, add-assoc, add-zero, mod-add-mod, mod-eq-of-lt}
 use native.Mathlib.Numerals.{add-one}
 use native.Mathlib.Omega.{arith}
 use lib.Dec.{eqb}
-use lib.ListN.{length, getD, drop, drop-of-length-le, List·getD-eq-default}
-use lib.Seq.{drop-cons}
-use Rattle.image.specs.Words.{total, allZero, wordAt, wordsAt}
+use lib.ListN.{length, getD, take, drop, length-drop, drop-of-length-le, List·getD-eq-default}
+use lib.Seq.{drop-cons, getD-take, getD-drop, take-all, take-nil}
+use Rattle.image.specs.Words.{total, allZero, wordAt, partOf, wordsAt}
 
 -- past the end every byte, and so the word, is 0
 pub word-none : (bytes : List ℕ) (o : ℕ) → length bytes ≤ o → wordAt bytes o ≡ 0
@@ -18,6 +18,33 @@ word-none bytes o h = simp (past 1 (omega arith), past 2 (omega arith), past 3 (
   where
     past : (k : ℕ) → length bytes ≤ o + k → getD bytes (o + k) 0 ≡ 0
     past k l = List·getD-eq-default bytes 0 l
+
+-- a word is that of its four bytes
+pub word-same : (xs ys : List ℕ) (o p : ℕ) → ((k : ℕ) → k < 4 → getD xs (o + k) 0 ≡ getD ys (p + k) 0) → wordAt xs o ≡ wordAt ys p
+unfolding wordAt
+word-same xs ys o p h =
+    let z : getD xs o 0 ≡ getD ys p 0 = simp add-zero at (h 0 (omega arith)) in
+    rw (z, h 1 (omega arith), h 2 (omega arith), h 3 (omega arith))
+
+-- a word inside a part of bytes
+pub part-word : (bytes : List ℕ) (from n o : ℕ) → o + 4 ≤ n → wordAt (partOf bytes from n) o ≡ wordAt bytes (from + o)
+part-word bytes from n o h =
+    word-same (partOf bytes from n) bytes o (from + o)
+    (λ k b.
+    let e : from + (o + k) ≡ from + o + k = omega arith in
+    getD-take n (drop from bytes) (o + k) 0 (omega arith) ∙ getD-drop from bytes (o + k) 0 ∙ ap (λ (x : ℕ). getD bytes x 0) e)
+
+-- a part that starts past the end, one that ends past it, and one inside, as they are lent
+pub part-none : (l : List ℕ) (from n : ℕ) → length l ≤ from → take (length l - length l) (drop (length l) l) ≡ partOf l from n
+part-none l from n h = rw (drop-of-length-le l h, drop-of-length-le l (le-refl (length l))) (take-nil (length l - length l) ∙ sym (take-nil n))
+
+pub part-rest : (l : List ℕ) (from n : ℕ) → length l - from < n → take (length l - from) (drop from l) ≡ partOf l from n
+part-rest l from n h =
+    let k = length-drop from l in
+    take-all (length l - from) (drop from l) (omega arith) ∙ sym (take-all n (drop from l) (omega arith))
+
+pub part-inside : (l : List ℕ) (from n : ℕ) → take (from + n - from) (drop from l) ≡ partOf l from n
+part-inside l from n = let e : from + n - from ≡ n = omega arith in ap (λ (x : ℕ). take x (drop from l)) e
 
 -- one byte of a sum, and none
 pub total-turn : (bytes : List ℕ) (at : ℕ) → at < length bytes → total (drop at bytes) ≡ getD bytes at 0 + total (drop (at + 1) bytes)

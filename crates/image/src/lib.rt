@@ -7,7 +7,7 @@ ghost use lib.ListN.{length, getD};
 ghost use Rattle.image.specs.Checks.{versionFits, imageIdFits, levelFits, sumFits, cancels, someCancels, contentChecks, imageFault};
 ghost use Rattle.image.specs.Refusals.{firstRefusal};
 ghost use Rattle.image.specs.Sections.{sectionsOf, noSection, headerBytes, headerOf};
-ghost use Rattle.image.specs.Words.{total, wordAt};
+ghost use Rattle.image.specs.Words.{total, wordAt, sameWord, partOf};
 ghost use Rattle.parts.specs.Sizes.{rowBytes, rowsOf, flashSize};
 
 mod bytes;
@@ -58,6 +58,28 @@ pub fn word_at(bytes: &[u8], at: usize) -> u32
         return word_past(bytes, at);
     }
     word_of(bytes[at], bytes[at + 1], bytes[at + 2], bytes[at + 3])
+}
+
+// Whether the word at an offset of a row, or of a macro's locks, is this one.
+pub fn word_is(row: &[u8], at: usize, word: u32) -> bool
+    ensures { λ r. ⌜ r ≡ sameWord (now (row .entry)) at word ⌝ }
+{
+    word == word_at(row, at)
+}
+
+// The same of the part of n bytes that starts at an offset, as far as there are any: it is lent on as a middle part.
+pub fn part_word_is(bytes: &[u8], from: usize, n: usize, at: usize, word: u32) -> bool
+    ensures { λ r. ⌜ r ≡ sameWord (partOf (now (bytes .entry)) from n) at word ⌝ }
+{
+    let len = bytes.len();
+    if len <= from {
+        return word_is(&bytes[len..], at, word);
+    }
+    if len - from < n {
+        return word_is(&bytes[from..], at, word);
+    }
+    let end = from + n;
+    word_is(&bytes[from..end], at, word)
 }
 
 // The sum of bytes, modulo 65536.

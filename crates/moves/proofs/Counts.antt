@@ -5,15 +5,16 @@ use Prim.Native.Nat.{ℕ, _+_, _*_, _/_}
 use native.Mathlib.Omega.{arith}
 use lib.ListN.{length, length-append}
 use Rattle.flow.proofs.Counting.{length-words}
-use Rattle.flow.specs.Sequence.{key, write, read, call, writes, listed, inTurn, imoCall, privileged, latchList, programRow, compareWord, verifyFlash, lockStart, lockMacro, verifyMacro, program, opening, afterwards, sequence}
+use Rattle.flow.specs.Sequence.{key, write, read, call, writes, listed, inTurn, imoCall, privileged, latchList, programRow, compareWord, compareWords, verifyRow, lockStart, lockMacro, verifyMacro, program, opening, afterwards, sequence}
 use Rattle.flow.specs.declared.Entry.{Entry}
 use Rattle.flow.specs.declared.Entry.the-variants.{FromOpen, FromProtected}
 use Rattle.flow.specs.declared.Purpose.{Purpose}
-use Rattle.flow.specs.declared.Purpose.the-variants.{Keep, EntryLevel, Reopened, LastSum, StoredLevel}
+use Rattle.flow.specs.declared.Purpose.the-variants.{FlashWord, LockWord, Keep, EntryLevel, Reopened, LastSum, StoredLevel}
 use Rattle.image.specs.Image.{Image}
 use Rattle.moves.proofs.Joined.{length-pieces}
 use Rattle.moves.proofs.Steps.{length-call, length-read, length-silicon, length-acquire}
-use Rattle.moves.specs.Moves.{moveCount, openingCount, programCount, bare}
+use Rattle.flow.specs.Session.{moveCount, bare}
+use Rattle.moves.specs.Moves.{openingCount, programCount}
 use Rattle.parts.specs.Sizes.{rowBytes, macrosOf, rowsPerMacro, rowsOf, locksIn, imoOf, locksAt, levelAt, PARAMS}
 use Rattle.parts.specs.declared.Geometry.{Geometry}
 
@@ -32,6 +33,9 @@ length-latch g s m n bytes o = length-listed g s 4 (latchList m n bytes o) ∙ o
 pub length-privileged : (g : Geometry) (s : ℕ) (u : Purpose) → length (privileged g s u) ≡ 13
 unfolding privileged call write read
 length-privileged g s u = refl
+
+pub length-compared : (s a : ℕ) (u : ℕ → Purpose) (n : ℕ) → length (compareWords s a u n) ≡ n * 3
+length-compared s a u n = length-pieces (compareWord s a u) 3 (λ j. length-read s _ _) 0 n
 
 module _ (i : Image) where
   abbrev g : Geometry
@@ -55,21 +59,19 @@ module _ (i : Image) where
       length-append (listed g 7 4 (latchList m (locksIn g m) (i .protection) (lockStart g m))) (call g 7 0x0D (key 0x0D + i .header .level * 0x10000 + m * 0x1000000))
       ∙ omega (arith, length-latch g 7 m (locksIn g m) (i .protection) (lockStart g m), length-call g 7 0x0D (key 0x0D + i .header .level * 0x10000 + m * 0x1000000))
 
-  pub length-check : (m : ℕ) → length (verifyMacro i m) ≡ locks * 3
-  unfolding verifyMacro locksIn
-  length-check m = length-pieces (compareWord 8 23 (locksAt g m) (i .protection) (lockStart g m)) 3 (λ k. length-read 8 _ _) 0 locks
-
   pub length-rows : length (inTurn (programRow i) 0 (rowsOf g)) ≡ rowsOf g * (26 + 2 * words)
   length-rows = length-pieces (programRow i) (26 + 2 * words) length-row 0 (rowsOf g)
 
-  pub length-verify : length (verifyFlash i) ≡ rowsOf g * words * 3
-  length-verify = length-pieces (compareWord 6 22 0 (i .flash) 0) 3 (λ k. length-read 6 _ _) 0 (rowsOf g * words)
+  pub length-verify : length (inTurn (verifyRow g) 0 (rowsOf g)) ≡ rowsOf g * (words * 3)
+  unfolding verifyRow
+  length-verify = length-pieces (verifyRow g) (words * 3) (λ r. length-compared 6 (r * rowBytes g) (FlashWord r) words) 0 (rowsOf g)
 
   pub length-locks : length (inTurn (lockMacro i) 0 (macrosOf g)) ≡ macrosOf g * (24 + 2 * locks)
   length-locks = length-pieces (lockMacro i) (24 + 2 * locks) length-lock 0 (macrosOf g)
 
-  pub length-checks : length (inTurn (verifyMacro i) 0 (macrosOf g)) ≡ macrosOf g * (locks * 3)
-  length-checks = length-pieces (verifyMacro i) (locks * 3) length-check 0 (macrosOf g)
+  pub length-checks : length (inTurn (verifyMacro g) 0 (macrosOf g)) ≡ macrosOf g * (locks * 3)
+  unfolding verifyMacro locksIn
+  length-checks = length-pieces (verifyMacro g) (locks * 3) (λ m. length-compared 8 (locksAt g m) (LockWord m) locks) 0 (macrosOf g)
 
   pub length-program : length (program i) ≡ 29 + rowsOf g * (26 + 5 * words) + macrosOf g * (24 + 5 * locks)
   unfolding program

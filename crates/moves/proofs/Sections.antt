@@ -5,15 +5,15 @@ use Prim.Native.Nat.{ℕ, _+_, _-_, _*_, _/_, _%_, _<_, _≤_}
 use native.Mathlib.Nat.{mul-le-mul, mul-le-mul-left, mul-le-mul-right, mod-lt, zero-add, div-add-mod', div-lt-iff-lt-mul}
 use native.Mathlib.Omega.{arith}
 use lib.ListN.{length, getD, take, drop}
-use Rattle.flow.specs.Sequence.{key, read, call, listed, inTurn, latchList, programRow, compareWord, verifyFlash, lockStart, lockMacro, verifyMacro, endMove}
-use Rattle.flow.specs.declared.Purpose.the-variants.{Same}
+use Rattle.flow.specs.Sequence.{key, read, call, listed, inTurn, latchList, programRow, compareWord, compareWords, verifyRow, lockMacro, verifyMacro, endMove}
+use Rattle.flow.specs.declared.Purpose.{Purpose}
+use Rattle.flow.specs.declared.Purpose.the-variants.{FlashWord, LockWord}
 use Rattle.image.specs.Image.{Image, imageOf}
-use Rattle.image.specs.Words.{wordAt}
 use Rattle.image.specs.declared.Header.{Header}
-use Rattle.moves.proofs.Counts.{length-row, length-lock, length-check}
+use Rattle.moves.proofs.Counts.{length-row, length-lock, length-compared}
 use Rattle.moves.proofs.Joined.{at-piece, div-low, part-ends}
 use Rattle.moves.proofs.Steps.{length-read}
-use Rattle.moves.proofs.Words.{front-word, front-latch, back-latch, back-word}
+use Rattle.moves.proofs.Words.{front-latch, back-latch}
 use Rattle.moves.specs.Handled.{Handled}
 use Rattle.parts.specs.Sizes.{rowBytes, macrosOf, rowsPerMacro, rowsOf, flashSize, lockTotal, locksIn, imageSize, locksAt}
 use Rattle.parts.specs.declared.Geometry.{Geometry}
@@ -38,9 +38,9 @@ module _ (g : Geometry) (ok : Handled g) where
       let l : 26 + 2 * (rowBytes g / 4) ≤ 538 = omega (arith, ok .rowHigh) in
       omega (arith, mul-le-mul rows-few l)
 
-  pub words-few : rowsOf g * (rowBytes g / 4) ≤ 16777216
-  words-few =
-      let l : rowBytes g / 4 ≤ 256 = omega (arith, ok .rowHigh) in
+  pub words-small : rowsOf g * (rowBytes g / 4 * 3) ≤ 50331648
+  words-small =
+      let l : rowBytes g / 4 * 3 ≤ 768 = omega (arith, ok .rowHigh) in
       omega (arith, mul-le-mul rows-few l)
 
   pub locks-small : macrosOf g * (24 + 2 * (rowsPerMacro g / 8 / 4)) ≤ 4480
@@ -116,46 +116,6 @@ module _ (g : Geometry) (ok : Handled g) (h : Header) (bytes : List ℕ) (exact 
         rw (front-latch bytes bs (j / b * rowBytes g) (rowBytes g) is (row-place .end) (flashSize g) (j / b / rowsPerMacro g) row-fits)
         (sym (at-piece (programRow i) b (λ r. length-row i r ∙ sym e) endMove (rowsOf g) j (omega arith) (rw e low)))
 
-  -- ---- step 6
-
-  module _ (j : ℕ) (low : j < rowsOf g * (rowBytes g / 4) * 3) where
-    abbrev row : ℕ
-    row = j / 3 / (rowBytes g / 4)
-
-    abbrev word : ℕ
-    word = j / 3 % (rowBytes g / 4)
-
-    pub word-inside : word < rowBytes g / 4
-    word-inside = mod-lt (j / 3) (omega (arith, ok .rowLow))
-
-    word-row : row < rowsOf g
-    word-row = div-low (rowsOf g) (rowBytes g / 4) (j / 3) (omega (arith, ok .rowLow)) (div-low (rowsOf g * (rowBytes g / 4)) 3 j (omega arith) low)
-
-    word-fits : row * rowBytes g + rowBytes g ≤ flashSize g
-    unfolding flashSize
-    word-fits = part-ends (rowsOf g) (rowBytes g) row word-row
-
-    pub word-place : RowPlace g bytes row
-    word-place = row-found g ok bytes exact row word-row
-
-    -- the word is in its row where it is in the flash: a row has whole words
-    word-offset : 4 * (j / 3) ≡ row * rowBytes g + 4 * word
-    word-offset =
-        let e : rowBytes g ≡ 4 * (rowBytes g / 4) = omega (arith, ok .rowWords) in
-        let d : row * (rowBytes g / 4) + word ≡ j / 3 = div-add-mod' (j / 3) (rowBytes g / 4) in
-        let t : row * rowBytes g ≡ row * (4 * (rowBytes g / 4)) = ap (λ (x : ℕ). row * x) e in
-        let u : row * (4 * (rowBytes g / 4)) ≡ 4 * (row * (rowBytes g / 4)) = omega arith in
-        omega arith
-
-    pub verify-at : (bs : List ℕ) → bs ≡ take (row * rowBytes g + rowBytes g - row * rowBytes g) (drop (row * rowBytes g) bytes)
-        → getD (read 6 (4 * (j / 3)) (Same (wordAt bs (4 * word)) 22)) (j % 3) endMove ≡ getD (verifyFlash i) j endMove
-    verify-at bs is =
-        let w = front-word bytes bs (row * rowBytes g) (rowBytes g) is (word-place .end) (flashSize g) (4 * word) (4 * (j / 3)) (omega (arith, word-inside)) word-offset word-fits in
-        rw w
-        (sym
-        (at-piece (compareWord 6 22 0 (i .flash) 0) 3 (λ k. length-read 6 _ _) endMove (rowsOf g * (rowBytes g / 4)) j (omega arith) low
-        ∙ ap (λ (x : ℕ). getD (read 6 x (Same (wordAt (take (flashSize g) bytes) x) 22)) (j % 3) endMove) (zero-add (4 * (j / 3)))))
-
   -- ---- step 7
 
   module _ (j b flash : ℕ) (f : flash ≡ flashSize g) (e : b ≡ 24 + 2 * (rowsPerMacro g / 8 / 4)) (low : j < macrosOf g * (24 + 2 * (rowsPerMacro g / 8 / 4))) where
@@ -174,40 +134,61 @@ module _ (g : Geometry) (ok : Handled g) (h : Header) (bytes : List ℕ) (exact 
         rw (back-latch bytes bs (flash + j / b * (rowsPerMacro g / 8)) (rowsPerMacro g / 8) is (macro-place .end) (flashSize g) (j / b) (j / b * (rowsPerMacro g / 8)) (omega arith))
         (sym (at-piece (lockMacro i) b (λ m. length-lock i m ∙ sym e) endMove (macrosOf g) j (omega arith) (rw e low)))
 
-  -- ---- step 8 but for the level
+-- ---- steps 6 and 8 but for the level: n pieces of some words each
 
-  module _ (j flash : ℕ) (f : flash ≡ flashSize g) (low : j < macrosOf g * (rowsPerMacro g / 8 / 4 * 3)) where
-    abbrev each : ℕ
-    each = rowsPerMacro g / 8 / 4 * 3
+module _ (words n j : ℕ) (some : 0 < words) (low : j < n * (words * 3)) where
+  piece-low : j / (words * 3) < n
+  piece-low = div-low n (words * 3) j (omega arith) low
 
-    abbrev m : ℕ
-    m = j / each
+  word-low : j % (words * 3) / 3 < words
+  word-low = let l : j % (words * 3) < words * 3 = mod-lt j (omega arith) in omega arith
 
-    abbrev k : ℕ
-    k = j % each / 3
+  compare-at : (s : ℕ) (address : ℕ → ℕ) (u : ℕ → ℕ → Purpose)
+      → getD (inTurn (λ k. compareWords s (address k) (u k) words) 0 n) j endMove
+      ≡ getD (read s (address (j / (words * 3)) + 4 * (j % (words * 3) / 3)) (u (j / (words * 3)) (4 * (j % (words * 3) / 3)))) (j % (words * 3) % 3) endMove
+  compare-at s address u =
+      at-piece (λ k. compareWords s (address k) (u k) words) (words * 3) (λ k. length-compared s (address k) (u k) words) endMove n j (omega arith) low
+      ∙ at-piece (compareWord s (address (j / (words * 3))) (u (j / (words * 3)))) 3 (λ i. length-read s _ _) endMove words (j % (words * 3)) (omega arith) (mod-lt j (omega arith))
 
-    check-low : m < macrosOf g
-    check-low = div-low (macrosOf g) each j (omega (arith, ok .macroLow)) low
+-- where a word of step 6 is, and one of step 8
+pub record WordPlace (g : Geometry) (r o : ℕ) : Type 0 where
+  pub row : r < 65536
+  pub rowStart : r * rowBytes g ≤ 67108864
+  pub inRow : o < 256
 
-    pub word-low : k < rowsPerMacro g / 8 / 4
-    word-low = let l : j % each < each = mod-lt j (omega (arith, ok .macroLow)) in omega arith
+pub record LockWordPlace (g : Geometry) (m o : ℕ) : Type 0 where
+  pub macro : m < 16
+  pub address : g .part .locks + m * g .part .«locks_step» ≤ 2415919087
+  pub inLocks : o < 128
 
-    pub check-place : LockPlace g bytes flash m
-    check-place = lock-place g ok bytes exact flash m f check-low
+module _ (g : Geometry) (ok : Handled g) (j : ℕ) where
+  module _ (low : j < rowsOf g * (rowBytes g / 4 * 3)) where
+    some-words : 0 < rowBytes g / 4
+    some-words = omega (arith, ok .rowLow)
 
-    pub check-address : g .part .locks + m * g .part .«locks_step» ≤ 2415919087
-    check-address = lock-address g ok m check-low
+    pub word-place : WordPlace g (j / (rowBytes g / 4 * 3)) (j % (rowBytes g / 4 * 3) / 3)
+    unfolding flashSize
+    word-place =
+        let r = piece-low (rowBytes g / 4) (rowsOf g) j some-words low in
+        let o = word-low (rowBytes g / 4) (rowsOf g) j some-words low in
+        record { row = omega (arith, rows-few g ok); rowStart = omega (arith, part-ends (rowsOf g) (rowBytes g) (j / (rowBytes g / 4 * 3)) r, flash-small g ok); inRow = omega (arith, ok .rowHigh) }
 
-    pub checks-at : (bs : List ℕ)
-        → bs ≡ take (flash + m * (rowsPerMacro g / 8) + rowsPerMacro g / 8 - (flash + m * (rowsPerMacro g / 8))) (drop (flash + m * (rowsPerMacro g / 8)) bytes)
-        → getD (read 8 (locksAt g m + 4 * k) (Same (wordAt bs (4 * k)) 23)) (j % each % 3) endMove
-        ≡ getD (inTurn (verifyMacro i) 0 (macrosOf g)) j endMove
+    pub verify-at : getD (read 6 (j / (rowBytes g / 4 * 3) * rowBytes g + 4 * (j % (rowBytes g / 4 * 3) / 3)) (FlashWord (j / (rowBytes g / 4 * 3)) (4 * (j % (rowBytes g / 4 * 3) / 3)))) (j % (rowBytes g / 4 * 3) % 3) endMove
+        ≡ getD (inTurn (verifyRow g) 0 (rowsOf g)) j endMove
+    unfolding verifyRow
+    verify-at = sym (compare-at (rowBytes g / 4) (rowsOf g) j some-words low 6 (λ r. r * rowBytes g) FlashWord)
+
+  module _ (low : j < macrosOf g * (rowsPerMacro g / 8 / 4 * 3)) where
+    some-locks : 0 < rowsPerMacro g / 8 / 4
+    some-locks = omega (arith, ok .macroLow)
+
+    pub lock-word-place : LockWordPlace g (j / (rowsPerMacro g / 8 / 4 * 3)) (j % (rowsPerMacro g / 8 / 4 * 3) / 3)
+    lock-word-place =
+        let m = piece-low (rowsPerMacro g / 8 / 4) (macrosOf g) j some-locks low in
+        let o = word-low (rowsPerMacro g / 8 / 4) (macrosOf g) j some-locks low in
+        record { macro = omega (arith, ok .macros); address = lock-address g ok _ m; inLocks = omega (arith, ok .macroHigh) }
+
+    pub checks-at : getD (read 8 (locksAt g (j / (rowsPerMacro g / 8 / 4 * 3)) + 4 * (j % (rowsPerMacro g / 8 / 4 * 3) / 3)) (LockWord (j / (rowsPerMacro g / 8 / 4 * 3)) (4 * (j % (rowsPerMacro g / 8 / 4 * 3) / 3)))) (j % (rowsPerMacro g / 8 / 4 * 3) % 3) endMove
+        ≡ getD (inTurn (verifyMacro g) 0 (macrosOf g)) j endMove
     unfolding verifyMacro locksIn
-    checks-at bs is =
-        let w : wordAt bs (4 * k) ≡ wordAt (i .protection) (lockStart g m + 4 * k) =
-        back-word bytes bs (flash + m * (rowsPerMacro g / 8)) (rowsPerMacro g / 8) is (check-place .end) (flashSize g) (4 * k) (lockStart g m + 4 * k) (omega (arith, word-low)) (omega arith) in
-        let l : j % each < rowsPerMacro g / 8 / 4 * 3 = mod-lt j (omega (arith, ok .macroLow)) in
-        rw w
-        (sym
-        (at-piece (verifyMacro i) each (length-check i) endMove (macrosOf g) j (omega (arith, ok .macroLow)) low
-        ∙ at-piece (compareWord 8 23 (locksAt g m) (i .protection) (lockStart g m)) 3 (λ k. length-read 8 _ _) endMove (rowsPerMacro g / 8 / 4) (j % each) (omega arith) l))
+    checks-at = sym (compare-at (rowsPerMacro g / 8 / 4) (macrosOf g) j some-locks low 8 (λ m. locksAt g m) LockWord)

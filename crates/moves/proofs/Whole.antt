@@ -4,7 +4,7 @@ use mathlib.Core.Path.{_≡_, sym, ap, _∙_}
 use Prim.Native.Nat.{ℕ, _+_, _-_, _*_, _/_, _<_, _≤_}
 use native.Mathlib.Omega.{arith}
 use lib.ListN.{length, getD, length-append}
-use Rattle.flow.specs.Sequence.{key, read, call, listed, inTurn, acquire, silicon, privileged, programRow, verifyFlash, lockMacro, verifyMacro, program, opening, afterwards, sequence, endMove}
+use Rattle.flow.specs.Sequence.{key, read, call, listed, inTurn, acquire, silicon, privileged, programRow, verifyRow, lockMacro, verifyMacro, program, opening, afterwards, sequence, endMove}
 use Rattle.flow.specs.declared.Entry.{Entry}
 use Rattle.flow.specs.declared.Entry.the-variants.{FromOpen, FromProtected}
 use Rattle.flow.specs.declared.Move.{Move}
@@ -30,11 +30,14 @@ module _ (i : Image) where
   abbrev rows : List Move
   rows = inTurn (programRow i) 0 (rowsOf g)
 
+  abbrev verify : List Move
+  verify = inTurn (verifyRow g) 0 (rowsOf g)
+
   abbrev locks : List Move
   locks = inTurn (lockMacro i) 0 (macrosOf g)
 
   abbrev checks : List Move
-  checks = inTurn (verifyMacro i) 0 (macrosOf g)
+  checks = inTurn (verifyMacro g) 0 (macrosOf g)
 
   abbrev level : List Move
   level = read 8 (levelAt g) StoredLevel
@@ -44,28 +47,28 @@ module _ (i : Image) where
 
   pub program-sum : (j : ℕ) → j < 13 → getD (program i) j endMove ≡ getD (privileged g 4 Keep) j endMove
   unfolding program
-  program-sum j h = at-first (privileged g 4 Keep) (rows ++ (verifyFlash i ++ (locks ++ (checks ++ (level ++ sum))))) endMove 13 j (length-privileged g 4 Keep) h
+  program-sum j h = at-first (privileged g 4 Keep) (rows ++ (verify ++ (locks ++ (checks ++ (level ++ sum))))) endMove 13 j (length-privileged g 4 Keep) h
 
-  after-sum : (j : ℕ) → 13 ≤ j → getD (program i) j endMove ≡ getD (rows ++ (verifyFlash i ++ (locks ++ (checks ++ (level ++ sum))))) (j - 13) endMove
+  after-sum : (j : ℕ) → 13 ≤ j → getD (program i) j endMove ≡ getD (rows ++ (verify ++ (locks ++ (checks ++ (level ++ sum))))) (j - 13) endMove
   unfolding program
-  after-sum j h = at-second (privileged g 4 Keep) (rows ++ (verifyFlash i ++ (locks ++ (checks ++ (level ++ sum))))) endMove 13 j (length-privileged g 4 Keep) h
+  after-sum j h = at-second (privileged g 4 Keep) (rows ++ (verify ++ (locks ++ (checks ++ (level ++ sum))))) endMove 13 j (length-privileged g 4 Keep) h
 
-  module _ (j a b : ℕ) (r : a ≡ 13 + rowsOf g * (26 + 2 * words)) (v : b ≡ a + rowsOf g * words * 3) where
+  module _ (j a b : ℕ) (r : a ≡ 13 + rowsOf g * (26 + 2 * words)) (v : b ≡ a + rowsOf g * (words * 3)) where
     pub program-rows : 13 ≤ j → j < a → getD (program i) j endMove ≡ getD rows (j - 13) endMove
     program-rows l h =
-        after-sum j l ∙ within rows (verifyFlash i ++ (locks ++ (checks ++ (level ++ sum)))) endMove 13 a j (omega (arith, length-rows i)) l h
+        after-sum j l ∙ within rows (verify ++ (locks ++ (checks ++ (level ++ sum)))) endMove 13 a j (omega (arith, length-rows i)) l h
 
-    after-rows : a ≤ j → getD (program i) j endMove ≡ getD (verifyFlash i ++ (locks ++ (checks ++ (level ++ sum)))) (j - a) endMove
+    after-rows : a ≤ j → getD (program i) j endMove ≡ getD (verify ++ (locks ++ (checks ++ (level ++ sum)))) (j - a) endMove
     after-rows l =
-        after-sum j (omega arith) ∙ onward rows (verifyFlash i ++ (locks ++ (checks ++ (level ++ sum)))) endMove 13 a j (omega (arith, length-rows i)) l
+        after-sum j (omega arith) ∙ onward rows (verify ++ (locks ++ (checks ++ (level ++ sum)))) endMove 13 a j (omega (arith, length-rows i)) l
 
-    pub program-verify : a ≤ j → j < b → getD (program i) j endMove ≡ getD (verifyFlash i) (j - a) endMove
+    pub program-verify : a ≤ j → j < b → getD (program i) j endMove ≡ getD verify (j - a) endMove
     program-verify l h =
-        after-rows l ∙ within (verifyFlash i) (locks ++ (checks ++ (level ++ sum))) endMove a b j (omega (arith, length-verify i)) l h
+        after-rows l ∙ within verify (locks ++ (checks ++ (level ++ sum))) endMove a b j (omega (arith, length-verify i)) l h
 
     after-verify : b ≤ j → getD (program i) j endMove ≡ getD (locks ++ (checks ++ (level ++ sum))) (j - b) endMove
     after-verify l =
-        after-rows (omega arith) ∙ onward (verifyFlash i) (locks ++ (checks ++ (level ++ sum))) endMove a b j (omega (arith, length-verify i)) l
+        after-rows (omega arith) ∙ onward verify (locks ++ (checks ++ (level ++ sum))) endMove a b j (omega (arith, length-verify i)) l
 
     module _ (d e : ℕ) (k : d ≡ b + macrosOf g * (24 + 2 * quads)) (c : e ≡ d + macrosOf g * (quads * 3)) where
       pub program-locks : b ≤ j → j < d → getD (program i) j endMove ≡ getD locks (j - b) endMove

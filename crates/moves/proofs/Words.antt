@@ -8,6 +8,7 @@ use lib.ListN.{length, getD, take, drop, length-take, length-drop}
 use lib.Seq.{getD-take, getD-drop, ext-getD}
 use Rattle.flow.proofs.Counting.{length-words}
 use Rattle.flow.specs.Sequence.{write, call, writes, listed, latchList, endMove}
+use Rattle.image.proofs.Words.{word-same}
 use Rattle.image.specs.Words.{wordAt, wordsAt}
 use Rattle.moves.proofs.Counts.{length-writes}
 use Rattle.moves.proofs.Joined.{at-first, at-second}
@@ -29,13 +30,6 @@ words-same xs ys o p n h =
     (λ i l.
     let b : i < n = omega (arith, length-words xs o n) in
     words-at xs o n i b ∙ h i b ∙ sym (words-at ys p n i b))
-
--- a word is that of its four bytes
-word-same : (xs ys : List ℕ) (o p : ℕ) → ((k : ℕ) → k < 4 → getD xs (o + k) 0 ≡ getD ys (p + k) 0) → wordAt xs o ≡ wordAt ys p
-unfolding wordAt
-word-same xs ys o p h =
-    let z : getD xs o 0 ≡ getD ys p 0 = simp add-zero at (h 0 (omega arith)) in
-    rw (z, h 1 (omega arith), h 2 (omega arith), h 3 (omega arith))
 
 -- bs is the part of n bytes from s on
 module _ (bytes bs : List ℕ) (s n : ℕ) (is : bs ≡ take (s + n - s) (drop s bytes)) (fits : s + n ≤ length bytes) where

@@ -1,14 +1,14 @@
--- The move at an index of the sequence, and how many there are. Assumes nothing.
+-- The move at an index of the sequence, and how many moves its parts have. Assumes nothing.
 use mathlib.Core.Bool.{cond, _&&_}
-use mathlib.Core.List.{List, []}
+use mathlib.Core.List.{List}
 use Prim.Native.Nat.{ℕ}
 use lib.Dec.{eqb}
 use lib.ListN.{length}
-use Rattle.flow.specs.Sequence.{sequence, opening, program, endMove}
-use Rattle.flow.specs.Session.{moveAt}
+use Rattle.flow.specs.Sequence.{opening, program, endMove}
+use Rattle.flow.specs.Session.{moveAt, bare}
 use Rattle.flow.specs.declared.Entry.{Entry}
 use Rattle.flow.specs.declared.Move.{Move}
-use Rattle.image.specs.Image.{Image, imageOf, noHeader}
+use Rattle.image.specs.Image.{imageOf}
 use Rattle.image.specs.declared.Header.{Header}
 use Rattle.moves.specs.Handled.{handles}
 use Rattle.parts.specs.Sizes.{imageSize}
@@ -17,13 +17,6 @@ use Rattle.parts.specs.declared.Geometry.{Geometry}
 -- the sequence's move at an index where the geometry is handled and the image of exact size; else, and past the end, the end move
 abbrev pub moveOf : Geometry → Header → List ℕ → Entry → (index : ℕ) → Move
 moveOf g h bytes y n = cond (handles g && eqb (length bytes) (imageSize g)) (moveAt (imageOf g h bytes) y n) endMove
-
--- an image without bytes: how many moves there are is decided by the geometry alone (proofs/Counts)
-abbrev pub bare : Geometry → Image
-bare g = imageOf g noHeader []
-
-abbrev pub moveCount : Geometry → Entry → ℕ
-moveCount g y = length (sequence (bare g) y)
 
 -- the moves of steps 1 and 2, after which the entries part
 abbrev pub openingCount : Geometry → ℕ

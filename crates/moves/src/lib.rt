@@ -7,7 +7,8 @@ ghost use Rattle.flow.specs.declared.Entry.the-variants.{FromOpen, FromProtecte
 ghost use Rattle.image.specs.Image.{imageOf};
 ghost use Rattle.moves.specs.Ended.{Ended};
 ghost use Rattle.moves.specs.Handled.{sizesHandled, addressesHandled, Handled};
-ghost use Rattle.moves.specs.Moves.{moveOf, moveCount, openingCount, programCount};
+ghost use Rattle.flow.specs.Session.{moveCount};
+ghost use Rattle.moves.specs.Moves.{moveOf, openingCount, programCount};
 ghost use Rattle.parts.specs.Sizes.{imageSize};
 
 mod calls;
@@ -57,7 +58,7 @@ fn ends_of(g: Geometry) -> Ends
     let n = parts::rows(g);
     let m = g.macros as u32;
     let rows = 13 + n * row_moves(g);
-    let words = rows + n * ((p.row_bytes as u32) / 4) * 3;
+    let words = rows + n * ((p.row_bytes as u32) / 4 * 3);
     let locks = words + m * lock_moves(g);
     Ends {
         rows: rows,
@@ -81,13 +82,13 @@ fn program_move(g: Geometry, h: Header, bytes: &[u8], j: u32) -> Move
         return rows_move(g, h, bytes, j - 13);
     }
     if j < e.words {
-        return verify_move(g, h, bytes, j - e.rows);
+        return verify_move(g, j - e.rows);
     }
     if j < e.locks {
         return locks_move(g, h, bytes, j - e.words);
     }
     if j < e.checks {
-        return checks_move(g, h, bytes, j - e.locks);
+        return checks_move(g, j - e.locks);
     }
     if j < e.checks + 3 {
         return read_move(8, p.level_word, Purpose::StoredLevel, j - e.checks);

@@ -1,9 +1,9 @@
-// What is at an index of steps 5 to 8: rows and locks are lent on as middle parts of the image.
+// What is at an index of steps 5 to 8: in steps 5 and 7 rows and locks are lent on as middle parts of the image.
 ghost use mathlib.Core.List.{[], _∷_, _++_};
 ghost use mathlib.Core.Path.{_≡_};
 ghost use Prim.Native.Nat.{_+_, _*_, _/_, _<_, _≤_};
 ghost use lib.ListN.{length, getD};
-ghost use Rattle.flow.specs.Sequence.{key, call, listed, inTurn, latchList, programRow, verifyFlash, lockMacro, verifyMacro, endMove};
+ghost use Rattle.flow.specs.Sequence.{key, call, listed, inTurn, latchList, programRow, verifyRow, lockMacro, verifyMacro, endMove};
 ghost use Rattle.image.specs.Image.{imageOf};
 ghost use Rattle.moves.specs.Handled.{Handled};
 ghost use Rattle.moves.specs.Stands.{Stands};
@@ -91,18 +91,21 @@ pub(crate) fn rows_move(g: Geometry, h: Header, bytes: &[u8], j: u32) -> Move
 }
 
 // Step 6.
-pub(crate) fn verify_move(g: Geometry, h: Header, bytes: &[u8], j: u32) -> Move
-    requires { ⌜ Handled g ⌝ ∗ ⌜ length (now bytes) ≡ imageSize g ⌝ ∗ ⌜ j < rowsOf g * (rowBytes g / 4) * 3 ⌝ }
-    ensures { λ t. ⌜ t ≡ getD (verifyFlash (imageOf g h (now (bytes .entry)))) j endMove ⌝ }
+pub(crate) fn verify_move(g: Geometry, j: u32) -> Move
+    requires { ⌜ Handled g ⌝ ∗ ⌜ j < rowsOf g * (rowBytes g / 4 * 3) ⌝ }
+    ensures { λ t. ⌜ t ≡ getD (inTurn (verifyRow g) 0 (rowsOf g)) j endMove ⌝ }
 {
     let p = g.part;
     let size = p.row_bytes as u32;
-    let k = j / 3;
-    let r = k / (size / 4);
-    let start = (r * size) as usize;
-    let end = start + (size as usize);
-    let w = image::word_at(&bytes[start..end], (4 * (k % (size / 4))) as usize);
-    read_move(6, 4 * k, Purpose::Same(w, 22), j % 3)
+    let each = size / 4 * 3;
+    let r = j / each;
+    let at = 4 * (j % each / 3);
+    read_move(
+        6,
+        r * size + at,
+        Purpose::FlashWord(r, at),
+        j % each % 3,
+    )
 }
 
 // A macro of step 7.
@@ -146,22 +149,19 @@ pub(crate) fn locks_move(g: Geometry, h: Header, bytes: &[u8], j: u32) -> Move
 }
 
 // Step 8 but for the level.
-pub(crate) fn checks_move(g: Geometry, h: Header, bytes: &[u8], j: u32) -> Move
-    requires { ⌜ Handled g ⌝ ∗ ⌜ length (now bytes) ≡ imageSize g ⌝ ∗ ⌜ j < macrosOf g * (rowsPerMacro g / 8 / 4 * 3) ⌝ }
-    ensures { λ t. ⌜ t ≡ getD (inTurn (verifyMacro (imageOf g h (now (bytes .entry)))) 0 (macrosOf g)) j endMove ⌝ }
+pub(crate) fn checks_move(g: Geometry, j: u32) -> Move
+    requires { ⌜ Handled g ⌝ ∗ ⌜ j < macrosOf g * (rowsPerMacro g / 8 / 4 * 3) ⌝ }
+    ensures { λ t. ⌜ t ≡ getD (inTurn (verifyMacro g) 0 (macrosOf g)) j endMove ⌝ }
 {
     let p = g.part;
     let size = (p.rows_per_macro as u32) / 8;
     let each = size / 4 * 3;
     let m = j / each;
-    let a = 4 * (j % each / 3);
-    let start = parts::flash_size(g) + ((m * size) as usize);
-    let end = start + (size as usize);
-    let w = image::word_at(&bytes[start..end], a as usize);
+    let at = 4 * (j % each / 3);
     read_move(
         8,
-        p.locks + m * p.locks_step + a,
-        Purpose::Same(w, 23),
+        p.locks + m * p.locks_step + at,
+        Purpose::LockWord(m, at),
         j % each % 3,
     )
 }

@@ -1,7 +1,7 @@
 -- What the code's step comes to is the flow's step; and the bounds of a geometry of the table. Assumes nothing.
 use mathlib.Core.Bool.{Bool, true, false, _&&_, cond}
 use mathlib.Core.List.{List, []}
-use mathlib.Core.Path.{_≡_, refl, ap, _∙_}
+use mathlib.Core.Path.{_≡_, refl}
 use Prim.Native.Nat.{ℕ, suc, _+_, _*_, _<_, _^_}
 use native.Mathlib.Numerals.{add-one}
 use native.Mathlib.Omega.{arith}
@@ -9,17 +9,15 @@ use borrow.Author.Tests.{ltb-true}
 use lib.Dec.{ltb}
 use Rattle.flow.proofs.Table.{facts}
 use Rattle.flow.specs.Monitor.{isReset, isAttempt}
-use Rattle.flow.specs.Packets.{Verdict, okay, again, broken, verdict}
+use Rattle.flow.specs.Packets.{verdict}
 use Rattle.flow.specs.Plan.{plan, loops, acquisitions, mostTraffic}
 use Rattle.flow.specs.Session.{running, moveAt, heardBy, stepOf}
 use Rattle.flow.specs.declared.Answer.{Answer}
 use Rattle.flow.specs.declared.Entry.{Entry}
 use Rattle.flow.specs.declared.Entry.the-variants.{FromOpen, FromProtected}
 use Rattle.flow.specs.declared.Move.{Move}
-use Rattle.flow.specs.declared.Purpose.{Purpose}
 use Rattle.image.specs.Image.{Image, imageOf}
-use Rattle.image.specs.declared.Header.{Header}
-use Rattle.moves.specs.Moves.{moveCount}
+use Rattle.flow.specs.Session.{moveCount}
 use Rattle.parts.proofs.Table.{both, everywhere, at-found}
 use Rattle.parts.specs.Parts.{partTable, lookupOf}
 use Rattle.parts.specs.Sizes.{rowsOf, locksIn}
@@ -29,11 +27,10 @@ use Rattle.session.specs.Nexts.{nextBy, resetNext, standAfter, actOn}
 use Rattle.session.specs.Possible.{possibleIn}
 use Rattle.session.specs.Ranges.{InRange}
 use Rattle.session.specs.Sessions.{standOf, mostOf}
-use Rattle.session.specs.declared.Next.{Next}
 use Rattle.session.specs.declared.Progress.{Progress}
 use Rattle.session.specs.declared.Session.{Session}
 use Rattle.session.proofs.Closed.{Within}
-use Rattle.session.proofs.Nexts.{judge-header, stand-heard}
+use Rattle.session.proofs.Nexts.{stand-heard}
 use Rattle.session.proofs.Places.{planned}
 use Rattle.session.proofs.Possibility.{parts, stands-of}
 
@@ -73,18 +70,8 @@ in-range g s found can e =
 
 -- ---- the step
 
-next-header : (a : Bool) (g : Geometry) (h : Header) (bytes : List ℕ) (u : Purpose) (v : Verdict) (y : Entry) (p : Progress)
-    → nextBy a (imageOf g h []) u v y p ≡ nextBy a (imageOf g h bytes) u v y p
-unfolding nextBy
-next-header true g h bytes u (okay w) y p = rw (judge-header g h bytes u (p .polls) (p .kept) w)
-next-header false g h bytes u (okay w) y p = rw (judge-header g h bytes u (p .polls) (p .kept) w)
-next-header true g h bytes u again y p = refl
-next-header false g h bytes u again y p = refl
-next-header true g h bytes u (broken x) y p = refl
-next-header false g h bytes u (broken x) y p = refl
-
 pub acted : (g : Geometry) (bytes : List ℕ) (s : Session) (a : Answer) → s .finished ≡ false
-    → actOn (imageOf g (s .header) []) (moveAt (imageOf g (s .header) bytes) (s .entry) (s .progress .at)) a (s .entry) (s .progress) (s .transfers)
+    → actOn (imageOf g (s .header) bytes) (moveAt (imageOf g (s .header) bytes) (s .entry) (s .progress .at)) a (s .entry) (s .progress) (s .transfers)
     ≡ stepOf (imageOf g (s .header) bytes) (standOf s) a
 unfolding actOn stepOf
 acted g bytes s a e = rw e (by (isReset (m .request)))
@@ -100,11 +87,8 @@ acted g bytes s a e = rw e (by (isReset (m .request)))
 
     by : (t : Bool)
         → cond t (standAfter (resetNext (s .entry) p) (m .step) (s .transfers))
-        (standAfter (nextBy (isAttempt (m .request)) (imageOf g (s .header) []) (m .purpose) (verdict (m .request) a) (s .entry) p) (m .step) (suc (s .transfers)))
+        (standAfter (nextBy (isAttempt (m .request)) i (m .purpose) (verdict (m .request) a) (s .entry) p) (m .step) (suc (s .transfers)))
         ≡ cond t (running (s .entry) (suc (p .at)) (p .waits) (p .polls) (p .attempts) (p .kept) (s .transfers))
         (heardBy (isAttempt (m .request)) i m (verdict (m .request) a) (s .entry) (p .at) (p .waits) (p .polls) (p .attempts) (p .kept) (suc (s .transfers)))
     by true = simp add-one
-    by false =
-        ap (λ (x : Next). standAfter x (m .step) (suc (s .transfers)))
-        (next-header (isAttempt (m .request)) g (s .header) bytes (m .purpose) (verdict (m .request) a) (s .entry) p)
-        ∙ stand-heard (isAttempt (m .request)) i m (verdict (m .request) a) (s .entry) p (suc (s .transfers))
+    by false = stand-heard (isAttempt (m .request)) i m (verdict (m .request) a) (s .entry) p (suc (s .transfers))

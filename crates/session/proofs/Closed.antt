@@ -7,7 +7,7 @@ use native.Mathlib.Omega.{arith}
 use borrow.Author.Tests.{le-leb, eq-eqb, ne-eqb, ltb-true}
 use lib.Dec.{eqb, ltb, lit≤}
 use lib.ListN.{length}
-use Rattle.flow.specs.Judge.{Judged, go, pollAgain, enter, report, judge, goIf, polled, entryBy, free, testBitSet, succeeded, idsFit, levelIn, levelShown, sumsFit}
+use Rattle.flow.specs.Judge.{rowIn, macroLocks, Judged, go, pollAgain, enter, report, judge, goIf, polled, entryBy, free, testBitSet, succeeded, idsFit, levelIn, levelShown, sumsFit}
 use Rattle.flow.specs.Monitor.{isReset, isAttempt}
 use Rattle.flow.specs.Packets.{Verdict, okay, again, broken, heard, verdict, isRead, replyIn}
 use Rattle.flow.specs.Sequence.{opening}
@@ -18,12 +18,13 @@ use Rattle.flow.specs.declared.Entry.{Entry}
 use Rattle.flow.specs.declared.Entry.the-variants.{FromOpen, FromProtected}
 use Rattle.flow.specs.declared.Move.{Move}
 use Rattle.flow.specs.declared.Purpose.{Purpose}
-use Rattle.flow.specs.declared.Purpose.the-variants.{Sent, Idcode, TestBit, Poll, Status, Keep, EntryLevel, Reopened, Same, StoredLevel, LastSum}
+use Rattle.flow.specs.declared.Purpose.the-variants.{Sent, Idcode, TestBit, Poll, Status, Keep, EntryLevel, Reopened, FlashWord, LockWord, StoredLevel, LastSum}
 use Rattle.flow.specs.declared.Request.{Request}
+use Rattle.image.specs.Words.{sameWord}
 use Rattle.image.specs.Image.{Image}
 use Rattle.session.specs.Possible.{reportFits}
 use Rattle.flow.proofs.Moves.{Proper, Reports, proper-at}
-use Rattle.moves.specs.Moves.{moveCount}
+use Rattle.flow.specs.Session.{moveCount}
 use Rattle.session.proofs.Places.{has-next, opening-in}
 use Rattle.wire.specs.Wire.{parity, ackOf}
 use Rattle.wire.specs.declared.Ack.{Ack}
@@ -59,7 +60,8 @@ isLast Status = false
 isLast Keep = false
 isLast EntryLevel = false
 isLast Reopened = false
-isLast (Same w n) = false
+isLast (FlashWord r o) = false
+isLast (LockWord m o) = false
 isLast StoredLevel = false
 isLast LastSum = true
 
@@ -140,7 +142,8 @@ module _ (i : Image) (y : Entry) (n : ℕ) (inside : n < moveCount (i .geometry)
     allowed Reopened w r nx =
         allow-either (idsFit i k w) (goIf (eqb (levelIn w) 1) 21 p k) (report 20)
         (allow-if (eqb (levelIn w) 1) 21 (nx refl) (lit≤ tt, lit≤ tt)) (allow-report 20 (lit≤ tt, lit≤ tt))
-    allowed (Same v x) w r nx = allow-if (eqb w v) x (nx refl) r
+    allowed (FlashWord x o) w r nx = allow-if (sameWord (rowIn i x) o w) 22 (nx refl) (lit≤ tt, lit≤ tt)
+    allowed (LockWord m o) w r nx = allow-if (sameWord (macroLocks i m) o w) 23 (nx refl) (lit≤ tt, lit≤ tt)
     allowed StoredLevel w r nx = allow-if (eqb (levelShown w) (i .header .level)) 24 (nx refl) (lit≤ tt, lit≤ tt)
     allowed LastSum w r nx =
         allow-either (sumsFit i w k) (report 0) (report 25) (at-nine s r) (allow-report 25 (lit≤ tt, lit≤ tt))

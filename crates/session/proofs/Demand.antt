@@ -21,7 +21,7 @@ use Rattle.image.proofs.Refusals.{Passed, all-passed}
 use Rattle.image.specs.Checks.{imageFault}
 use Rattle.image.specs.Image.{Image, imageOf}
 use Rattle.image.specs.declared.Header.{Header}
-use Rattle.moves.specs.Moves.{moveCount}
+use Rattle.flow.specs.Session.{moveCount}
 use Rattle.parts.specs.Parts.{lookupOf}
 use Rattle.parts.specs.declared.Geometry.{Geometry}
 use Rattle.parts.specs.declared.Lookup.the-variants.{Found}

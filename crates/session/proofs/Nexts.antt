@@ -1,20 +1,16 @@
 -- Where an answer leads, by what it says; and that this is the flow's own step. Assumes nothing.
 use mathlib.Core.Bool.{Bool, true, false, cond}
-use mathlib.Core.List.{List, []}
 use mathlib.Core.Path.{_≡_, refl}
 use Prim.Native.Nat.{ℕ, suc, _+_}
 use native.Mathlib.Numerals.{add-one}
 use lib.Dec.{ltb}
-use Rattle.flow.specs.Judge.{Judged, go, pollAgain, enter, report, judge, idsFit, sumsFit}
+use Rattle.flow.specs.Judge.{Judged, go, pollAgain, enter, report, judge}
 use Rattle.flow.specs.Packets.{Verdict, okay, again, broken}
 use Rattle.flow.specs.Session.{judgedTo, tryAgain, waitAgain, heardBy}
 use Rattle.flow.specs.declared.Entry.{Entry}
 use Rattle.flow.specs.declared.Move.{Move}
 use Rattle.flow.specs.declared.Purpose.{Purpose}
-use Rattle.flow.specs.declared.Purpose.the-variants.{Sent, Idcode, TestBit, Poll, Status, Keep, EntryLevel, Reopened, Same, StoredLevel, LastSum}
-use Rattle.image.specs.Image.{Image, imageOf}
-use Rattle.image.specs.declared.Header.{Header}
-use Rattle.parts.specs.declared.Geometry.{Geometry}
+use Rattle.image.specs.Image.{Image}
 use Rattle.session.specs.Nexts.{nextOf, tryNext, waitNext, nextBy, standAfter}
 use Rattle.session.specs.declared.Next.the-variants.{Stop}
 use Rattle.session.specs.declared.Progress.{Progress}
@@ -34,21 +30,6 @@ module _ (i : Image) (u : Purpose) (y : Entry) (p : Progress) where
   unfolding nextBy
   next-broken true x = refl
   next-broken false x = refl
-
--- a word is judged by the header and the part alone
-pub judge-header : (g : Geometry) (h : Header) (bytes : List ℕ) (u : Purpose) (p k w : ℕ) → judge (imageOf g h []) u p k w ≡ judge (imageOf g h bytes) u p k w
-unfolding judge idsFit sumsFit
-judge-header g h bytes Sent p k w = refl
-judge-header g h bytes Idcode p k w = refl
-judge-header g h bytes TestBit p k w = refl
-judge-header g h bytes Poll p k w = refl
-judge-header g h bytes Status p k w = refl
-judge-header g h bytes Keep p k w = refl
-judge-header g h bytes EntryLevel p k w = refl
-judge-header g h bytes Reopened p k w = refl
-judge-header g h bytes (Same v n) p k w = refl
-judge-header g h bytes StoredLevel p k w = refl
-judge-header g h bytes LastSum p k w = refl
 
 stand-next : (j : Judged) (y : Entry) (n a s h : ℕ) → standAfter (nextOf j y n a) s h ≡ judgedTo j y n s a h
 stand-next (go p k) y n a s h = simp add-one

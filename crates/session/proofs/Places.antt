@@ -11,7 +11,7 @@ use lib.Seq.{getD-at}
 use Rattle.flow.proofs.Counting.{total, one-more, sequence-totals}
 use Rattle.flow.proofs.Table.{Facts}
 use Rattle.flow.specs.Plan.{trafficIn, plan, acquisitions}
-use Rattle.flow.specs.Sequence.{move, read, call, listed, inTurn, privileged, programRow, verifyFlash, lockMacro, verifyMacro, acquire, silicon, program, opening, afterwards, sequence, endMove, key}
+use Rattle.flow.specs.Sequence.{move, read, call, listed, inTurn, privileged, programRow, verifyRow, lockMacro, verifyMacro, acquire, silicon, program, opening, afterwards, sequence, endMove, key}
 use Rattle.flow.specs.Session.{moveAt}
 use Rattle.flow.specs.declared.Entry.{Entry}
 use Rattle.flow.specs.declared.Entry.the-variants.{FromOpen, FromProtected}
@@ -20,7 +20,7 @@ use Rattle.flow.specs.declared.Purpose.the-variants.{Sent, Keep, Reopened, Stor
 use Rattle.flow.specs.declared.Request.the-variants.{ReadDrw, WriteTar}
 use Rattle.image.specs.Image.{Image}
 use Rattle.moves.proofs.Counts.{counted, opening-counted, count-open, count-reopen}
-use Rattle.moves.specs.Moves.{bare, moveCount}
+use Rattle.flow.specs.Session.{bare, moveCount}
 use Rattle.parts.specs.Sizes.{macrosOf, rowsOf, sysargOf, levelAt}
 use Rattle.parts.specs.declared.Geometry.{Geometry}
 
@@ -57,9 +57,9 @@ ends-program i =
     let g = i .geometry in
     after (privileged g 4 Keep)
     (after (inTurn (programRow i) 0 (rowsOf g))
-    (after (verifyFlash i)
+    (after (inTurn (verifyRow g) 0 (rowsOf g))
     (after (inTurn (lockMacro i) 0 (macrosOf g))
-    (after (inTurn (verifyMacro i) 0 (macrosOf g)) (after (read 8 (levelAt g) StoredLevel) (ends-privileged g))))))
+    (after (inTurn (verifyMacro g) 0 (macrosOf g)) (after (read 8 (levelAt g) StoredLevel) (ends-privileged g))))))
 
 ends-sequence : (i : Image) (y : Entry) → Ends lastMove (sequence i y)
 unfolding sequence afterwards

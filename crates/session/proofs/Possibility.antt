@@ -11,7 +11,7 @@ use Rattle.flow.specs.Session as Flow
 use Rattle.flow.specs.declared.Answer.{Answer}
 use Rattle.image.specs.Image.{imageOf}
 use Rattle.image.specs.declared.Header.{Header}
-use Rattle.moves.specs.Moves.{moveCount}
+use Rattle.flow.specs.Session.{moveCount}
 use Rattle.parts.proofs.Table.{both}
 use Rattle.parts.specs.declared.Geometry.{Geometry}
 use Rattle.session.specs.Possible.{headerFits, progressFits, reportFits, possibleIn}

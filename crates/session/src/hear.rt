@@ -1,10 +1,11 @@
 // Where an answer leads: acknowledgement and parity first, then the word.
 ghost use mathlib.Core.Bool.{cond};
-ghost use mathlib.Core.List.{[]};
 ghost use mathlib.Core.Path.{_≡_};
+ghost use lib.ListN.{length};
 ghost use Rattle.flow.specs.Monitor.{isReset, isAttempt};
 ghost use Rattle.flow.specs.Packets.{isRead, heard, replyIn};
 ghost use Rattle.image.specs.Image.{imageOf};
+ghost use Rattle.parts.specs.Sizes.{imageSize};
 ghost use Rattle.session.specs.Nexts.{tryNext, waitNext, nextBy, resetNext};
 ghost use Rattle.session.specs.Ranges.{InRange};
 ghost use Rattle.wire.specs.Wire.{ackOf};
@@ -122,31 +123,47 @@ pub(crate) fn is_reset(q: Request) -> bool
 }
 
 // An OK: the parity of a read's word counts, and a write has no word.
-fn on_okay(g: Geometry, h: Header, y: Entry, p: Progress, m: Move, r: Reply) -> Next
-    requires { ⌜ InRange p ⌝ }
-    ensures { λ n. ⌜ n ≡ nextBy (isAttempt (m .request)) (imageOf g h []) (m .purpose) (heard (isRead (m .request)) Ack.Okay (r .word) (r .parity)) y p ⌝ }
+fn on_okay(
+    g: Geometry,
+    h: Header,
+    bytes: &[u8],
+    y: Entry,
+    p: Progress,
+    m: Move,
+    r: Reply,
+) -> Next
+    requires { ⌜ InRange p ⌝ ∗ ⌜ length (now bytes) ≡ imageSize g ⌝ }
+    ensures { λ n. ⌜ n ≡ nextBy (isAttempt (m .request)) (imageOf g h (now (bytes .entry))) (m .purpose) (heard (isRead (m .request)) Ack.Okay (r .word) (r .parity)) y p ⌝ }
 {
     let q = m.request;
     let u = m.purpose;
     let attempts = attempts_after(q, p);
     if flow::is_read(q) {
         if r.parity == wire::parity_of(r.word) {
-            return on_word(g, h, y, p, u, attempts, r.word);
+            return on_word(g, h, bytes, y, p, u, attempts, r.word);
         }
         return on_broken(q, y, p, 30);
     }
-    on_word(g, h, y, p, u, attempts, 0)
+    on_word(g, h, bytes, y, p, u, attempts, 0)
 }
 
 // A reply to the standing move.
-pub(crate) fn on_reply(g: Geometry, h: Header, y: Entry, p: Progress, m: Move, r: Reply) -> Next
-    requires { ⌜ InRange p ⌝ }
-    ensures { λ n. ⌜ n ≡ nextBy (isAttempt (m .request)) (imageOf g h []) (m .purpose) (heard (isRead (m .request)) (ackOf (r .ack)) (r .word) (r .parity)) y p ⌝ }
+pub(crate) fn on_reply(
+    g: Geometry,
+    h: Header,
+    bytes: &[u8],
+    y: Entry,
+    p: Progress,
+    m: Move,
+    r: Reply,
+) -> Next
+    requires { ⌜ InRange p ⌝ ∗ ⌜ length (now bytes) ≡ imageSize g ⌝ }
+    ensures { λ n. ⌜ n ≡ nextBy (isAttempt (m .request)) (imageOf g h (now (bytes .entry))) (m .purpose) (heard (isRead (m .request)) (ackOf (r .ack)) (r .word) (r .parity)) y p ⌝ }
 {
     let q = m.request;
     let a = wire::read_ack(r.ack);
     match a {
-        Ack::Okay => on_okay(g, h, y, p, m, r),
+        Ack::Okay => on_okay(g, h, bytes, y, p, m, r),
         Ack::Wait => on_wait(q, y, p),
         Ack::Fault => on_broken(q, y, p, 28),
         Ack::Silence => on_broken(q, y, p, 29),

@@ -3,8 +3,11 @@ ghost use mathlib.Core.List.{[]};
 ghost use mathlib.Core.Path.{_≡_};
 ghost use Prim.Native.Nat.{suc, _-_};
 ghost use lib.Dec.{ltb};
-ghost use Rattle.flow.specs.Judge.{judge, go, free, levelIn, entryBy, goIf, polled};
+ghost use lib.ListN.{length};
+ghost use Rattle.flow.specs.Judge.{judge, go, free, levelIn, entryBy, goIf, polled, rowIn, macroLocks};
 ghost use Rattle.image.specs.Image.{imageOf};
+ghost use Rattle.image.specs.Words.{sameWord};
+ghost use Rattle.parts.specs.Sizes.{imageSize};
 ghost use Rattle.session.specs.Nexts.{nextOf};
 ghost use Rattle.session.specs.Ranges.{InRange};
 use crate::Next;
@@ -126,18 +129,41 @@ fn summed(g: Geometry, h: Header, y: Entry, p: Progress, attempts: u32, w: u32) 
     }
 }
 
+// Whether a word is the image's at an offset of a row: the row is lent on as a middle part of the image.
+fn flash_word_is(g: Geometry, h: Header, bytes: &[u8], row: u32, at: u32, w: u32) -> bool
+    requires { ⌜ length (now bytes) ≡ imageSize g ⌝ }
+    ensures { λ r. ⌜ r ≡ sameWord (rowIn (imageOf g h (now (bytes .entry))) row) at w ⌝ }
+{
+    let p = g.part;
+    let size = p.row_bytes as usize;
+    let flash = parts::flash_size(g);
+    image::part_word_is(&bytes[..flash], (row as usize) * size, size, at as usize, w)
+}
+
+// The same of a macro's locks, in the part after the flash.
+fn lock_word_is(g: Geometry, h: Header, bytes: &[u8], m: u32, at: u32, w: u32) -> bool
+    requires { ⌜ length (now bytes) ≡ imageSize g ⌝ }
+    ensures { λ r. ⌜ r ≡ sameWord (macroLocks (imageOf g h (now (bytes .entry))) m) at w ⌝ }
+{
+    let p = g.part;
+    let size = (p.rows_per_macro as usize) / 8;
+    let flash = parts::flash_size(g);
+    image::part_word_is(&bytes[flash..], (m as usize) * size, size, at as usize, w)
+}
+
 // A word, by the purpose of the move that it answers.
 pub(crate) fn on_word(
     g: Geometry,
     h: Header,
+    bytes: &[u8],
     y: Entry,
     p: Progress,
     u: Purpose,
     attempts: u32,
     w: u32,
 ) -> Next
-    requires { ⌜ InRange p ⌝ }
-    ensures { λ r. ⌜ r ≡ nextOf (judge (imageOf g h []) u (p .polls) (p .kept) w) y (p .at) attempts ⌝ }
+    requires { ⌜ InRange p ⌝ ∗ ⌜ length (now bytes) ≡ imageSize g ⌝ }
+    ensures { λ r. ⌜ r ≡ nextOf (judge (imageOf g h (now (bytes .entry))) u (p .polls) (p .kept) w) y (p .at) attempts ⌝ }
 {
     match u {
         Purpose::Sent => onward(y, p, p.polls, attempts, p.kept),
@@ -148,7 +174,12 @@ pub(crate) fn on_word(
         Purpose::Keep => onward(y, p, p.polls, attempts, w),
         Purpose::EntryLevel => entered(g, h, y, p, attempts, w),
         Purpose::Reopened => reopened(g, h, y, p, attempts, w),
-        Purpose::Same(v, n) => onward_if(w == v, n, y, p, attempts),
+        Purpose::FlashWord(row, at) => {
+            onward_if(flash_word_is(g, h, bytes, row, at, w), 22, y, p, attempts)
+        }
+        Purpose::LockWord(m, at) => {
+            onward_if(lock_word_is(g, h, bytes, m, at, w), 23, y, p, attempts)
+        }
         Purpose::StoredLevel => onward_if(words::level_shown(w) == h.level, 24, y, p, attempts),
         Purpose::LastSum => summed(g, h, y, p, attempts, w),
     }

@@ -202,7 +202,7 @@ fn step_on(g: Geometry, s: Session, bytes: &[u8], a: Answer) -> Given
     let m = moves::move_at(g, h, bytes, y, p.at);
     let q = m.request;
     if answer_fits(q, a) {
-        let t = advanced(g, s, m, a);
+        let t = advanced(g, s, bytes, m, a);
         return give(g, t, bytes);
     }
     refuse(s, 14)

@@ -1,8 +1,9 @@
 // The session that an answer leads to.
-ghost use mathlib.Core.List.{[]};
 ghost use mathlib.Core.Path.{_≡_};
+ghost use lib.ListN.{length};
 ghost use Prim.Native.Nat.{_<_, _^_, min};
 ghost use Rattle.image.specs.Image.{imageOf};
+ghost use Rattle.parts.specs.Sizes.{imageSize};
 ghost use Rattle.session.specs.Nexts.{standAfter, actOn};
 ghost use Rattle.session.specs.Ranges.{InRange};
 ghost use Rattle.session.specs.Sessions.{mostOf, runningAt, reportedAt, resumed};
@@ -83,9 +84,9 @@ fn resume(g: Geometry, s: Session, next: Next, step: u8, count: u64) -> Session
 }
 
 // The session after the standing move is answered.
-pub(crate) fn advanced(g: Geometry, s: Session, m: Move, a: Answer) -> Session
-    requires { ⌜ InRange (s .progress) ⌝ ∗ ⌜ mostOf g < 2 ^ 32 ⌝ }
-    ensures { λ r. ⌜ r ≡ resumed g s (actOn (imageOf g (s .header) []) m a (s .entry) (s .progress) (s .transfers)) ⌝ }
+pub(crate) fn advanced(g: Geometry, s: Session, bytes: &[u8], m: Move, a: Answer) -> Session
+    requires { ⌜ InRange (s .progress) ⌝ ∗ ⌜ mostOf g < 2 ^ 32 ⌝ ∗ ⌜ length (now bytes) ≡ imageSize g ⌝ }
+    ensures { λ r. ⌜ r ≡ resumed g s (actOn (imageOf g (s .header) (now (bytes .entry))) m a (s .entry) (s .progress) (s .transfers)) ⌝ }
 {
     let h = s.header;
     let y = s.entry;
@@ -96,6 +97,6 @@ pub(crate) fn advanced(g: Geometry, s: Session, m: Move, a: Answer) -> Session
         return resume(g, s, n, m.step, s.transfers as u64);
     }
     let r = reply_in(a);
-    let n = on_reply(g, h, y, p, m, r);
+    let n = on_reply(g, h, bytes, y, p, m, r);
     resume(g, s, n, m.step, (s.transfers as u64) + 1)
 }

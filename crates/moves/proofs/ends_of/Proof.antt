@@ -3,7 +3,7 @@ use mathlib.Core.Path.{refl, ap, _∙_}
 use Prim.Native.Nat.{ℕ, _+_, _*_, _/_, _≤_}
 use native.Mathlib.Omega.{arith}
 use borrow.Author.Needs.{needs}
-use Rattle.moves.proofs.Sections.{rows-small, words-few, locks-small, checks-small}
+use Rattle.moves.proofs.Sections.{rows-small, words-small, locks-small, checks-small}
 use Rattle.parts.specs.Sizes.{macrosOf, rowsOf}
 use Rattle.moves.proofs.ends_of.Statement.{statement}
 use Rattle.moves.proofs.ends_of.Tie as tie
@@ -11,8 +11,8 @@ use Rattle.moves.proofs.ends_of.Tie as tie
 rows : (c : tie.After-row-moves) → c .before .before .rows .result * c .row-moves .result ≤ 35258368
 rows c = rw (c .before .before .rows .ensures, c .row-moves .ensures .0) (rows-small (c .before .before .before .before .args .g) (c .before .before .before .before .pre))
 
-words : (c : tie.After-row-moves) → c .before .before .rows .result * (c .before .before .before .before .args .g .part .«row_bytes» / 4) ≤ 16777216
-words c = rw (c .before .before .rows .ensures) (words-few (c .before .before .before .before .args .g) (c .before .before .before .before .pre))
+words : (c : tie.After-row-moves) → c .before .before .rows .result * (c .before .before .before .before .args .g .part .«row_bytes» / 4 * 3) ≤ 50331648
+words c = rw (c .before .before .rows .ensures) (words-small (c .before .before .before .before .args .g) (c .before .before .before .before .pre))
 
 locks : (c : tie.After-lock-moves) → macrosOf (c .before .before .before .before .before .before .args .g) * c .lock-moves .result ≤ 4480
 locks c = rw (c .lock-moves .ensures .0) (locks-small (c .before .before .before .before .before .before .args .g) (c .before .before .before .before .before .before .pre))

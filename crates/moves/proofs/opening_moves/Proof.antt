@@ -2,7 +2,7 @@
 use native.Mathlib.Omega.{arith}
 use borrow.Author.Needs.{needs}
 use Rattle.moves.proofs.Counts.{length-opening}
-use Rattle.moves.specs.Moves.{bare}
+use Rattle.flow.specs.Session.{bare}
 use Rattle.moves.proofs.opening_moves.Statement.{statement}
 use Rattle.moves.proofs.opening_moves.Tie as tie
 

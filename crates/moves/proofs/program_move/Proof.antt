@@ -22,7 +22,7 @@ program-move-spec =
     let o = c .before .before .before .before .ends-of .ensures in
     let i = imageOf (s .args .g) (s .args .h) (now (s .args .bytes)) in
     c .rows-move .ensures ∙ sym (program-rows i (s .args .j) (e .rows) (e .words) (o .rows) (o .words) (c .before .before .before .if1 .left) (c .before .if2 .taken)))
-    (λ c κs. let s = c .before .before .before .before .before .before .before .before .before in (s .pre .0, (s .pre .1, omega (arith, (c .before .before .before .before .before .before .ends-of .ensures) .words))))
+    (λ c κs. let s = c .before .before .before .before .before .before .before .before .before in (s .pre .0, omega (arith, (c .before .before .before .before .before .before .ends-of .ensures) .words)))
     (λ c.
     let s = c .before .before .before .before .before .before .before .before .before .before in
     let e = c .before .before .before .before .before .before .before .ends-of .result in
@@ -36,7 +36,7 @@ program-move-spec =
     let o = c .before .before .before .before .before .before .before .before .before .ends-of .ensures in
     let i = imageOf (s .args .g) (s .args .h) (now (s .args .bytes)) in
     c .locks-move .ensures ∙ sym (program-locks i (s .args .j) (e .rows) (e .words) (o .rows) (o .words) (e .locks) (e .checks) (o .locks) (o .checks) (c .before .before .before .before .if3 .left) (c .before .before .if4 .taken)))
-    (λ c κs. let s = c .before .before .before .before .before .before .before .before .before .before .before .before .before in (s .pre .0, (s .pre .1, omega (arith, (c .before .before .before .before .before .before .before .before .before .before .ends-of .ensures) .checks))))
+    (λ c κs. let s = c .before .before .before .before .before .before .before .before .before .before .before .before .before in (s .pre .0, omega (arith, (c .before .before .before .before .before .before .before .before .before .before .ends-of .ensures) .checks)))
     (λ c.
     let s = c .before .before .before .before .before .before .before .before .before .before .before .before .before .before in
     let e = c .before .before .before .before .before .before .before .before .before .before .before .ends-of .result in

@@ -5,7 +5,7 @@ use native.Mathlib.Nat.{mul-le-mul}
 use native.Mathlib.Omega.{arith}
 use borrow.Author.Needs.{needs}
 use Rattle.moves.proofs.Counts.{length-program}
-use Rattle.moves.specs.Moves.{bare}
+use Rattle.flow.specs.Session.{bare}
 use Rattle.moves.proofs.program_moves.Statement.{statement}
 use Rattle.moves.proofs.program_moves.Tie as tie
 

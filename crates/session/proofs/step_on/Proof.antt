@@ -1,6 +1,5 @@
 -- The report again, the next request, or 14. Assumes nothing.
 use mathlib.Core.Bool.{true, false}
-use mathlib.Core.List.{[]}
 use mathlib.Core.Path.{_≡_, sym, ap, subst, _∙_}
 use borrow.Author.Needs.{needs}
 use Rattle.flow.specs.Session.{moveAt, stepOf}
@@ -44,7 +43,7 @@ advanced-requires : tie.Need-advanced-requires
 advanced-requires c κs =
     let a = c .before .before .before .before .before .before .before .args in
     let pre = c .before .before .before .before .before .before .before .pre in
-    (in-range (a .g) (a .s) (pre .0 .found) (pre .1) (c .before .before .before .before .before .if1 .left), most-small (a .s .header .part) (a .s .header .macros) (pre .0 .found))
+    (in-range (a .g) (a .s) (pre .0 .found) (pre .1) (c .before .before .before .before .before .if1 .left), (most-small (a .s .header .part) (a .s .header .macros) (pre .0 .found), pre .0 .size))
 
 give-requires-2 : tie.Need-give-requires-2
 give-requires-2 c κs =
@@ -64,7 +63,7 @@ returns-2 c =
     ap (λ (m : Move). answers (m .request) (a .a)) (sym is) ∙ sym (c .before .before .before .answer-fits .ensures) ∙ c .before .before .if2 .taken in
     let new : c .before .advanced .result ≡ resumed (a .g) (a .s) (stepOf i (standOf (a .s)) (a .a)) =
     c .before .advanced .ensures
-    ∙ ap (λ (m : Move). resumed (a .g) (a .s) (actOn (imageOf (a .g) (a .s .header) []) m (a .a) (a .s .entry) (a .s .progress) (a .s .transfers))) is
+    ∙ ap (λ (m : Move). resumed (a .g) (a .s) (actOn i m (a .a) (a .s .entry) (a .s .progress) (a .s .transfers))) is
     ∙ ap (resumed (a .g) (a .s)) (acted (a .g) (a .bytes .now) (a .s) (a .a) goes) in
     c .give2 .ensures
     ∙ ap (λ (t : Session). giving (imageOf (a .g) (t .header) (a .bytes .now)) t) new
