@@ -27,7 +27,7 @@ use Rattle.parts.specs.Parts.{lowFits}
 
 -- ---- the right part, as tests and as a record
 
-right-part : (i : Image) (x : Silicon) → RightIds i x → RightPart i x
+pub right-part : (i : Image) (x : Silicon) → RightIds i x → RightPart i x
 unfolding rightSilicon
 right-part i x r =
     let s = both (eqb (x .high) (metadataAt (i .header) 2) && eqb (x .family) (metadataAt (i .header) 5)) (lowFits (i .geometry .part) (x .low)) (r .silicon) in
@@ -70,7 +70,7 @@ module _ (i : Image) where
       by (running y n w p a k h) e = absurd (false≢true (sym e))
       by (reported x s h) e = refl
 
-  stays : (n : ℕ) (r : Run) → going (r .session) ≡ false → runAfter i n r ≡ r
+  pub stays : (n : ℕ) (r : Run) → going (r .session) ≡ false → runAfter i n r ≡ r
   unfolding runAfter
   stays zero r e = refl
   stays (suc n) r e = rw (advance-ended r e) (stays n r e)
@@ -239,7 +239,7 @@ module _ (i : Image) (lv : Level (i .header .level)) (b : Target) (l : Lists) wh
 
 -- ---- the start
 
-goes : (b : Target) → (b .memory .stored ≡ 1) ⊎ (b .memory .stored ≡ 2) → Goes (b .memory) (entryOf b)
+pub goes : (b : Target) → (b .memory .stored ≡ 1) ⊎ (b .memory .stored ≡ 2) → Goes (b .memory) (entryOf b)
 goes b (inl e) = rw e (byOpen refl)
 goes b (inr e) = rw e (byProtected refl)
 
@@ -258,6 +258,6 @@ run-demand3-holds g h bytes p b s l n =
     let way : Reaches (frame i lv b l) (started b l) =
     start-reaches (frame i lv b l) fx v (record { high = s .high; low = s .low; revision = s .revision; family = s .family }) (b .memory)
     (record { flash = s .flash; locks = s .locks; latch = s .latch }) (level-sound b (s .level)) (goes b (s .level))
-    (record { silicon = refl; memory = refl; room = s .params; quiet = s .quiet }) (start-stands i fx lv b l) in
+    (record { silicon = refl; memory = refl; room = s .params; quiet = s .quiet }) (start-stands i fx (frame i lv b l) b l refl refl (λ c. c)) in
     claim i lv b l n (runAfter i n (started b l)) (fair i lv b l n (started b l) way) (bounded i lv b l n (started b l) way (λ e. absurd (false≢true (sym e))))
     (λ late. comes i lv b l n (started b l) way (omega arith))

@@ -46,15 +46,15 @@ effect-reopen : (g : Geometry) (l : ℕ) (ps : List ℕ) (m : Memory) → l ≡ 
 unfolding effectOf
 effect-reopen g l ps m e = rw e
 
-safe-reopen : {i : Image} (f : Frame i) (y : Bool) (r : Residue) (b : Target) → b .effect ≡ 2 → b .sysarg ≡ reopenWord → f .Safe (b .memory)
+safe-reopen : {i : Image} (f : Frame i) → RightIds i (f .silicon) → (y : Bool) (r : Residue) (b : Target) → b .effect ≡ 2 → b .sysarg ≡ reopenWord → f .Safe (b .memory)
     → f .Safe ((finish (i .geometry) y r 0x0D b) .memory)
 unfolding finish afterFailure
-safe-reopen {i} f true r b he ha safe = rw (ha, effect-reopen (i .geometry) (b .effect) [] (b .memory) he) (f .safeOpen _ refl)
-safe-reopen f false r b he ha safe = by (r .newLevel && true && eqb (macroSent (b .sysarg)) 0) refl
+safe-reopen {i} f right true r b he ha safe = rw (ha, effect-reopen (i .geometry) (b .effect) [] (b .memory) he) (f .safeOpen right _ refl)
+safe-reopen f right false r b he ha safe = by (r .newLevel && true && eqb (macroSent (b .sysarg)) 0) refl
   where
     by : (y : Bool) → r .newLevel && true && eqb (macroSent (b .sysarg)) 0 ≡ y → f .Safe (afterFailure 0x0D (b .sysarg) r (b .memory))
-    by true e = f .safeOpen _ (rw (e, ha))
-    by false e = f .safeSame (b .memory) _ (rw e) safe
+    by true e = f .safeOpen right _ (rw (e, ha))
+    by false e = f .safeSame right (b .memory) _ (rw e) safe
 
 zeroed-sized : {i : Image} {f : Frame i} (l : ℕ) (m : Memory) → Sized f m → Sized f (zeroed l m)
 zeroed-sized l m s = record {
@@ -99,15 +99,15 @@ module _ {i : Image} (f : Frame i) (fx : Facts (i .geometry)) (v : Valid i) (hb 
   open-reaches {b = b} right one p st =
       listing f fx 3 0x0A (key 0x0A ∷ []) (callA .command) (split (listed (i .geometry) 3 0x0A (key 0x0A ∷ [])) (program i) [] nothing st) (omega arith)
       (p .fresh .room) (p .effect ∙ one) (rw (p .fresh .memory) safe)
-      (λ y r b′ _ hm _. f .safeOpen _ (steady-A (i .geometry) y r b′ ∙ ap (λ (z : Memory). z .stored) (hm ∙ p .fresh .memory) ∙ one)) (callA .ready _ _) (callA .good _ _) λ b₁ r₁ n₁ e₁ st₁.
-      program-reaches f fx v right (blank b₁ r₁) st₁
+      (λ y r b′ _ hm _. f .safeOpen right _ (steady-A (i .geometry) y r b′ ∙ ap (λ (z : Memory). z .stored) (hm ∙ p .fresh .memory) ∙ one)) (callA .ready _ _) (callA .good _ _) λ b₁ r₁ n₁ e₁ st₁.
+      program-reaches f fx v (blank b₁ r₁) st₁
     where
       erased : (b₁ : Target) → ListReturned (i .geometry) 0x0A (key 0x0A ∷ []) b b₁ → b₁ .memory ≡ zeroed 1 m
       erased b₁ r₁ = r₁ .memory ∙ effect-A _ _ _ _ _ ∙ rw (p .fresh .memory, one)
 
       blank : (b₁ : Target) → ListReturned (i .geometry) 0x0A (key 0x0A ∷ []) b b₁ → {k : ℕ} → Blank f k (core b₁)
       blank b₁ r₁ = record {
-        opened = record { silicon = r₁ .silicon ∙ p .fresh .silicon; effect = r₁ .effect ∙ p .effect ∙ one; room = rw (r₁ .room) (p .fresh .room); quiet = r₁ .ended };
+        opened = record { right = right; silicon = r₁ .silicon ∙ p .fresh .silicon; effect = r₁ .effect ∙ p .effect ∙ one; room = rw (r₁ .room) (p .fresh .room); quiet = r₁ .ended };
         sized = rw (erased b₁ r₁) (zeroed-sized 1 m sz);
         level = ap (λ (z : Memory). z .stored) (erased b₁ r₁);
         erased = rw (erased b₁ r₁) (total-zero (length (m .flash)));
@@ -119,14 +119,14 @@ module _ {i : Image} (f : Frame i) (fx : Facts (i .geometry)) (v : Valid i) (hb 
   unfolding afterwards silicon read withMoves judge
   protected-reaches {b = b} right two p st =
       calling f fx 3 0x0D reopenWord (callD .command) (split (call (i .geometry) 3 0x0D reopenWord) (acquire (i .geometry) ++ (silicon (i .geometry) Reopened ++ program i)) [] nothing st)
-      (inr (p .effect ∙ two)) (rw (p .fresh .memory) safe) (λ y r. safe-reopen f y r _ (p .effect ∙ two) refl (rw (p .fresh .memory) safe)) (callD .ready _ _) (callD .good _ _) λ b₁ ret n₁ e₁ st₁.
-      (acquire-leg f fx FromProtected (zeroed 1 m) (inl refl) (f .safeOpen _ refl)) .along _ _ _ _ _ _ _ (fresh b₁ ret)
+      (inr (p .effect ∙ two)) (rw (p .fresh .memory) safe) (λ y r. safe-reopen f right y r _ (p .effect ∙ two) refl (rw (p .fresh .memory) safe)) (callD .ready _ _) (callD .good _ _) λ b₁ ret n₁ e₁ st₁.
+      (acquire-leg f fx FromProtected (zeroed 1 m) (inl refl) (f .safeOpen right _ refl)) .along _ _ _ _ _ _ _ (fresh b₁ ret)
       (split (acquire (i .geometry)) (silicon (i .geometry) Reopened ++ program i) [] nothing st₁) λ k₂ b₂ a₂ n₂ x₂ e₂ st₂.
-      silicon-reaches f fx (zeroed 1 m) (inl refl) (f .safeOpen _ refl) hb (omega arith) Reopened a₂
+      silicon-reaches f fx (zeroed 1 m) (inl refl) (f .safeOpen right _ refl) hb (omega arith) Reopened a₂
       (split (call (i .geometry) 2 0 (key 0)) (read 2 (sysargOf (i .geometry)) Keep ++ read 2 (sysreqOf (i .geometry)) Reopened) (program i ++ []) (withMoves (program i) nothing)
       (split (silicon (i .geometry) Reopened) (program i) [] nothing st₂)) λ b₃ same n₃ e₃ st₃.
       rw (ids-read i (f .silicon) (zeroed 1 m) 1 hb, right .silicon, level-read (f .silicon) 1 hb (omega arith)) (
-      program-reaches f fx v right (subst (Blank f _) (sym same) (blank b₂ k₂ a₂)) st₃)
+      program-reaches f fx v (subst (Blank f _) (sym same) (blank b₂ k₂ a₂)) st₃)
     where
       erased : (b₁ : Target) → Returned (i .geometry) 0x0D reopenWord b b₁ → b₁ .memory ≡ zeroed 1 m
       erased b₁ ret = ret .memory ∙ effect-reopen _ _ _ _ (p .effect ∙ two) ∙ rw (p .fresh .memory)
@@ -136,7 +136,7 @@ module _ {i : Image} (f : Frame i) (fx : Facts (i .geometry)) (v : Valid i) (hb 
 
       blank : (b₂ : Target) (k₂ : ℕ) → Acquired f (zeroed 1 m) k₂ (core b₂) → {k : ℕ} → Blank f k (core b₂)
       blank b₂ k₂ a = record {
-        opened = record { silicon = a .fresh .silicon; effect = a .effect; room = a .fresh .room; quiet = a .fresh .quiet };
+        opened = record { right = right; silicon = a .fresh .silicon; effect = a .effect; room = a .fresh .room; quiet = a .fresh .quiet };
         sized = rw (a .fresh .memory) (zeroed-sized 1 m sz);
         level = ap (λ (z : Memory). z .stored) (a .fresh .memory);
         erased = rw (a .fresh .memory) (total-zero (length (m .flash)));

@@ -28,7 +28,7 @@ use Rattle.flow.proofs.Phases.{Valid, Opened, Sized, Wrote, Locked, lev
 use Rattle.flow.proofs.Places.{place-sysarg}
 use Rattle.flow.proofs.Polling.{idleAt}
 use Rattle.flow.proofs.Programming.{rows-leg}
-use Rattle.flow.proofs.Reaches.{Allowance, withTransfer, withMoves, Env, sync, RightIds, HoldsImage, Frame, Stood, Stands, split, Reaches, here}
+use Rattle.flow.proofs.Reaches.{Allowance, withTransfer, withMoves, Env, sync, HoldsImage, Frame, Stood, Stands, split, Reaches, here}
 use Rattle.flow.proofs.Table.{Facts}
 use Rattle.flow.proofs.Verifying.{flash-leg, locks-leg, level-leg}
 use Rattle.image.specs.Image.{Image}
@@ -114,7 +114,7 @@ module _ {i : Image} (f : Frame i) (fx : Facts (i .geometry)) (v : Valid i) wher
   unfolding privileged read withMoves judge
   first-leg y = record {
     along = λ n x k later κ e b p st next.
-        sum-reaches 4 Keep (p .opened) (f .safeOpen _ (p .level)) (split (call (i .geometry) 4 0x0B sumWord) (read 4 (sysargOf (i .geometry)) Keep) later κ st) λ b′ same n′ e′ st′.
+        sum-reaches 4 Keep (p .opened) (f .safeOpen (p .opened .right) _ (p .level)) (split (call (i .geometry) 4 0x0B sumWord) (read 4 (sysargOf (i .geometry)) Keep) later κ st) λ b′ same n′ e′ st′.
         next (sysargAfter 0x0B (f .silicon) (b .memory)) b′ (subst (Wrote f 0 _) (sym same) (wrote k b p)) (suc n′) _ e′ st′;
   }
     where
@@ -155,28 +155,28 @@ module _ {i : Image} (f : Frame i) (fx : Facts (i .geometry)) (v : Valid i) wher
   }
 
   -- step 9
-  last-reaches : {y : Entry} {n x k : ℕ} {e : Env} {b : Target} → RightIds i (f .silicon) → Locked f (macrosOf (i .geometry)) k (core b)
+  last-reaches : {y : Entry} {n x k : ℕ} {e : Env} {b : Target} → Locked f (macrosOf (i .geometry)) k (core b)
       → Stands f y n (privileged (i .geometry) 9 LastSum) [] nothing e → Reaches f (sync y n 0 0 k b (idleAt x) e)
   unfolding privileged read withMoves judge nothing
-  last-reaches {k = k} {b = b} right p st =
-      sum-reaches 9 LastSum {κ = nothing} (p .opened) (level-safe f (macrosOf (i .geometry)) (b .memory) (p .level))
+  last-reaches {k = k} {b = b} p st =
+      sum-reaches 9 LastSum {κ = nothing} (p .opened) (level-safe f (p .opened .right) (macrosOf (i .geometry)) (b .memory) (p .level))
       (split (call (i .geometry) 9 0x0B sumWord) (read 9 (sysargOf (i .geometry)) LastSum) [] nothing st) λ b′ same n′ e′ st′.
       rw (sums-fit i (f .silicon) (b .memory) k (p .kept) (p .flash) (v .sum)) (
-      here (f .finished b′ (e′ .lists) (idleAt (sysargOf (i .geometry))) (e′ .delays) (e′ .traffic) right (holds-image b′ same) (omega (arith, st′ .accounted)) (λ still. (st′ .calm still) .none)))
+      here (f .finished b′ (e′ .lists) (idleAt (sysargOf (i .geometry))) (e′ .delays) (e′ .traffic) (p .opened .right) (holds-image b′ same) (omega (arith, st′ .accounted)) (λ still. (st′ .calm still) .none)))
     where
       holds-image : (b′ : Target) → core b′ ≡ core b → HoldsImage i (b′ .memory)
       holds-image b′ same =
           let m : b′ .memory ≡ b .memory = ap (λ (c : Core). c .memory) same in
           rw m (record { flash = p .flash; locks = locked-all v fx p; level = last-level fx p })
 
-  pub program-reaches : {y : Entry} {n x k : ℕ} {e : Env} {b : Target} → RightIds i (f .silicon) → Blank f k (core b) → Stands f y n (program i) [] nothing e
+  pub program-reaches : {y : Entry} {n x k : ℕ} {e : Env} {b : Target} → Blank f k (core b) → Stands f y n (program i) [] nothing e
       → Reaches f (sync y n 0 0 k b (idleAt x) e)
   unfolding program
-  program-reaches {y} right blank st =
+  program-reaches {y} blank st =
       (first-leg y) .along _ _ _ _ _ _ _ blank (split (privileged (i .geometry) 4 Keep) after4 [] nothing st) λ k₁ b₁ w₁ n₁ x₁ e₁ st₁.
       (rows-leg f fx v y) .along _ _ _ _ _ _ _ w₁ (split (inTurn (programRow i) 0 (rowsOf (i .geometry))) after5 [] nothing st₁) λ k₂ b₂ w₂ n₂ x₂ e₂ st₂.
       (flash-leg f y fx v) .along _ _ _ _ _ _ _ w₂ (split (inTurn (verifyRow (i .geometry)) 0 (rowsOf (i .geometry))) after6 [] nothing st₂) λ k₃ b₃ w₃ n₃ x₃ e₃ st₃.
       (macros-leg f fx v y) .along _ _ _ _ _ _ _ (unlocked w₃) (split (inTurn (lockMacro i) 0 (macrosOf (i .geometry))) after7 [] nothing st₃) λ k₄ b₄ w₄ n₄ x₄ e₄ st₄.
       (locks-leg f y fx v) .along _ _ _ _ _ _ _ w₄ (split (inTurn (verifyMacro (i .geometry)) 0 (macrosOf (i .geometry))) after8 [] nothing st₄) λ k₅ b₅ w₅ n₅ x₅ e₅ st₅.
       (level-leg f y fx v) .along _ _ _ _ _ _ _ w₅ (split (read 8 (levelAt (i .geometry)) StoredLevel) (privileged (i .geometry) 9 LastSum) [] nothing st₅) λ k₆ b₆ w₆ n₆ x₆ e₆ st₆.
-      last-reaches right w₆ st₆
+      last-reaches w₆ st₆

@@ -110,9 +110,9 @@ frame i lv b l = record {
   planned = plan (i .geometry) (entryOf b);
   most = mostTraffic (i .geometry) (entryOf b);
   silicon = b .silicon;
-  safeSame = λ m m′ e s h. s (sym e ∙ h);
-  safeOpen = λ m e h. omega arith;
-  safeImage = λ m e h. level-sound lv (sym e ∙ h);
+  safeSame = λ right m m′ e s h. s (sym e ∙ h);
+  safeOpen = λ right m e h. omega arith;
+  safeImage = λ right m e h. level-sound lv (sym e ∙ h);
   caught = λ n s b l t some bad safe. record { number = n; step = s; is = refl; why = mishap n some bad; sound = safe };
   finished = λ b l w d t right holds-image count calm. record { is = refl; right = right; clean = clear noWaits 0 0 w d; holds-image = holds-image; count = count; calm = calm; sound = λ h. level-sound lv (sym (holds-image .level) ∙ h) };
   wrongId = λ s w p a b l x d t safe h. record { number = 16; step = s; is = refl; why = otherId (clear w p a x d) h; sound = safe };
@@ -124,18 +124,20 @@ frame i lv b l = record {
 abbrev pub firstEnv : Lists → Env
 firstEnv l = record { lists = l; delays = noDelays; traffic = noTraffic }
 
-pub start-stands : (i : Image) (fx : Facts (i .geometry)) (lv : Level (i .header .level)) (b : Target) (l : Lists)
-    → Stands (frame i lv b l) FromOpen 0 (opening i) (afterwards i FromOpen) (withMoves (afterwards i (entryOf b)) nothing) (firstEnv l)
-unfolding frame sequence mostTraffic nothing
-start-stands i fx lv b l =
+-- for every frame that is held to document 01's count
+pub start-stands : (i : Image) (fx : Facts (i .geometry)) (f : Frame i) (b : Target) (l : Lists)
+    → f .planned ≡ plan (i .geometry) (entryOf b) → f .most ≡ mostTraffic (i .geometry) (entryOf b) → (f .Still → Calm l)
+    → Stands f FromOpen 0 (opening i) (afterwards i FromOpen) (withMoves (afterwards i (entryOf b)) nothing) (firstEnv l)
+unfolding sequence mostTraffic nothing
+start-stands i fx f b l hp hm calm =
     let e : withMoves (sequence i (entryOf b)) nothing ≡ withMoves (opening i) (withMoves (afterwards i (entryOf b)) nothing) = with-moves-append (opening i) (afterwards i (entryOf b)) nothing in
     let c = costs (sequence i (entryOf b)) nothing in
     let t = sequence-totals i fx (entryOf b) in
     rw (← e) (record {
       at = refl;
-      accounted = omega (arith, c .due, t .transfers);
-      room = omega (arith, c .room, t .transfers, t .polls, t .lineResets);
-      xres = omega (arith, c .xres, t .xresets);
-      lines = omega (arith, c .lines, t .lineResets);
-      calm = λ c. record { line = c .line; calls = c .calls; none = refl };
+      accounted = rw hp (omega (arith, c .due, t .transfers));
+      room = rw hm (omega (arith, c .room, t .transfers, t .polls, t .lineResets));
+      xres = rw hm (omega (arith, c .xres, t .xresets));
+      lines = rw hm (omega (arith, c .lines, t .lineResets));
+      calm = λ still. let c = calm still in record { line = c .line; calls = c .calls; none = refl };
     })

@@ -23,6 +23,7 @@ pub mod Entering
 pub mod Frames
 pub mod Passing
 pub mod Demand
+pub mod Sparing
 pub mod Witness
 pub mod Undisturbed
 pub mod Examples

@@ -117,6 +117,7 @@ module _ {i : Image} (f : Frame i) (fx : Facts (i .geometry)) (v : Valid i) (m :
       let first : take (locksIn (i .geometry) m) (lay (b .memory .latch) 0 bytes) ≡ bytes = first-bytes (b .memory .latch) (w .sized .latch) in
       record {
         opened = record {
+          right = w .opened .right;
           silicon = r₂ .silicon ∙ r₁ .silicon ∙ w .opened .silicon;
           effect = r₂ .effect ∙ r₁ .effect ∙ w .opened .effect;
           room = rw (r₂ .params, r₁ .room) (w .opened .room);
@@ -145,12 +146,12 @@ module _ {i : Image} (f : Frame i) (fx : Facts (i .geometry)) (v : Valid i) (m :
     along = λ n x k later κ e b w st next.
         listing f fx 7 4 lockList (call4 .command) (split (listed (i .geometry) 7 4 lockList) (call (i .geometry) 7 0x0D (lockWord (i .header .level) m)) later κ st)
         (omega (arith, length-words (i .protection) (lockStart (i .geometry) m) (locksIn (i .geometry) m / 4), fx .lockFit m)) (w .opened .room) (w .opened .effect)
-        (level-safe f m (b .memory) (w .level)) (λ y r b′ he hm _. level-safe f m _ (steady-4 (i .geometry) y r b′ ∙ ap (λ (x : Memory). x .stored) hm ∙ w .level))
+        (level-safe f (w .opened .right) m (b .memory) (w .level)) (λ y r b′ he hm _. level-safe f (w .opened .right) m _ (steady-4 (i .geometry) y r b′ ∙ ap (λ (x : Memory). x .stored) hm ∙ w .level))
         (call4 .ready _ _) (call4 .good _ _) λ b₁ r₁ n₁ e₁ st₁.
         calling f fx 7 0x0D (lockWord (i .header .level) m) (callD .command) st₁ (inl (r₁ .effect ∙ w .opened .effect))
-        (level-safe f m (b₁ .memory) (stored-4 b b₁ (w .level) r₁))
-        (λ y r. safe-D f y r (i .header .level) m _ (level-small (v .level)) (r₁ .effect ∙ w .opened .effect) refl (f .safeImage)
-        (λ x hx. level-safe f m x (hx ∙ stored-4 b b₁ (w .level) r₁))) (callD .ready _ _) (callD .good _ _) λ b₂ r₂ n₂ e₂ st₂.
+        (level-safe f (w .opened .right) m (b₁ .memory) (stored-4 b b₁ (w .level) r₁))
+        (λ y r. safe-D f y r (i .header .level) m _ (level-small (v .level)) (r₁ .effect ∙ w .opened .effect) refl (f .safeImage (w .opened .right))
+        (λ x hx. level-safe f (w .opened .right) m x (hx ∙ stored-4 b b₁ (w .level) r₁))) (callD .ready _ _) (callD .good _ _) λ b₂ r₂ n₂ e₂ st₂.
         next k b₂ (locked k b b₁ b₂ w r₁ r₂) n₂ _ e₂ st₂;
   }
 

@@ -14,7 +14,7 @@ use Rattle.flow.specs.declared.Silicon.{Silicon}
 use Rattle.flow.proofs.Calling.{Command, Returned}
 use Rattle.flow.proofs.Legs.{Core, core}
 use Rattle.flow.proofs.Lists.{Small}
-use Rattle.flow.proofs.Reaches.{Frame}
+use Rattle.flow.proofs.Reaches.{RightIds, Frame}
 use Rattle.flow.proofs.Table.{Facts}
 use Rattle.image.specs.Image.{Image}
 use Rattle.image.specs.Words.{total}
@@ -36,8 +36,9 @@ pub record Valid (i : Image) : Type 0 where
   pub sum : total (i .flash) % 65536 ≡ i .header .sum
   pub level : Level (i .header .level)
 
--- OPEN in effect, nothing under way
+-- the right part, OPEN in effect, nothing under way
 pub record Opened {i : Image} (f : Frame i) (c : Core) : Type 0 where
+  pub right : RightIds i (f .silicon)
   pub silicon : c .silicon ≡ f .silicon
   pub effect : c .effect ≡ 1
   pub room : 2 + rowBytes (i .geometry) / 4 ≤ length (c .params)
@@ -75,9 +76,9 @@ pub record Locked {i : Image} (f : Frame i) (m k : ℕ) (c : Core) : Type 0 wher
   pub level : c .memory .stored ≡ levelAfter i m
   pub kept : Kept f k
 
-pub level-safe : {i : Image} (f : Frame i) (m : ℕ) (x : Memory) → x .stored ≡ levelAfter i m → f .Safe x
-level-safe f zero x e = f .safeOpen x e
-level-safe f (suc m) x e = f .safeImage x e
+pub level-safe : {i : Image} (f : Frame i) → RightIds i (f .silicon) → (m : ℕ) (x : Memory) → x .stored ≡ levelAfter i m → f .Safe x
+level-safe f right zero x e = f .safeOpen right x e
+level-safe f right (suc m) x e = f .safeImage right x e
 
 -- ---- all rows, all macros
 

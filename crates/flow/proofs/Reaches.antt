@@ -118,9 +118,10 @@ pub record Frame (i : Image) : Type 1 where
   pub planned : ℕ
   pub most : Traffic
   pub silicon : Silicon
-  pub safeSame : (m m′ : Memory) → m′ .stored ≡ m .stored → Safe m → Safe m′
-  pub safeOpen : (m : Memory) → m .stored ≡ 1 → Safe m
-  pub safeImage : (m : Memory) → m .stored ≡ i .header .level → Safe m
+  -- what the session may do to the right part
+  pub safeSame : RightIds i silicon → (m m′ : Memory) → m′ .stored ≡ m .stored → Safe m → Safe m′
+  pub safeOpen : RightIds i silicon → (m : Memory) → m .stored ≡ 1 → Safe m
+  pub safeImage : RightIds i silicon → (m : Memory) → m .stored ≡ i .header .level → Safe m
   -- a mishap is a reason to stop, with its number, if the lists were not calm
   pub caught : (n s : ℕ) (b : Target) (l : Lists) (t : Traffic) → 1 ≤ n → (Still → ⊥) → Safe (b .memory) → Stop (ended n s b l (linkError n) t)
   -- done

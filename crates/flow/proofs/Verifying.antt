@@ -99,7 +99,7 @@ module _ {i : Image} (f : Frame i) (y : Entry) where
         words-leg 6 (r * rowBytes (i .geometry)) (rowBytes (i .geometry) / 4) (FlashWord r) (λ j. wordAt (i .flash) (r * rowBytes (i .geometry) + 4 * j)) (Wrote f (rowsOf (i .geometry)))
         (λ j h. takes-flash i r (4 * j) (omega (arith, fx .quads)))
         (λ j h k c p. flashHolds (r * rowBytes (i .geometry) + 4 * j) (place-flash (i .geometry) fx _ (omega (arith, within, fx .quads))) (rw (wrote-all v p)))
-        (λ k c p. p .opened .effect) (λ k c p. f .safeOpen _ (p .level))
+        (λ k c p. p .opened .effect) (λ k c p. f .safeOpen (p .opened .right) _ (p .level))
       where
         within : r * rowBytes (i .geometry) + rowBytes (i .geometry) ≤ flashSize (i .geometry)
         within = let l : suc r * rowBytes (i .geometry) ≤ rowsOf (i .geometry) * rowBytes (i .geometry) = mul-le-mul-right (rowBytes (i .geometry)) hr in omega (arith, suc-mul r (rowBytes (i .geometry)))
@@ -114,7 +114,7 @@ module _ {i : Image} (f : Frame i) (y : Entry) where
         words-leg 8 (locksAt (i .geometry) m) (locksIn (i .geometry) m / 4) (LockWord m) (λ j. wordAt (i .protection) (lockStart (i .geometry) m + 4 * j)) (Locked f (macrosOf (i .geometry)))
         (λ j h. takes-locks i m (4 * j) (omega (arith, fx .lockQuads m)))
         (λ j h k c p. locksHold (lockStart (i .geometry) m + 4 * j) (place-locks (i .geometry) fx _ m (4 * j) refl hm (omega (arith, fx .lockQuads m))) (rw (locked-all v fx p)))
-        (λ k c p. p .opened .effect) (λ k c p. level-safe f (macrosOf (i .geometry)) (c .memory) (p .level))
+        (λ k c p. p .opened .effect) (λ k c p. level-safe f (p .opened .right) (macrosOf (i .geometry)) (c .memory) (p .level))
 
     pub locks-leg : Leg f y (inTurn (verifyMacro (i .geometry)) 0 (macrosOf (i .geometry))) (Locked f (macrosOf (i .geometry))) (Locked f (macrosOf (i .geometry)))
     locks-leg = leg-pieces f y (verifyMacro (i .geometry)) (λ m. Locked f (macrosOf (i .geometry))) _ macro-leg (macrosOf (i .geometry)) 0 (omega arith)
@@ -124,6 +124,6 @@ module _ {i : Image} (f : Frame i) (y : Entry) where
     level-leg = record {
       along = λ n x k later κ e b p st next.
           read-still f 8 (levelAt (i .geometry)) StoredLevel st AtLevel (place-level (i .geometry) fx) (admits-open (b .effect) AtLevel (p .opened .effect))
-          (level-safe f (macrosOf (i .geometry)) (b .memory) (p .level)) (levelWord (i .header .level)) (λ o z. rw (last-level fx p)) λ o o′ e′ h st′.
+          (level-safe f (p .opened .right) (macrosOf (i .geometry)) (b .memory) (p .level)) (levelWord (i .header .level)) (λ o z. rw (last-level fx p)) λ o o′ e′ h st′.
           rw (level-read (v .level) o) (next k _ p _ _ e′ st′);
     }

@@ -1,0 +1,58 @@
+-- A target of another part is left as it was. Assumes nothing.
+use mathlib.Core.Bool.{false}
+use mathlib.Core.Path.{_≡_, refl, ap}
+use Prim.Native.Nat.{ℕ, zero, suc}
+use Rattle.flow.specs.Claim.{OtherPartSpared}
+use Rattle.flow.specs.Plan.{plan, mostTraffic}
+use Rattle.flow.specs.Run.{Run, advance, runAfter, started}
+use Rattle.flow.specs.Target.{Target}
+use Rattle.flow.specs.Terms.{entryOf}
+use Rattle.flow.proofs.Demand.{right-part, stays, goes}
+use Rattle.flow.proofs.Entering.{start-reaches}
+use Rattle.flow.proofs.Frames.{start-stands}
+use Rattle.flow.proofs.Passing.{table-facts, valid}
+use Rattle.flow.proofs.Reaches.{RightIds, Frame, going, Reaches, here, stop, step}
+use Rattle.image.specs.Image.{Image, imageOf}
+
+module _ (i : Image) (b : Target) (wrong : RightIds i (b .silicon) → ⊥) where
+  -- the session has reported, and nothing was altered
+  record Left (r : Run) : Type 0 where
+    pub ended : going (r .session) ≡ false
+    pub same : r .target .memory ≡ b .memory
+
+  -- every step leaves the memory as it was at the start, and no step is done
+  unfoldable sparing : Frame i
+  sparing = record {
+    Safe = λ m. m ≡ b .memory;
+    Still = ⊥;
+    Stop = Left;
+    Goal = λ r. ⊥;
+    planned = plan (i .geometry) (entryOf b);
+    most = mostTraffic (i .geometry) (entryOf b);
+    silicon = b .silicon;
+    safeSame = λ right m m′ e s. absurd (wrong right);
+    safeOpen = λ right m e. absurd (wrong right);
+    safeImage = λ right m e. absurd (wrong right);
+    caught = λ n s b l t some bad safe. record { ended = refl; same = safe };
+    finished = λ b l w d t right holds count calm. wrong right;
+    wrongId = λ s w p a b l x d t safe h. record { ended = refl; same = safe };
+    wrongPart = λ s w p a b l x d t safe h. record { ended = refl; same = safe };
+  }
+
+  spares : (n : ℕ) (r : Run) → Reaches sparing r → (runAfter i n r) .target .memory ≡ b .memory
+  unfolding runAfter sparing
+  spares n r (here done) = absurd done
+  spares n r (stop left) = rw (stays i n r (left .ended)) (left .same)
+  spares zero r (step goes safe most clean more) = safe
+  spares (suc n) r (step goes safe most clean more) = spares n (advance i r) more
+
+pub other-part-spared : OtherPartSpared
+unfolding sparing
+other-part-spared g h bytes p b s l n wrong =
+    let i = imageOf g h bytes in
+    let fx = table-facts g h bytes p in
+    let f = sparing i b (λ right. wrong (right-part i (b .silicon) right)) in
+    spares i b (λ right. wrong (right-part i (b .silicon) right)) n (started b l)
+    (start-reaches f fx (valid g h bytes p) (record { high = s .high; low = s .low; revision = s .revision; family = s .family }) (b .memory)
+    (record { flash = s .flash; locks = s .locks; latch = s .latch }) refl (goes b (s .level))
+    (record { silicon = refl; memory = refl; room = s .params; quiet = s .quiet }) (start-stands i fx f b l refl refl (λ still. absurd still)))
