@@ -167,7 +167,7 @@ module _ (i : Image) (y : Entry) (n : ℕ) (t : Cursor) (at : Placed i t y n) wh
   waits true s w p a k h = placed at
   waits false s w p a k h = finished
 
-  module _ (m : Move) (fits : Proper (suc n ≡ length (opening i)) m) (w p a k : ℕ) where
+  module _ (m : Move) (fits : Proper (suc n ≡ length (opening i)) 1 m) (w p a k : ℕ) where
     hears : (b : Bool) (v : Verdict) (h : ℕ) → StandsFor i (heardBy b i m v y n w p a k h) (heardOn b i m v t w p a k h)
     hears true (okay x) h = settles (judge i (m .purpose) p k x) (m .step) 0 h (judged _ i (m .purpose) (m .step) p k x (fits .reports))
     hears false (okay x) h = settles (judge i (m .purpose) p k x) (m .step) a h (judged _ i (m .purpose) (m .step) p k x (fits .reports))
@@ -190,7 +190,7 @@ answered i s m r (placed {t = t} {y = y} {n = n} {w = w} {p = p} {a = a} {k = k}
     let x = standingMove t in
     let e = standingMove-at i y t n at in
     subst (λ (z : Move). StandsFor i (act i z r y n w p a k h) (answerOn i x r t w p a k h)) (sym e)
-    (acts i y n t at x (subst (Proper (suc n ≡ length (opening i))) e (proper-at i y n)) w p a k
+    (acts i y n t at x (subst (Proper (suc n ≡ length (opening i)) 1) e (proper-at i y n)) w p a k
     (isReset (x .request)) (verdict (x .request) r) (isAttempt (x .request)) h)
 answered i s m r finished = finished
 

@@ -22,12 +22,12 @@ use Rattle.image.specs.Image.{Image}
 use Rattle.parts.specs.Sizes.{rowBytes, macrosOf, rowsOf, locksIn, sysreqOf, sysargOf, imoOf, PARAMS}
 use Rattle.parts.specs.declared.Geometry.{Geometry}
 
-data All (P : Move → Type 0) : List Move → Type 0 where
+pub data All (P : Move → Type 0) : List Move → Type 0 where
   none : All P []
   more : {m : Move} {ms : List Move} → P m → All P ms → All P (m ∷ ms)
 
 module _ {P : Move → Type 0} where
-  joined : {a b : List Move} → All P a → All P b → All P (a ++ b)
+  pub joined : {a b : List Move} → All P a → All P b → All P (a ++ b)
   joined none q = q
   joined (more h p) q = more h (joined p q)
 
@@ -63,8 +63,9 @@ meant-line : Meant LineReset
 unfolding decode
 meant-line = refl
 
-pub record Proper (E : Type 0) (m : Move) : Type 0 where
-  pub low : 1 ≤ m .step
+-- of a step from lo on
+pub record Proper (E : Type 0) (lo : ℕ) (m : Move) : Type 0 where
+  pub low : lo ≤ m .step
   pub high : m .step ≤ 9
   pub reports : Reports E (m .purpose) (m .step)
   pub meant : Meant (m .request)
@@ -83,89 +84,93 @@ relax h (LockWord m o) s x = tt
 relax h StoredLevel s r = tt
 relax h LastSum s r = r
 
-relaxed : {E F : Type 0} {m : Move} → (E → F) → Proper E m → Proper F m
+relaxed : {E F : Type 0} {lo : ℕ} {m : Move} → (E → F) → Proper E lo m → Proper F lo m
 relaxed {m = m} h p = record { low = p .low; high = p .high; reports = relax h (m .purpose) (m .step) (p .reports); meant = p .meant }
 
-module _ (E : Type 0) (s : ℕ) (low : 1 ≤ s) (high : s ≤ 9) where
-  proper : (q : Request) {u : Purpose} → Meant q → Reports E u s → Proper E (move s q u)
+module _ (E : Type 0) (lo s : ℕ) (low : lo ≤ s) (high : s ≤ 9) where
+  proper : (q : Request) {u : Purpose} → Meant q → Reports E u s → Proper E lo (move s q u)
   proper q e r = record { low = low; high = high; reports = r; meant = e }
 
-  tar-proper : (a : ℕ) → Proper E (move s (WriteTar a) Sent)
+  tar-proper : (a : ℕ) → Proper E lo (move s (WriteTar a) Sent)
   tar-proper a = proper (WriteTar a) {u = Sent} (decodes (plain aTar)) tt
 
-  read-proper : (u : Purpose) → Reports E u s → Proper E (move s ReadDrw u)
+  read-proper : (u : Purpose) → Reports E u s → Proper E lo (move s ReadDrw u)
   read-proper u r = proper ReadDrw (decodes (plain aRead)) r
 
-  all-write : (a w : ℕ) → All (Proper E) (write s a w)
+  all-write : (a w : ℕ) → All (Proper E lo) (write s a w)
   unfolding write
   all-write a w = more (tar-proper a) (more (proper (WriteDrw w) {u = Sent} (decodes (plain aDrw)) tt) none)
 
-  all-read : (a : ℕ) (u : Purpose) → Reports E u s → All (Proper E) (read s a u)
+  all-read : (a : ℕ) (u : Purpose) → Reports E u s → All (Proper E lo) (read s a u)
   unfolding read
   all-read a u r = more (tar-proper a) (more (read-proper Sent tt) (more (read-proper u r) none))
 
-  all-call : (g : Geometry) (c w : ℕ) → All (Proper E) (call g s c w)
+  all-call : (g : Geometry) (c w : ℕ) → All (Proper E lo) (call g s c w)
   unfolding call
   all-call g c w = joined (all-write _ _) (joined (all-write _ _) (joined (all-read _ Poll tt) (all-read _ Status tt)))
 
-  all-writes : (a : ℕ) (ws : List ℕ) → All (Proper E) (writes s a ws)
+  all-writes : (a : ℕ) (ws : List ℕ) → All (Proper E lo) (writes s a ws)
   unfolding writes
   all-writes a [] = none
   all-writes a (w ∷ ws) = joined (all-write a w) (all-writes (a + 4) ws)
 
-  all-listed : (g : Geometry) (c : ℕ) (ws : List ℕ) → All (Proper E) (listed g s c ws)
+  all-listed : (g : Geometry) (c : ℕ) (ws : List ℕ) → All (Proper E lo) (listed g s c ws)
   unfolding listed
   all-listed g c ws = joined (all-writes PARAMS ws) (all-call g c PARAMS)
 
-  all-privileged : (g : Geometry) (u : Purpose) → Reports E u s → All (Proper E) (privileged g s u)
+  all-privileged : (g : Geometry) (u : Purpose) → Reports E u s → All (Proper E lo) (privileged g s u)
   unfolding privileged
   all-privileged g u r = joined (all-call g 0x0B _) (all-read _ u r)
 
 module _ (E : Type 0) where
-  all-imo : (g : Geometry) (n : ℕ) → All (Proper E) (imoCall g n)
+  all-imo : (g : Geometry) (n : ℕ) → All (Proper E 1) (imoCall g n)
   unfolding imoCall
   all-imo g zero = none
-  all-imo g (suc n) = all-call E 1 (lit≤ tt) (lit≤ tt) g 0x15 _
+  all-imo g (suc n) = all-call E 1 1 (lit≤ tt) (lit≤ tt) g 0x15 _
 
-  all-acquire : (g : Geometry) → All (Proper E) (acquire g)
+  all-acquire : (g : Geometry) → All (Proper E 1) (acquire g)
   unfolding acquire
   all-acquire g =
       more (one Xres Sent meant-xres tt) (more (one LineReset Sent meant-line tt) (more (one ReadIdcode Idcode (decodes attempt) tt)
       (more (one _ Sent (decodes (plain aCtrl)) tt) (more (one _ Sent (decodes (plain aSelect)) tt) (more (one _ Sent (decodes (plain aCsw)) tt)
-      (joined (all-write E 1 (lit≤ tt) (lit≤ tt) _ _)
-      (joined (all-read E 1 (lit≤ tt) (lit≤ tt) _ TestBit tt)
-      (joined (all-read E 1 (lit≤ tt) (lit≤ tt) _ Poll tt) (all-imo g (imoOf g))))))))))
+      (joined (all-write E 1 1 (lit≤ tt) (lit≤ tt) _ _)
+      (joined (all-read E 1 1 (lit≤ tt) (lit≤ tt) _ TestBit tt)
+      (joined (all-read E 1 1 (lit≤ tt) (lit≤ tt) _ Poll tt) (all-imo g (imoOf g))))))))))
     where
-      one : (q : Request) (u : Purpose) → Meant q → Reports E u 1 → Proper E (move 1 q u)
-      one q u e r = proper E 1 (lit≤ tt) (lit≤ tt) q e r
+      one : (q : Request) (u : Purpose) → Meant q → Reports E u 1 → Proper E 1 (move 1 q u)
+      one q u e r = proper E 1 1 (lit≤ tt) (lit≤ tt) q e r
 
-  all-silicon : (g : Geometry) (u : Purpose) → Reports E u 2 → All (Proper E) (silicon g u)
+  all-silicon : (g : Geometry) (u : Purpose) → Reports E u 2 → All (Proper E 1) (silicon g u)
   unfolding silicon
   all-silicon g u r =
-      joined (all-call E 2 (lit≤ tt) (lit≤ tt) g 0 _)
-      (joined (all-read E 2 (lit≤ tt) (lit≤ tt) _ Keep tt) (all-read E 2 (lit≤ tt) (lit≤ tt) _ u r))
+      joined (all-call E 1 2 (lit≤ tt) (lit≤ tt) g 0 _)
+      (joined (all-read E 1 2 (lit≤ tt) (lit≤ tt) _ Keep tt) (all-read E 1 2 (lit≤ tt) (lit≤ tt) _ u r))
 
-  all-program : (i : Image) → All (Proper E) (program i)
+  all-program : (lo : ℕ) → lo ≤ 4 → (i : Image) → All (Proper E lo) (program i)
   unfolding program programRow verifyRow lockMacro verifyMacro
-  all-program i =
+  all-program lo h i =
       let g = i .geometry in
-      joined (all-privileged E 4 (lit≤ tt) (lit≤ tt) g Keep tt)
+      joined (all-privileged E lo 4 (omega arith) (lit≤ tt) g Keep tt)
       (joined
-      (all-pieces _ (λ r. joined (all-listed E 5 (lit≤ tt) (lit≤ tt) g 4 _) (all-listed E 5 (lit≤ tt) (lit≤ tt) g 6 _)) 0 (rowsOf g))
+      (all-pieces _ (λ r. joined (all-listed E lo 5 (omega arith) (lit≤ tt) g 4 _) (all-listed E lo 5 (omega arith) (lit≤ tt) g 6 _)) 0 (rowsOf g))
       (joined
-      (all-pieces _ (λ r. all-pieces _ (λ j. all-read E 6 (lit≤ tt) (lit≤ tt) _ (FlashWord r _) tt) 0 (rowBytes g / 4)) 0 (rowsOf g))
+      (all-pieces _ (λ r. all-pieces _ (λ j. all-read E lo 6 (omega arith) (lit≤ tt) _ (FlashWord r _) tt) 0 (rowBytes g / 4)) 0 (rowsOf g))
       (joined
-      (all-pieces _ (λ m. joined (all-listed E 7 (lit≤ tt) (lit≤ tt) g 4 _) (all-call E 7 (lit≤ tt) (lit≤ tt) g 0x0D _)) 0 (macrosOf g))
+      (all-pieces _ (λ m. joined (all-listed E lo 7 (omega arith) (lit≤ tt) g 4 _) (all-call E lo 7 (omega arith) (lit≤ tt) g 0x0D _)) 0 (macrosOf g))
       (joined
-      (all-pieces _ (λ m. all-pieces _ (λ j. all-read E 8 (lit≤ tt) (lit≤ tt) _ (LockWord m _) tt) 0 (locksIn g m / 4)) 0 (macrosOf g))
-      (joined (all-read E 8 (lit≤ tt) (lit≤ tt) _ StoredLevel tt) (all-privileged E 9 (lit≤ tt) (lit≤ tt) g LastSum refl))))))
+      (all-pieces _ (λ m. all-pieces _ (λ j. all-read E lo 8 (omega arith) (lit≤ tt) _ (LockWord m _) tt) 0 (locksIn g m / 4)) 0 (macrosOf g))
+      (joined (all-read E lo 8 (omega arith) (lit≤ tt) _ StoredLevel tt) (all-privileged E lo 9 (omega arith) (lit≤ tt) g LastSum refl))))))
 
-all-afterwards : (i : Image) (y : Entry) → All (Proper ⊥) (afterwards i y)
+pub all-open : (lo : ℕ) → lo ≤ 3 → (i : Image) → All (Proper ⊥ lo) (afterwards i FromOpen)
 unfolding afterwards
-all-afterwards i FromOpen = joined (all-listed ⊥ 3 (lit≤ tt) (lit≤ tt) (i .geometry) 0x0A _) (all-program ⊥ i)
+all-open lo h i = joined (all-listed ⊥ lo 3 h (lit≤ tt) (i .geometry) 0x0A _) (all-program ⊥ lo (omega arith) i)
+
+all-afterwards : (i : Image) (y : Entry) → All (Proper ⊥ 1) (afterwards i y)
+unfolding afterwards
+all-afterwards i FromOpen = all-open 1 (lit≤ tt) i
 all-afterwards i FromProtected =
-    joined (all-call ⊥ 3 (lit≤ tt) (lit≤ tt) (i .geometry) 0x0D _)
-    (joined (all-acquire ⊥ (i .geometry)) (joined (all-silicon ⊥ (i .geometry) Reopened tt) (all-program ⊥ i)))
+    joined (all-call ⊥ 1 3 (lit≤ tt) (lit≤ tt) (i .geometry) 0x0D _)
+    (joined (all-acquire ⊥ (i .geometry)) (joined (all-silicon ⊥ (i .geometry) Reopened tt) (all-program ⊥ 1 (lit≤ tt) i)))
 
 -- ---- at every place, also past the end
 
@@ -181,27 +186,27 @@ opening-ends : (i : Image) → opening i ≡ before (i .geometry) ++ (decides �
 unfolding opening silicon read
 opening-ends i = simp append-assoc
 
-all-before : (g : Geometry) → All (Proper ⊥) (before g)
+all-before : (g : Geometry) → All (Proper ⊥ 1) (before g)
 all-before g =
     joined (all-acquire ⊥ g)
-    (joined (all-call ⊥ 2 (lit≤ tt) (lit≤ tt) g 0 _)
-    (joined (all-read ⊥ 2 (lit≤ tt) (lit≤ tt) _ Keep tt)
-    (more (tar-proper ⊥ 2 (lit≤ tt) (lit≤ tt) _) (more (read-proper ⊥ 2 (lit≤ tt) (lit≤ tt) Sent tt) none))))
+    (joined (all-call ⊥ 1 2 (lit≤ tt) (lit≤ tt) g 0 _)
+    (joined (all-read ⊥ 1 2 (lit≤ tt) (lit≤ tt) _ Keep tt)
+    (more (tar-proper ⊥ 1 2 (lit≤ tt) (lit≤ tt) _) (more (read-proper ⊥ 1 2 (lit≤ tt) (lit≤ tt) Sent tt) none))))
 
-anywhere : {ms : List Move} → All (Proper ⊥) ms → (n : ℕ) → Proper ⊥ (getD ms n endMove)
-anywhere none n = record { low = lit≤ tt; high = lit≤ tt; reports = tt; meant = meant-xres }
-anywhere (more p ps) zero = p
-anywhere (more p ps) (suc n) = anywhere ps n
+pub anywhere : {lo : ℕ} {ms : List Move} → lo ≤ 9 → All (Proper ⊥ lo) ms → (n : ℕ) → Proper ⊥ lo (getD ms n endMove)
+anywhere h none n = record { low = h; high = lit≤ tt; reports = tt; meant = meant-xres }
+anywhere h (more p ps) zero = p
+anywhere h (more p ps) (suc n) = anywhere h ps n
 
-around : {a b : List Move} {m : Move} → All (Proper ⊥) a → Proper (Unit {0}) m → All (Proper ⊥) b
-    → (n : ℕ) → Proper (n ≡ length a) (getD (a ++ (m ∷ b)) n endMove)
+around : {a b : List Move} {m : Move} → All (Proper ⊥ 1) a → Proper (Unit {0}) 1 m → All (Proper ⊥ 1) b
+    → (n : ℕ) → Proper (n ≡ length a) 1 (getD (a ++ (m ∷ b)) n endMove)
 around none p q zero = relaxed (λ x. refl) p
-around none p q (suc n) = relaxed (λ x. absurd x) (anywhere q n)
+around none p q (suc n) = relaxed (λ x. absurd x) (anywhere (lit≤ tt) q n)
 around (more h hs) p q zero = relaxed (λ x. absurd x) h
 around (more h hs) p q (suc n) = relaxed (λ x. ap suc x) (around hs p q n)
 
 -- every move is proper, and only the last of steps 1 and 2 decides the entry
-pub proper-at : (i : Image) (y : Entry) (n : ℕ) → Proper (suc n ≡ length (opening i)) (moveAt i y n)
+pub proper-at : (i : Image) (y : Entry) (n : ℕ) → Proper (suc n ≡ length (opening i)) 1 (moveAt i y n)
 unfolding sequence
 proper-at i y n =
     let g = i .geometry in
@@ -211,4 +216,4 @@ proper-at i y n =
     ap length (opening-ends i) ∙ length-append (before g) (decides ∷ []) ∙ omega arith in
     rw e
     (relaxed (λ (x : n ≡ length (before g)). omega (arith, x, l))
-    (around (all-before g) (read-proper (Unit {0}) 2 (lit≤ tt) (lit≤ tt) EntryLevel tt) (all-afterwards i y) n))
+    (around (all-before g) (read-proper (Unit {0}) 1 2 (lit≤ tt) (lit≤ tt) EntryLevel tt) (all-afterwards i y) n))

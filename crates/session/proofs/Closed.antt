@@ -91,7 +91,7 @@ unfolding verdict
 line-verdict q r = line-heard (isRead q) (ackOf ((replyIn r) .ack)) ((replyIn r) .word) ((replyIn r) .parity)
 
 module _ (i : Image) (y : Entry) (n : ℕ) (inside : n < moveCount (i .geometry) y) where
-  p-at : Proper (suc n ≡ length (opening i)) (moveAt i y n)
+  p-at : Proper (suc n ≡ length (opening i)) 1 (moveAt i y n)
   p-at = proper-at i y n
 
   -- where a judged word leads, for the purpose of the move
