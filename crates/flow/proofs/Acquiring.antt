@@ -52,12 +52,12 @@ pub record Acquired {i : Image} (f : Frame i) (m : Memory) (k : ℕ) (c : Core) 
   pub idcode : eqb (f .silicon .idcode) 0x0BB11477 ≡ true
 
 -- calls that alter nothing, failed or not
-still-15 : (g : Geometry) (y : Bool) (r : Residue) (b : Target) → (finish g y r 0x15 b) .memory ≡ b .memory
+pub still-15 : (g : Geometry) (y : Bool) (r : Residue) (b : Target) → (finish g y r 0x15 b) .memory ≡ b .memory
 unfolding finish effectOf afterFailure
 still-15 g true r b = refl
 still-15 g false r b = refl
 
-still-0 : (g : Geometry) (y : Bool) (r : Residue) (b : Target) → (finish g y r 0 b) .memory ≡ b .memory
+pub still-0 : (g : Geometry) (y : Bool) (r : Residue) (b : Target) → (finish g y r 0 b) .memory ≡ b .memory
 unfolding finish effectOf afterFailure
 still-0 g true r b = refl
 still-0 g false r b = refl

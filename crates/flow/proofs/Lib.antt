@@ -24,6 +24,9 @@ pub mod Frames
 pub mod Passing
 pub mod Demand
 pub mod Sparing
+pub mod Untouched
+pub mod EarlyMoves
+pub mod Early
 pub mod Witness
 pub mod Undisturbed
 pub mod Examples

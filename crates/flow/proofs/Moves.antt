@@ -105,7 +105,7 @@ module _ (E : Type 0) (lo s : ℕ) (low : lo ≤ s) (high : s ≤ 9) where
   unfolding read
   all-read a u r = more (tar-proper a) (more (read-proper Sent tt) (more (read-proper u r) none))
 
-  all-call : (g : Geometry) (c w : ℕ) → All (Proper E lo) (call g s c w)
+  pub all-call : (g : Geometry) (c w : ℕ) → All (Proper E lo) (call g s c w)
   unfolding call
   all-call g c w = joined (all-write _ _) (joined (all-write _ _) (joined (all-read _ Poll tt) (all-read _ Status tt)))
 
