@@ -29,7 +29,8 @@ pub struct Monitor {
     pub waits: u64,
     pub busy_polls: u64,
     pub failed_attempts: u64,
-    waits_running: u32,
+    /// The transfer that waits, and its WAITs so far.
+    waiting: Option<(Request, u32)>,
     attempts_running: u32,
     address: Option<u32>,
     reads: u32,
@@ -47,7 +48,7 @@ impl Monitor {
             waits: 0,
             busy_polls: 0,
             failed_attempts: 0,
-            waits_running: 0,
+            waiting: None,
             attempts_running: 0,
             address: None,
             reads: 0,
@@ -75,7 +76,8 @@ impl Monitor {
 
     pub fn observe(&mut self, request: Request, answer: Answer) {
         let Answer::Wire { ack, word, parity: bit } = answer else {
-            // A reset: the next acquisition has its own thirty attempts.
+            // A reset ends what waited; the next acquisition has its own thirty attempts.
+            self.waiting = None;
             if request == Request::Xres {
                 self.attempts_running = 0;
             }
@@ -90,8 +92,9 @@ impl Monitor {
         match ack {
             Ack::Wait => {
                 self.waits += 1;
-                self.waits_running += 1;
-                if self.waits_running == 17 {
+                let before = self.waiting.filter(|w| w.0 == request).map_or(0, |w| w.1);
+                self.waiting = Some((request, before + 1));
+                if before + 1 == 17 {
                     self.occurs(27);
                 }
             }
@@ -99,7 +102,7 @@ impl Monitor {
             Ack::Silence => self.occurs(29),
             Ack::Ok if !right => self.occurs(30),
             Ack::Ok => {
-                self.waits_running = 0;
+                self.waiting = None;
                 self.accepted(request, word);
             }
         }
@@ -230,6 +233,23 @@ mod tests {
         monitor_call(&mut m);
         (0..10_000).for_each(|_| read(&mut m, SYSREQ, 0x1000_0000));
         assert_eq!(m.mishap, Some(18));
+    }
+
+    /// "one transfer's seventeenth WAIT running": an OK, another request or a reset starts afresh.
+    #[test]
+    fn waits_of_one_transfer() {
+        let wait = Answer::Wire { ack: 2, word: 0, parity: false };
+        let drw = |word| Request::write(Register::Drw, word);
+        let between = [(drw(6), wait), (drw(5), ok(0)), (Request::LineReset, Answer::ResetDone)];
+        for (request, answer) in between {
+            let mut m = monitor();
+            (0..16).for_each(|_| m.observe(drw(5), wait));
+            m.observe(request, answer);
+            (0..16).for_each(|_| m.observe(drw(5), wait));
+            assert_eq!(m.mishap, None, "{request:?}");
+            m.observe(drw(5), wait);
+            assert_eq!(m.mishap, Some(27), "{request:?}");
+        }
     }
 
     #[test]

@@ -107,7 +107,7 @@ moved i m r y n w p a k h = by (isReset (m .request)) refl
 
 -- ---- XRES is counted
 
-never-fewer : (q : Request) (t : Traffic) → t .xresets ≤ (counting q t) .xresets
+pub never-fewer : (q : Request) (t : Traffic) → t .xresets ≤ (counting q t) .xresets
 never-fewer Xres t = omega arith
 never-fewer LineReset t = omega arith
 never-fewer ReadIdcode t = omega arith

@@ -1,8 +1,14 @@
+pub mod Examples
+pub mod Judgements
+pub mod Mishaps
+pub mod SessionExamples
+pub mod Starts
+pub mod Hearing
+pub mod BoardExamples
 pub mod Table
 pub mod Places
 pub mod Counting
 pub mod Reaches
-pub mod Hearing
 pub mod Moves
 pub mod Machine
 pub mod Transfer
@@ -29,8 +35,3 @@ pub mod EarlyMoves
 pub mod Early
 pub mod Witness
 pub mod Undisturbed
-pub mod Examples
-pub mod Mishaps
-pub mod BoardExamples
-pub mod Starts
-pub mod Judgements

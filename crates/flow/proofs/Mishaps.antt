@@ -7,15 +7,19 @@ use Rattle.flow.specs.Map.{search, regions, lockRegions}
 use Rattle.flow.specs.Mishaps.{okayWith, WordMishaps, LineMishaps}
 use Rattle.flow.specs.Monitor.{noticeRead, noticed, watch}
 use Rattle.flow.specs.Packets.{heard, verdict, okay}
-use Rattle.flow.specs.declared.Request.the-variants.{ReadDrw}
+use Rattle.flow.specs.declared.Request.the-variants.{ReadIdcode, ReadDrw}
 use Rattle.parts.specs.Sizes.{rowsOf, locksIn, flashSize}
 use Rattle.wire.specs.Wire.{parity}
 use lib.Count.{ones}
 
 -- an OK with the word's own parity is heard as the word
-right : (w : ℕ) → verdict ReadDrw (okayWith w) ≡ okay w
+pub right : (w : ℕ) → verdict ReadDrw (okayWith w) ≡ okay w
 unfolding verdict heard
 right w = rw (eq-eqb (parity w) (parity w) refl)
+
+pub right-idcode : (w : ℕ) → verdict ReadIdcode (okayWith w) ≡ okay w
+unfolding verdict heard
+right-idcode w = rw (eq-eqb (parity w) (parity w) refl)
 
 pub word-mishaps : WordMishaps
 unfolding watch noticed noticeRead search regions lockRegions rowsOf locksIn flashSize

@@ -57,7 +57,7 @@ none = record { line = []; calls = [] }
 
 -- one event, with a word, a parity bit and an acknowledgement where these are free, and a word for elsewhere
 abbrev pub onLine : TransferOutcome → Lists
-onLine f = record { line = record { outcome = f; filler = record { ack = 7; word = 0; parity = 1 }; other = 0xFEDCBA98 } ∷ []; calls = [] }
+onLine f = record { line = record { outcome = f; filler = record { ack = 7; word = 13; parity = 1 }; other = 0xFEDCBA98 } ∷ []; calls = [] }
 
 -- what a failed call leaves: these bytes, this SYSARG, and the level sent or not
 abbrev pub residue : (sysarg : ℕ) → (newLevel : Bool) → Residue
@@ -92,24 +92,24 @@ pub record TransferExamples : Type 0 where
   -- a write of PARAMS alters the word there, one of flash, locks or the level nothing; its answer's word and parity are free
   pub storesParams : after (WriteDrw 5) none (board 1 (PARAMS + 8) 7)
       ≡ becomes (withParams 1 (PARAMS + 8) 7 (0x61 ∷ 0x62 ∷ 5 ∷ [])) (answer 1 0 0)
-  pub storesFlash : after (WriteDrw 5) (onLine Clean) (board 1 0 7) ≡ becomes (board 1 0 7) (answer 1 0 1)
+  pub storesFlash : after (WriteDrw 5) (onLine Clean) (board 1 0 7) ≡ becomes (board 1 0 7) (answer 1 13 1)
   pub storesLocks : after (WriteDrw 5) none (board 1 (locksAt partOne 0) 7) ≡ becomes (board 1 (locksAt partOne 0) 7) (answer 1 0 0)
   pub storesLevel : after (WriteDrw 5) none (board 1 (levelAt partOne) 7) ≡ becomes (board 1 (levelAt partOne) 7) (answer 1 0 0)
   -- 'OK; WAIT or FAULT, not carried out; silence, carried out or not; wrong parity on a read, carried out'
-  pub waited : after ReadDrw (onLine Waits) (board 1 0 7) ≡ becomes (board 1 0 7) (answer 2 0 1)
-  pub faulted : after ReadDrw (onLine Faults) (board 1 0 7) ≡ becomes (board 1 0 7) (answer 4 0 1)
-  pub silentDone : after ReadDrw (onLine (Silent true)) (board 1 0 7) ≡ becomes (board 1 0 0x04030201) (answer 7 0 1)
-  pub silentNot : after ReadDrw (onLine (Silent false)) (board 1 0 7) ≡ becomes (board 1 0 7) (answer 7 0 1)
-  pub wrongParityRead : after ReadDrw (onLine WrongParity) (board 1 0 7) ≡ becomes (board 1 0 0x04030201) (answer 1 0 (1 - parity 0))
-  pub wrongParityWrite : after (WriteTar 4) (onLine WrongParity) (board 1 0 7) ≡ becomes (board 1 4 7) (answer 1 0 1)
+  pub waited : after ReadDrw (onLine Waits) (board 1 0 7) ≡ becomes (board 1 0 7) (answer 2 13 1)
+  pub faulted : after ReadDrw (onLine Faults) (board 1 0 7) ≡ becomes (board 1 0 7) (answer 4 13 1)
+  pub silentDone : after ReadDrw (onLine (Silent true)) (board 1 0 7) ≡ becomes (board 1 0 0x04030201) (answer 7 13 1)
+  pub silentNot : after ReadDrw (onLine (Silent false)) (board 1 0 7) ≡ becomes (board 1 0 7) (answer 7 13 1)
+  pub wrongParityRead : after ReadDrw (onLine WrongParity) (board 1 0 7) ≡ becomes (board 1 0 0x04030201) (answer 1 13 (1 - parity 13))
+  pub wrongParityWrite : after (WriteTar 4) (onLine WrongParity) (board 1 0 7) ≡ becomes (board 1 4 7) (answer 1 13 1)
   -- 'PROTECTED in effect answers FAULT for flash and PARAMS; KILL is silent.'
-  pub protectedFlash : after ReadDrw (onLine Clean) (board 2 0 7) ≡ becomes (board 2 0 7) (answer 4 0 1)
-  pub protectedParams : after (WriteDrw 5) (onLine Clean) (board 2 PARAMS 7) ≡ becomes (board 2 PARAMS 7) (answer 4 0 1)
-  pub protectedSilent : after ReadDrw (onLine (Silent true)) (board 2 0 7) ≡ becomes (board 2 0 7) (answer 7 0 1)
-  pub protectedWrongParity : after ReadDrw (onLine WrongParity) (board 2 0 7) ≡ becomes (board 2 0 7) (answer 4 0 1)
+  pub protectedFlash : after ReadDrw (onLine Clean) (board 2 0 7) ≡ becomes (board 2 0 7) (answer 4 13 1)
+  pub protectedParams : after (WriteDrw 5) (onLine Clean) (board 2 PARAMS 7) ≡ becomes (board 2 PARAMS 7) (answer 4 13 1)
+  pub protectedSilent : after ReadDrw (onLine (Silent true)) (board 2 0 7) ≡ becomes (board 2 0 7) (answer 7 13 1)
+  pub protectedWrongParity : after ReadDrw (onLine WrongParity) (board 2 0 7) ≡ becomes (board 2 0 7) (answer 4 13 1)
   pub protectedLocks : after ReadDrw none (board 2 (locksAt partOne 0) 7) ≡ becomes (board 2 (locksAt partOne 0) 0x08070605) (okayWith 7)
   pub protectedTar : after (WriteTar 0) none (board 2 4 7) ≡ becomes (board 2 0 7) (answer 1 0 0)
-  pub killed : after (WriteTar 4) (onLine Clean) (board 4 0 7) ≡ becomes (board 4 0 7) (answer 7 0 1)
+  pub killed : after (WriteTar 4) (onLine Clean) (board 4 0 7) ≡ becomes (board 4 0 7) (answer 7 13 1)
   pub killedIdcode : after ReadIdcode none (board 4 0 7) ≡ becomes (board 4 0 7) (answer 0 0 0)
 
 -- request bytes that the target knows, and such as it answers by silence
@@ -125,7 +125,7 @@ pub record PacketExamples : Type 0 where
   pub notRead : decode (Packets.Read 0x8B) ≡ Unknown
   -- a write whose parity bit is not its word's
   pub wordParity : decode (Packets.Write 0x8B 3 1) ≡ Unknown
-  pub met : meet partOne (Packets.Write 0x8B 3 1) (onLine Clean) (board 1 0 7) ≡ becomes (board 1 0 7) (answer 7 0 1)
+  pub met : meet partOne (Packets.Write 0x8B 3 1) (onLine Clean) (board 1 0 7) ≡ becomes (board 1 0 7) (answer 7 13 1)
 
 -- 'XRES puts the stored level in effect, clears SYSREQ and drops a running call as failed.'
 pub record ResetExamples : Type 0 where

@@ -18,3 +18,4 @@ pub mod Mishaps
 pub mod BoardExamples
 pub mod Starts
 pub mod Judgements
+pub mod SessionExamples

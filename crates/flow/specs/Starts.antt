@@ -1,6 +1,6 @@
 -- What demand 3 leaves free and what it allows at most: nobody asks more of an image, a board or a list than stands here. Assumes nothing.
 use mathlib.Core.Bool.{true}
-use mathlib.Core.List.{List, [], _∷_}
+use mathlib.Core.List.{List, []}
 use mathlib.Core.Logic.{_⊎_}
 use mathlib.Core.Path.{_≡_}
 use Prim.Native.Nat.{ℕ, _+_, _/_, _≤_, _<_}
@@ -8,9 +8,8 @@ use lib.ListN.{length, getD}
 use Rattle.flow.specs.Terms.{Passes, Startable, Calm}
 use Rattle.flow.specs.Examples.{partOne, twoMacros}
 use Rattle.flow.specs.Plan.{mostTraffic}
-use Rattle.flow.specs.Target.{Target, Memory, Residue, idle}
+use Rattle.flow.specs.Target.{Target, Memory, idle, Lists, nextEvent, nextOutcome}
 use Rattle.flow.specs.declared.Entry.the-variants.{FromOpen, FromProtected}
-use Rattle.flow.specs.declared.Reply.{Reply}
 use Rattle.flow.specs.declared.Silicon.{Silicon}
 use Rattle.flow.specs.declared.TransferOutcome.the-variants.{Clean}
 use Rattle.image.specs.Checks.{imageFault}
@@ -56,12 +55,9 @@ pub record FreeStarts : Type 0 where
   pub image : (g : Geometry) (h : Header) (bytes : List ℕ) → lookupOf (h .part) (h .macros) ≡ Found g → imageFault h bytes ≡ 0
       → ((j : ℕ) → getD bytes j 0 < 256)
       → Passes g h bytes
-  -- 'nothing waits or is busy': whatever is free in the entries
-  pub calm : (filler : Reply) (other : ℕ) (residue : Residue)
-      → Calm (record {
-        line = record { outcome = Clean; filler = filler; other = other } ∷ [];
-        calls = record { busyReads = 0; succeeds = true; residue = residue } ∷ [];
-      })
+  -- 'nothing waits or is busy': lists of any length, whatever else is free in their entries
+  pub calm : (l : Lists) → ((j : ℕ) → (getD (l .line) j (nextEvent [])) .outcome ≡ Clean)
+      → ((j : ℕ) → ((getD (l .calls) j (nextOutcome [])) .busyReads ≡ 0) × ((getD (l .calls) j (nextOutcome [])) .succeeds ≡ true)) → Calm l
 
 -- '17 × (plan + 29997 × loops + 29 × A) transfers, A XRES and 30 × A line resets', worked out; the last is the largest
 pub record MostExamples : Type 0 where

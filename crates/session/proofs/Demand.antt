@@ -1,12 +1,17 @@
 -- Demand 3 over calls, from demand 3 on the definitions. Assumes nothing.
 use mathlib.Core.Bool.{Bool, true, false, cond}
-use mathlib.Core.List.{List}
+use mathlib.Core.List.{List, _++_}
 use mathlib.Core.Path.{_≡_, refl, sym, ap, subst, _∙_}
 use Prim.Native.Nat.{ℕ, zero, suc, _≤_, _<_}
 use native.Mathlib.Omega.{arith}
+use lib.ListN.{length, take-append-drop}
 use borrow.Author.Tests.{lt-ltb}
 use Rattle.flow.proofs.Demand.{run-demand3-holds}
-use Rattle.flow.specs.Terms.{Passes, Startable, entryOf}
+use Rattle.flow.proofs.Early.{never-fewer, early-spared}
+use Rattle.flow.proofs.Sparing.{other-part-spared}
+use Rattle.flow.proofs.Undisturbed.{after-used, undisturbed-holds}
+use Rattle.flow.specs.Claim.{Undisturbed}
+use Rattle.flow.specs.Terms.{Passes, Startable, Calm, entryOf, Used, entries}
 use Rattle.flow.specs.Plan.{Traffic, counting, plan, loops, mostTraffic}
 use Rattle.flow.specs.Run.{Run, advance, runAfter, started, handedOutBy}
 use Rattle.flow.specs.Sequence.{sequence, opening, acquire}
@@ -23,10 +28,12 @@ use Rattle.image.specs.Image.{Image, imageOf}
 use Rattle.image.specs.declared.Header.{Header}
 use Rattle.flow.specs.Session.{moveCount}
 use Rattle.parts.specs.Parts.{lookupOf}
+use Rattle.parts.specs.Sizes.{flashSize, imageSize}
 use Rattle.parts.specs.declared.Geometry.{Geometry}
 use Rattle.parts.specs.declared.Lookup.the-variants.{Found}
-use Rattle.session.specs.Calls.{State, begun}
-use Rattle.session.specs.Claim.{Demand3, Demand3Holds}
+use Rattle.session.specs.Calls.{State, Steps, begun}
+use Rattle.session.specs.Claim.{lent, Demand3, Demand3Holds}
+use Rattle.session.specs.Spared.{Spared, SparedHolds}
 use Rattle.session.specs.Given.{startOf, startedOn, startRefused, wantsLeave, outcomeAt}
 use Rattle.session.specs.Possible.{headerFits, progressFits, possibleIn}
 use Rattle.session.specs.Sessions.{mostOf, atStart, firstFor}
@@ -34,10 +41,9 @@ use Rattle.session.specs.declared.Given.{Given}
 use Rattle.session.specs.declared.Outcome.the-variants.{Refused, Reported}
 use Rattle.session.specs.declared.Report.{Report}
 use Rattle.session.proofs.Counted.{countIn, count-step}
-use Rattle.session.proofs.Following.{Follows, follow}
+use Rattle.session.proofs.Following.{Follows, follow, follow-gives, follow-repeats}
 use Rattle.session.proofs.Places.{opening-in}
 use Rattle.session.proofs.Possibility.{both-true, whole}
-use Rattle.session.proofs.Stepping.{not-refused}
 
 -- ---- what an image that passes says
 
@@ -96,6 +102,10 @@ grows (WriteTar w) t = omega arith
 grows (WriteDrw w) t = omega arith
 grows (WriteSetup r w) t = omega arith
 
+handed-xresets : (i : Image) (x : Flow.SessionState) (t : Traffic) → t .xresets ≤ (handedOutBy i x t) .xresets
+handed-xresets i (running y n w p a k h) t = never-fewer ((moveAt i y n) .request) t
+handed-xresets i (reported x s h) t = omega arith
+
 handed-more : (i : Image) (x : Flow.SessionState) (t : Traffic) → t .transfers ≤ (handedOutBy i x t) .transfers
 handed-more i (running y n w p a k h) t = grows ((moveAt i y n) .request) t
 handed-more i (reported x s h) t = omega arith
@@ -119,6 +129,10 @@ reported-session i (reported x t h) r e =
     let same : record { number = x; step = t; transfers = h } ≡ r = cc in
     ap (λ (z : Report). reported (z .number) (z .step) (z .transfers)) same
 
+-- the image as it is lent is its bytes
+lent-whole : (g : Geometry) (h : Header) (bytes : List ℕ) → lent (imageOf g h bytes) ≡ bytes
+lent-whole g h bytes = take-append-drop (flashSize g) bytes
+
 module _ (g : Geometry) (h : Header) (bytes : List ℕ) (p : Passes g h bytes) (b : Target) (may : Startable g b) (l : Lists) (n : ℕ) where
   abbrev i : Image
   i = imageOf g h bytes
@@ -126,41 +140,78 @@ module _ (g : Geometry) (h : Header) (bytes : List ℕ) (p : Passes g h bytes) (
   abbrev run : Run
   run = runAfter i n (started b l)
 
+  abbrev size : length bytes ≡ imageSize g
+  size = (all g h bytes (p .found) (p .checked)) .size
+
   low : (k : ℕ) → countIn ((runAfter i k (started b l)) .session) ≤ mostOf g
   low k =
       let r = runAfter i k (started b l) in
       let d = run-demand3-holds g h bytes p b may l k in
       omega (arith, count-run i k (started b l) refl, handed-more i (r .session) (r .traffic), d .transfers, most-from g (entryOf b))
 
-  claim : (s : State) → Follows g h bytes (p .found) ((all g h bytes (p .found) (p .checked)) .size) s run → Demand3 i b l n s
-  claim s f =
-      let d = run-demand3-holds g h bytes p b may l n in
-      let as-run : (r : Report) → s .stands ≡ Reported r → run .session ≡ reported (r .number) (r .step) (r .transfers)
-      = λ r e. reported-session i (run .session) r (sym (f .stands) ∙ e) in
-      record {
-        neverVirgin = λ e. d .neverVirgin (ap (λ (t : Target). t .memory .stored) (sym (f .target)) ∙ e);
-        transfers = rw (f .traffic) (d .transfers);
-        xresets = rw (f .traffic) (d .xresets);
-        lineResets = rw (f .traffic) (d .lineResets);
-        stands = λ k e. not-refused i (run .session) k (sym (f .stands) ∙ e);
-        comes = λ late.
-            let c = d .comes late in
-            record { report = record { number = c .number; step = c .step; transfers = c .sent }; is = f .stands ∙ ap (outcomeAt i) (c .is) };
-        counted = λ r e. rw (f .traffic) (d .counted (r .number) (r .step) (r .transfers) (as-run r e));
-        exactly = λ r e. rw (f .monitor) (d .exactly (r .number) (r .step) (r .transfers) (as-run r e));
-        number = λ r e. rw (f .monitor) (d .number (r .number) (r .step) (r .transfers) (as-run r e));
-        done = λ r e z.
-            let c = d .done (r .step) (r .transfers) (as-run r e ∙ ap (λ (k : ℕ). reported k (r .step) (r .transfers)) z) in
-            rw (f .target, f .monitor) (record { atEnd = c .atEnd; flash = c .flash; locks = c .locks; level = c .level; planned = c .planned });
-        provoked = λ c. rw (f .monitor) (d .provoked c);
-        calm = λ c right r e. d .calm c right (r .number) (r .step) (r .transfers) (as-run r e);
-      }
+  module _ (s : State) (f : Follows g h bytes (p .found) size s run) where
+    as-run : (r : Report) → s .stands ≡ Reported r → run .session ≡ reported (r .number) (r .step) (r .transfers)
+    as-run r e = reported-session i (run .session) r (sym (f .stands) ∙ e)
+
+    -- the entries used are those of the run
+    abbrev u : Used l (run .lists)
+    u = after-used i n (started b l)
+
+    abbrev spent : Used l (s .lists)
+    spent = record {
+      line = u .line;
+      calls = u .calls;
+      lineIs = u .lineIs ∙ ap (λ (x : Lists). u .line ++ x .line) (sym (f .lists));
+      callsIs = u .callsIs ∙ ap (λ (x : Lists). u .calls ++ x .calls) (sym (f .lists));
+    }
+
+    undisturbed : Calm (entries spent) → Undisturbed i b run
+    undisturbed calm = undisturbed-holds g h bytes p b may l n u calm
+
+    claim : Demand3 i b l n s
+    claim =
+        let d = run-demand3-holds g h bytes p b may l n in
+        record {
+          neverVirgin = λ e. d .neverVirgin (ap (λ (t : Target). t .memory .stored) (sym (f .target)) ∙ e);
+          transfers = rw (f .traffic) (d .transfers);
+          xresets = rw (f .traffic) (d .xresets);
+          lineResets = rw (f .traffic) (d .lineResets);
+          gives = λ q e. rw (lent-whole g h bytes) (follow-gives g h bytes (p .found) size s run q f e);
+          repeats = λ a r e. rw (lent-whole g h bytes) (follow-repeats g h bytes (p .found) size s run a r f e);
+          comes = λ late.
+              let c = d .comes late in
+              record { report = record { number = c .number; step = c .step; transfers = c .sent }; is = f .stands ∙ ap (outcomeAt i) (c .is) };
+          counted = λ r e. rw (f .traffic) (d .counted (r .number) (r .step) (r .transfers) (as-run r e));
+          exactly = λ r e. rw (f .monitor) (d .exactly (r .number) (r .step) (r .transfers) (as-run r e));
+          number = λ r e. rw (f .monitor) (d .number (r .number) (r .step) (r .transfers) (as-run r e));
+          done = λ r e z.
+              let c = d .done (r .step) (r .transfers) (as-run r e ∙ ap (λ (k : ℕ). reported k (r .step) (r .transfers)) z) in
+              rw (f .target, f .monitor) (record { atEnd = c .atEnd; flash = c .flash; locks = c .locks; level = c .level; planned = c .planned });
+          used = spent;
+          provoked = λ c. rw (f .monitor) ((undisturbed c) .clean);
+          calm = λ c right r e. (undisturbed c) .done right (r .number) (r .step) (r .transfers) (as-run r e);
+        }
+
+    spared : Spared i b s
+    spared = record {
+      otherPart = λ wrong. rw (f .target) (other-part-spared g h bytes p b may l n wrong);
+      early = λ r e low few.
+          let few′ : run .traffic .xresets ≤ 1 = omega (arith, rw (f .traffic) at few, handed-xresets i (run .session) (run .traffic)) in
+          rw (f .target) (early-spared i b (may .quiet) l n (r .number) (r .step) (r .transfers) (as-run r e) low few′);
+    }
+
+-- every list of calls follows the run
+module _ (g : Geometry) (h : Header) (bytes : List ℕ) (leave : Bool) (p : Passes g h bytes) (free : (number : ℕ) → ¬ ((startOf h bytes leave) .outcome ≡ Refused number)) where
+  followed : (b : Target) → Startable g b → (l : Lists) (n k : ℕ) (s : State) → Steps g bytes n k (begun (startOf h bytes leave) b l) s
+      → Follows g h bytes (p .found) ((all g h bytes (p .found) (p .checked)) .size) s (runAfter (imageOf g h bytes) n (started b l))
+  followed b may l n k s steps =
+      follow g h bytes (p .found) ((all g h bytes (p .found) (p .checked)) .size) n k (begun (startOf h bytes leave) b l) s (started b l)
+      (subst (λ (r : Given). Follows g h bytes (p .found) ((all g h bytes (p .found) (p .checked)) .size) (begun r b l) (started b l))
+      (sym (start-gives h bytes (p .checked) leave free)) (first-follows g h bytes p b l))
+      (low g h bytes p b may l n) steps
 
 pub demand3 : Demand3Holds
-demand3 g h bytes leave p free b may l n s steps =
-    let i = imageOf g h bytes in
-    claim g h bytes p b may l n s
-    (follow g h bytes (p .found) ((all g h bytes (p .found) (p .checked)) .size) n (begun (startOf h bytes leave) b l) s (started b l)
-    (subst (λ (r : Given). Follows g h bytes (p .found) ((all g h bytes (p .found) (p .checked)) .size) (begun r b l) (started b l))
-    (sym (start-gives h bytes (p .checked) leave free)) (first-follows g h bytes p b l))
-    (low g h bytes p b may l n) steps)
+demand3 g h bytes leave p free b may l n k s steps = claim g h bytes p b may l n s (followed g h bytes leave p free b may l n k s steps)
+
+pub spared-holds : SparedHolds
+spared-holds g h bytes leave p free b may l n k s steps = spared g h bytes p b may l n s (followed g h bytes leave p free b may l n k s steps)

@@ -22,7 +22,7 @@ use Rattle.parts.specs.Parts.{lookupOf}
 use Rattle.parts.specs.Sizes.{imageSize}
 use Rattle.parts.specs.declared.Geometry.{Geometry}
 use Rattle.parts.specs.declared.Lookup.the-variants.{Found}
-use Rattle.session.specs.Calls.{State, Steps, none, answer, refusal, later, handing, reaction, answered, called}
+use Rattle.session.specs.Calls.{Gives, asks, reports, State, Steps, none, answer, refusal, later, handing, reaction, answered, called}
 use Rattle.session.specs.Given.{answers, outcomeAt, giving, stepWith}
 use Rattle.session.specs.Possible.{possibleIn}
 use Rattle.session.specs.Sessions.{standOf, mostOf, resumed}
@@ -43,6 +43,11 @@ same-packet p q o e f = cc
 
 no-packet : (p : Packet) (r : Report) (o : Outcome) → o ≡ Ask p → o ≡ Reported r → ⊥
 no-packet p r o e f = let z : _≡_ {A = ℕ} 0 1 = cc in omega arith
+
+-- what stands is a request or the report
+gives-at : (i : Image) (x : Flow.SessionState) → Gives (outcomeAt i x)
+gives-at i (running y n w p a k h) = asks _
+gives-at i (reported x t h) = reports _
 
 not-finished : (s : Session) (y : Entry) (n w p a k h : ℕ) → standOf s ≡ running y n w p a k h
     → (s .finished ≡ false) × (s .entry ≡ y) × (s .progress .at ≡ n)
@@ -155,6 +160,18 @@ module _ (g : Geometry) (h : Header) (bytes : List ℕ) (found : lookupOf (h .pa
           (ap (λ (v : Met). stepWith (s .session) bytes (v .answer)) met ∙ gave s r f y n w q a k t is))
       by (reported x t c) is = absurd (no-packet p _ (s .stands) e (f .stands ∙ ap (outcomeAt i) is))
 
+  -- the same step gives a request or the report
+  pub follow-gives : (s : State) (r : Run) (p : Packet) → Follows s r → s .stands ≡ Ask p → Gives ((stepWith (s .session) bytes ((reaction g p s) .answer)) .outcome)
+  follow-gives s r p f e = by (r .session) refl
+    where
+      by : (z : Flow.SessionState) → r .session ≡ z → Gives ((stepWith (s .session) bytes ((reaction g p s) .answer)) .outcome)
+      by (running y n w q a k t) is =
+          let same : p ≡ packetOf ((moveAt i y n) .request) = same-packet p _ (s .stands) e (f .stands ∙ ap (outcomeAt i) is) in
+          let met : reaction g p s ≡ meet g (packetOf ((moveAt i y n) .request)) (r .lists) (r .target) = rw (same, f .lists, f .target) in
+          let new = stepOf i (running y n w q a k t) ((meet g (packetOf ((moveAt i y n) .request)) (r .lists) (r .target)) .answer) in
+          rw (met, gave s r f y n w q a k t is) (gives-at i (standOf (resumed g (s .session) new)))
+      by (reported x t c) is = absurd (no-packet p _ (s .stands) e (f .stands ∙ ap (outcomeAt i) is))
+
   -- a refused step changes nothing
   follow-refusal : (s : State) (r : Run) (lent : List ℕ) (a : Answer) (number : ℕ) → Follows s r → (stepWith (s .session) lent a) .outcome ≡ Refused number
       → Follows (called (stepWith (s .session) lent a) s) r
@@ -173,6 +190,17 @@ module _ (g : Geometry) (h : Header) (bytes : List ℕ) (found : lookupOf (h .pa
       }
 
   -- after the report every step repeats it
+  pub follow-repeats : (s : State) (r : Run) (a : Answer) (last-report : Report) → Follows s r → s .stands ≡ Reported last-report
+      → (stepWith (s .session) bytes a) .outcome ≡ Reported last-report
+  follow-repeats s r a last-report f e = by (r .session) refl
+    where
+      by : (z : Flow.SessionState) → r .session ≡ z → (stepWith (s .session) bytes a) .outcome ≡ Reported last-report
+      by (running y n w p b k t) is = absurd (no-packet _ last-report (s .stands) (f .stands ∙ ap (outcomeAt i) is) e)
+      by (reported x t c) is =
+          let again : stepWith (s .session) bytes a ≡ giving (imageOf g (s .session .header) bytes) (s .session) =
+          step-finished g (s .session) bytes a (found-of s r f) (f .can) size (is-finished (s .session) x t c (f .session ∙ is)) in
+          rw again (ap (λ (j : Header). outcomeAt (imageOf g j bytes) (standOf (s .session))) (f .header) ∙ ap (outcomeAt i) (f .session) ∙ sym (f .stands) ∙ e)
+
   follow-later : (s : State) (r : Run) (a : Answer) (last-report : Report) → Follows s r → s .stands ≡ Reported last-report
       → Follows (called (stepWith (s .session) bytes a) s) r
   follow-later s r a last-report f e = by (r .session) refl
@@ -198,10 +226,10 @@ module _ (g : Geometry) (h : Header) (bytes : List ℕ) (found : lookupOf (h .pa
           })
 
   -- the whole list
-  pub follow : (n : ℕ) (s s′ : State) (r : Run) → Follows s r → ((k : ℕ) → countIn ((runAfter i k r) .session) ≤ mostOf g)
-      → Steps g bytes n s s′ → Follows s′ (runAfter i n r)
+  pub follow : (n k : ℕ) (s s′ : State) (r : Run) → Follows s r → ((j : ℕ) → countIn ((runAfter i j r) .session) ≤ mostOf g)
+      → Steps g bytes n k s s′ → Follows s′ (runAfter i n r)
   unfolding runAfter
-  follow n s s′ r f low none = f
-  follow n s s′ r f low (answer p e steps) = follow _ _ s′ (advance i r) (follow-answer s r p f e (low 1)) (λ k. low (suc k)) steps
-  follow n s s′ r f low (refusal lent a number e steps) = follow n _ s′ r (follow-refusal s r lent a number f e) low steps
-  follow n s s′ r f low (later a last-report e steps) = follow n _ s′ r (follow-later s r a last-report f e) low steps
+  follow n k s s′ r f low none = f
+  follow n k s s′ r f low (answer p e steps) = follow _ k _ s′ (advance i r) (follow-answer s r p f e (low 1)) (λ j. low (suc j)) steps
+  follow n k s s′ r f low (refusal lent a number e steps) = follow n _ _ s′ r (follow-refusal s r lent a number f e) low steps
+  follow n k s s′ r f low (later a last-report e steps) = follow n _ _ s′ r (follow-later s r a last-report f e) low steps

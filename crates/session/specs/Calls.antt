@@ -4,9 +4,8 @@ use mathlib.Core.List.{List}
 use mathlib.Core.Path.{_≡_}
 use Prim.Native.Nat.{ℕ, suc}
 use Rattle.flow.specs.Exchange.{decode, Met, meet}
-use Rattle.flow.specs.Monitor.{Monitor, linkError, watch}
+use Rattle.flow.specs.Monitor.{Monitor, watching, linkError, nothingSeen, watch}
 use Rattle.flow.specs.Plan.{Traffic, noTraffic, countingPacket}
-use Rattle.flow.specs.Run.{started}
 use Rattle.flow.specs.Target.{Target, Lists}
 use Rattle.flow.specs.declared.Answer.{Answer}
 use Rattle.flow.specs.declared.Decoded.{Decoded}
@@ -26,16 +25,26 @@ handing (Refused n) t = t
 handing (Ask p) t = countingPacket p t
 handing (Reported r) t = t
 
+-- 'a request or the report'
+pub data Gives : Outcome → Type 0 where
+  asks : (p : Packet) → Gives (Ask p)
+  reports : (r : Report) → Gives (Reported r)
+
 -- a refused step hands out nothing: what stood still stands
 abbrev pub standing : (before now : Outcome) → Outcome
 standing before (Refused n) = before
 standing before (Ask p) = Ask p
 standing before (Reported r) = Reported r
 
--- the mishaps are told by what is on the wire; a packet that is no request is met by silence (29)
+-- a packet that is no request is met by silence (29); the first mishap stays
+abbrev pub unanswered : Monitor → Monitor
+unanswered (watching w p a t d) = linkError 29
+unanswered (linkError n) = linkError n
+
+-- the mishaps are told by what is on the wire
 abbrev pub watchPacket : Geometry → Decoded → Answer → Monitor → Monitor
 watchPacket g (Known q) a m = watch g q a m
-watchPacket g Unknown a m = linkError 29
+watchPacket g Unknown a m = unanswered m
 
 -- the session that the last call gave, the request or report that stands, the target, what is left of its free lists, what the
 -- monitor has seen, and the requests handed out, the standing one included
@@ -54,7 +63,7 @@ begun r b l = record {
   stands = r .outcome;
   target = b;
   lists = l;
-  monitor = (started b l) .monitor;
+  monitor = nothingSeen;
   traffic = handing (r .outcome) noTraffic;
 }
 
@@ -84,16 +93,17 @@ called r s = record {
   traffic = handing (r .outcome) (s .traffic);
 }
 
--- lists of steps, n of them answers; each has the session that the call before it gave, and what a step gives is what its contract says
-pub data Steps (g : Geometry) (bytes : List ℕ) : (n : ℕ) → State → State → Type 0 where
-  none : {s : State} → Steps g bytes 0 s s
+-- lists of n steps that carry the target's answer and k others; each has the session that the call before it gave, and what a step
+-- gives is what its contract says
+pub data Steps (g : Geometry) (bytes : List ℕ) : (n k : ℕ) → State → State → Type 0 where
+  none : {s : State} → Steps g bytes 0 0 s s
   -- the image lent, and the target's answer to the standing packet
-  answer : {n : ℕ} {s s′ : State} (p : Packet) → s .stands ≡ Ask p
-      → Steps g bytes n (answered g p (reaction g p s) (stepWith (s .session) bytes ((reaction g p s) .answer)) s) s′
-      → Steps g bytes (suc n) s s′
+  answer : {n k : ℕ} {s s′ : State} (p : Packet) → s .stands ≡ Ask p
+      → Steps g bytes n k (answered g p (reaction g p s) (stepWith (s .session) bytes ((reaction g p s) .answer)) s) s′
+      → Steps g bytes (suc n) k s s′
   -- any bytes and any answer, if the step is refused
-  refusal : {n : ℕ} {s s′ : State} (lent : List ℕ) (a : Answer) (number : ℕ) → (stepWith (s .session) lent a) .outcome ≡ Refused number
-      → Steps g bytes n (called (stepWith (s .session) lent a) s) s′ → Steps g bytes n s s′
+  refusal : {n k : ℕ} {s s′ : State} (lent : List ℕ) (a : Answer) (number : ℕ) → (stepWith (s .session) lent a) .outcome ≡ Refused number
+      → Steps g bytes n k (called (stepWith (s .session) lent a) s) s′ → Steps g bytes n (suc k) s s′
   -- after the report, the image lent and any answer
-  later : {n : ℕ} {s s′ : State} (a : Answer) (r : Report) → s .stands ≡ Reported r
-      → Steps g bytes n (called (stepWith (s .session) bytes a) s) s′ → Steps g bytes n s s′
+  later : {n k : ℕ} {s s′ : State} (a : Answer) (r : Report) → s .stands ≡ Reported r
+      → Steps g bytes n k (called (stepWith (s .session) bytes a) s) s′ → Steps g bytes n (suc k) s s′

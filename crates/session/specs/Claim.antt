@@ -1,20 +1,26 @@
 -- Demand 3: one claim about a start, any list of steps after it, and the plain board with its free lists. Assumes nothing.
 use mathlib.Core.Bool.{Bool}
-use mathlib.Core.List.{List}
+use mathlib.Core.List.{List, _++_}
 use mathlib.Core.Logic.{_⊎_, _↔_}
 use mathlib.Core.Path.{_≡_}
 use Prim.Native.Nat.{ℕ, _+_, _≤_}
-use Rattle.flow.specs.Terms.{Passes, Startable, RightPart, NoError, Calm, entryOf, delaysIn}
+use Rattle.flow.specs.Terms.{Passes, Startable, RightPart, NoError, Calm, entryOf, delaysIn, Used, entries}
 use Rattle.flow.specs.Monitor.{linkError}
 use Rattle.flow.specs.Plan.{Traffic, plan, mostTraffic}
 use Rattle.flow.specs.Target.{Target, Lists}
+use Rattle.flow.specs.declared.Answer.{Answer}
+use Rattle.flow.specs.declared.Packet.{Packet}
 use Rattle.image.specs.Image.{Image, imageOf}
 use Rattle.image.specs.declared.Header.{Header}
 use Rattle.parts.specs.declared.Geometry.{Geometry}
-use Rattle.session.specs.Calls.{State, Steps, begun}
-use Rattle.session.specs.Given.{startOf}
-use Rattle.session.specs.declared.Outcome.the-variants.{Refused, Reported}
+use Rattle.session.specs.Calls.{Gives, State, Steps, begun, reaction}
+use Rattle.session.specs.Given.{startOf, stepWith}
+use Rattle.session.specs.declared.Outcome.the-variants.{Refused, Ask, Reported}
 use Rattle.session.specs.declared.Report.{Report}
+
+-- the image as it is lent: 'The protection bytes (N / 8) follow the flash bytes'
+abbrev pub lent : Image → List ℕ
+lent i = i .flash ++ i .protection
 
 -- the most that document 01's count allows for this target
 abbrev pub most : Image → Target → Traffic
@@ -28,8 +34,11 @@ pub record Demand3 (i : Image) (b : Target) (l : Lists) (n : ℕ) (s : State) : 
   pub transfers : s .traffic .transfers ≤ most i b .transfers
   pub xresets : s .traffic .xresets ≤ most i b .xresets
   pub lineResets : s .traffic .lineResets ≤ most i b .lineResets
-  -- 'Each step not refused gives a request or the report', and 'A report comes within document 01's count of transfers and resets.'
-  pub stands : (number : ℕ) → ¬ (s .stands ≡ Refused number)
+  -- 'Each step not refused gives a request or the report': one that carries the board's answer, with the image lent, is not refused
+  pub gives : (p : Packet) → s .stands ≡ Ask p → Gives ((stepWith (s .session) (lent i) ((reaction (i .geometry) p s) .answer)) .outcome)
+  -- and after the report 'any answer' gives the report again
+  pub repeats : (a : Answer) (r : Report) → s .stands ≡ Reported r → (stepWith (s .session) (lent i) a) .outcome ≡ Reported r
+  -- 'A report comes within document 01's count of transfers and resets.'
   pub comes : most i b .transfers + most i b .xresets + most i b .lineResets ≤ n → record { report : Report; is : s .stands ≡ Reported report }
   -- 'The report's transfers are those handed out in the list.'
   pub counted : (r : Report) → s .stands ≡ Reported r → r .transfers ≡ s .traffic .transfers
@@ -47,9 +56,10 @@ pub record Demand3 (i : Image) (b : Target) (l : Lists) (n : ℕ) (s : State) : 
         level : s .target .memory .stored ≡ i .header .level;
         planned : r .transfers ≡ plan (i .geometry) (entryOf b) + delaysIn (s .monitor);
       }
-  -- on calm lists nothing goes wrong, and the right part is done with 'exactly plan'
-  pub provoked : Calm l → NoError (s .monitor)
-  pub calm : Calm l → RightPart i (b .silicon) → (r : Report) → s .stands ≡ Reported r
+  -- the list entries that were used; where these were calm nothing went wrong, and the right part is done with 'exactly plan'
+  pub used : Used l (s .lists)
+  pub provoked : Calm (entries used) → NoError (s .monitor)
+  pub calm : Calm (entries used) → RightPart i (b .silicon) → (r : Report) → s .stands ≡ Reported r
       → (r .number ≡ 0) × (r .transfers ≡ plan (i .geometry) (entryOf b))
 
 -- 'Take an unrefused start on an image that document 01's checks let pass, then any list of steps'
@@ -57,5 +67,5 @@ abbrev pub Demand3Holds : Type 0
 Demand3Holds =
     (g : Geometry) (h : Header) (bytes : List ℕ) (leave : Bool) → Passes g h bytes
     → ((number : ℕ) → ¬ ((startOf h bytes leave) .outcome ≡ Refused number))
-    → (b : Target) → Startable g b → (l : Lists) (n : ℕ) (s : State)
-    → Steps g bytes n (begun (startOf h bytes leave) b l) s → Demand3 (imageOf g h bytes) b l n s
+    → (b : Target) → Startable g b → (l : Lists) (n k : ℕ) (s : State)
+    → Steps g bytes n k (begun (startOf h bytes leave) b l) s → Demand3 (imageOf g h bytes) b l n s

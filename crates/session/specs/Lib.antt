@@ -5,5 +5,6 @@ pub mod Ranges
 pub mod Given
 pub mod Calls
 pub mod Claim
+pub mod Spared
 pub mod Kept
 pub mod Lists
