@@ -33,5 +33,7 @@ pub mod Sparing
 pub mod Untouched
 pub mod EarlyMoves
 pub mod Early
+pub mod Zeros
+pub mod Faulted
 pub mod Witness
 pub mod Undisturbed

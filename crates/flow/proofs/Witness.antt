@@ -1,26 +1,27 @@
 -- The hypotheses of demand 3 can be met, and done be reached, for every part, M and level. Assumes nothing.
-use mathlib.Core.Bool.{Bool, true, false, _&&_, not}
+use mathlib.Core.Bool.{true, false, not}
 use mathlib.Core.List.{List, [], _∷_}
 use mathlib.Core.Logic.{_⊎_, inl, inr}
 use mathlib.Core.Path.{_≡_, refl, ap, _∙_}
-use Prim.Native.Nat.{ℕ, zero, suc, _+_, _/_, _%_, _≤_, _<_}
+use Prim.Native.Nat.{ℕ, zero, suc, _+_, _/_, _<_}
 use native.Mathlib.Nat.{le-refl}
 use native.Mathlib.Omega.{arith}
-use lib.Dec.{eqb, ltb, lit<}
-use lib.ListN.{length, getD, take, drop, replicate, length-replicate, length-take, List·getD-eq-default}
-use lib.Seq.{getD-take, getD-drop}
-use borrow.Author.Tests.{eq-eqb, ltb-true, ltb-false}
-use Rattle.flow.specs.Claim.{Achieved}
+use lib.Dec.{eqb, lit<}
+use lib.ListN.{length, getD, replicate, length-replicate}
+use borrow.Author.Tests.{eq-eqb}
+use Rattle.flow.specs.Claim.{RunDemand3, OtherPartWitness, EarlyWitness, Achieved}
+use Rattle.flow.specs.Monitor.{linkError}
 use Rattle.flow.specs.Terms.{Passes, Startable, RightPart, calmEnd, callsEnd, entryOf}
 use Rattle.flow.specs.Plan.{mostTraffic}
-use Rattle.flow.specs.Run.{runAfter, started}
+use Rattle.flow.specs.Run.{Run, runAfter, started}
 use Rattle.flow.specs.Session.{reported}
 use Rattle.flow.specs.Target.{Target, idle}
 use Rattle.flow.proofs.Demand.{run-demand3-holds}
-use Rattle.image.specs.Checks.{imageIdFits, rowWords, cancels, someCancels, faultIn}
+use Rattle.flow.proofs.Faulted.{secondFaults, faulted}
+use Rattle.flow.proofs.Zeros.{zeros, zeros-take, total-zeros, none-cancels}
+use Rattle.image.specs.Checks.{imageIdFits, faultIn}
 use Rattle.image.specs.Image.{imageOf, flashIn}
 use Rattle.image.specs.Refusals.{firstRefusal}
-use Rattle.image.specs.Words.{total, allZero, wordAt, wordsAt}
 use Rattle.image.specs.declared.Header.{Header}
 use Rattle.parts.specs.Parts.{part1, part2, part3, lookIn, lookupOf, lowFits}
 use Rattle.parts.specs.Sizes.{rowBytes, rowsOf, flashSize, lockTotal, imageSize}
@@ -29,49 +30,13 @@ use Rattle.parts.specs.declared.Lookup.{Lookup}
 use Rattle.parts.specs.declared.Lookup.the-variants.{Found}
 use Rattle.parts.specs.declared.Part.{Part}
 
--- ---- zeros
+first-one : (n : ℕ) → 0 < n → _≡_ {A = ℕ} (getD (replicate n 1) 0 0) 1
+first-one zero h = absurd (omega arith)
+first-one (suc n) h = refl
 
-abbrev Zeros : List ℕ → Type 0
-Zeros l = (j : ℕ) → getD l j 0 ≡ 0
-
-zeros : (n : ℕ) → Zeros (replicate n 0)
-zeros zero j = refl
-zeros (suc n) zero = refl
-zeros (suc n) (suc j) = zeros n j
-
-zeros-take : (n : ℕ) (l : List ℕ) → Zeros l → Zeros (take n l)
-zeros-take n l z j = by (ltb j n) refl
-  where
-    by : (y : Bool) → ltb j n ≡ y → getD (take n l) j 0 ≡ 0
-    by true e = getD-take n l j 0 (ltb-true j n e) ∙ z j
-    by false e =
-        let le = ltb-false j n e in
-        let out : length (take n l) ≤ j = rw (length-take n l) (omega arith) in
-        List·getD-eq-default (take n l) 0 out
-
-zeros-drop : (n : ℕ) (l : List ℕ) → Zeros l → Zeros (drop n l)
-zeros-drop n l z j = getD-drop n l j 0 ∙ z (n + j)
-
-total-zeros : (l : List ℕ) → Zeros l → total l ≡ 0
-unfolding total
-total-zeros [] z = refl
-total-zeros (x ∷ xs) z = let h : x ≡ 0 = z 0 in let k = total-zeros xs (λ j. z (suc j)) in omega arith
-
-words-zero : (l : List ℕ) → Zeros l → (o n : ℕ) → allZero (wordsAt l o n) ≡ true
-unfolding allZero wordsAt wordAt
-words-zero l z o zero = refl
-words-zero l z o (suc n) = rw (z o, z (o + 1), z (o + 2), z (o + 3)) (words-zero l z (o + 4) n)
-
-and-not : (a b : Bool) → b ≡ true → a && not b ≡ false
-and-not true b h = rw h
-and-not false b h = refl
-
-none-cancels : (size n : ℕ) (l : List ℕ) → Zeros l → someCancels size n l ≡ false
-unfolding someCancels cancels
-none-cancels size zero l z = refl
-none-cancels size (suc n) l z =
-    rw (and-not (eqb (total (rowWords (take size l)) % 4294967296) 0) (allZero (rowWords (take size l))) (words-zero (take size l) (zeros-take size l z) 0 (length (take size l) / 4)))
-    (none-cancels size n (drop size l) (zeros-drop size l z))
+not-kill : (level : ℕ) → (level ≡ 1) ⊎ (level ≡ 2) → eqb level 4 ≡ false
+not-kill level (inl e) = rw e
+not-kill level (inr e) = rw e
 
 -- ---- an erased image of a geometry
 
@@ -112,10 +77,11 @@ module _ (g : Geometry) (s : Listed g) (level : ℕ) (lv : (level ≡ 1) ⊎ (le
     small = λ j. rw (zeros (imageSize g) j) (omega arith);
   }
 
-  target : Target
-  target = record {
-    silicon = record { idcode = 0x0BB11477; high = g .part .«id_high»; low = g .part .«id_low» .first; revision = 0; family = g .part .«id_family»; «privileged_sum» = 0 };
-    memory = record { flash = replicate (flashSize g) 0; locks = replicate (lockTotal g) 0; latch = replicate (rowBytes g) 0; stored = level };
+  -- its memory is not the image's
+  targetOf : (idcode : ℕ) → Target
+  targetOf idcode = record {
+    silicon = record { idcode = idcode; high = g .part .«id_high»; low = g .part .«id_low» .first; revision = 0; family = g .part .«id_family»; «privileged_sum» = 0 };
+    memory = record { flash = replicate (flashSize g) 1; locks = replicate (lockTotal g) 1; latch = replicate (rowBytes g) 0; stored = level };
     effect = 0;
     params = replicate (2 + rowBytes g / 4) 0;
     sysarg = 0;
@@ -126,11 +92,14 @@ module _ (g : Geometry) (s : Listed g) (level : ℕ) (lv : (level ≡ 1) ⊎ (le
     running = idle;
   }
 
-  startable : Startable g target
-  unfolding target
-  startable = record {
-    flash = length-replicate (flashSize g) 0;
-    locks = length-replicate (lockTotal g) 0;
+  abbrev target : Target
+  target = targetOf 0x0BB11477
+
+  startable : (idcode : ℕ) → Startable g (targetOf idcode)
+  unfolding targetOf
+  startable idcode = record {
+    flash = length-replicate (flashSize g) 1;
+    locks = length-replicate (lockTotal g) 1;
     latch = length-replicate (rowBytes g) 0;
     params = rw (length-replicate {A = ℕ} (2 + rowBytes g / 4) 0) (le-refl _);
     high = s .high;
@@ -142,7 +111,7 @@ module _ (g : Geometry) (s : Listed g) (level : ℕ) (lv : (level ≡ 1) ⊎ (le
   }
 
   right : RightPart (imageOf g (headerFor g) erased) (target .silicon)
-  unfolding target
+  unfolding targetOf
   right = record { idcode = refl; high = refl; family = refl; low = s .low }
 
   achieved : Achieved g level
@@ -150,7 +119,7 @@ module _ (g : Geometry) (s : Listed g) (level : ℕ) (lv : (level ≡ 1) ⊎ (le
       let i = imageOf g (headerFor g) erased in
       let most = mostTraffic g (entryOf target) in
       let n = most .transfers + most .xresets + most .lineResets in
-      let d = run-demand3-holds g (headerFor g) erased passes target startable (record { line = []; calls = [] }) n in
+      let d = run-demand3-holds g (headerFor g) erased passes target (startable 0x0BB11477) (record { line = []; calls = [] }) n in
       let r = d .comes (le-refl n) in
       let c = d .calm (record { line = calmEnd; calls = callsEnd }) right (r .number) (r .step) (r .sent) (r .is) in
       let zero-is : (runAfter i n (started target (record { line = []; calls = [] }))) .session ≡ reported 0 (r .step) (r .sent) = r .is ∙ rw (c .0) in
@@ -160,11 +129,82 @@ module _ (g : Geometry) (s : Listed g) (level : ℕ) (lv : (level ≡ 1) ⊎ (le
         bytes = erased;
         passes = passes;
         target = target;
-        startable = startable;
-        stored = unfold target in refl;
+        startable = startable 0x0BB11477;
+        stored = unfold targetOf in refl;
         right = right;
         steps = n;
         done = r .is ∙ rw (c .0, nine, c .1);
+      }
+
+  -- ---- what is left alone
+
+  -- the target's flash is not the image's
+  other : (idcode : ℕ) → 0 < flashSize g → (targetOf idcode) .memory .flash ≡ flashIn g erased → ⊥
+  unfolding targetOf
+  other idcode some e =
+      let one = first-one (flashSize g) some in
+      let none = zeros-take (flashSize g) erased (zeros (imageSize g)) 0 in
+      omega (arith, ap (λ (l : List ℕ). getD l 0 0) e)
+
+  wrong : RightPart (imageOf g (headerFor g) erased) ((targetOf 0) .silicon) → ⊥
+  unfolding targetOf
+  wrong r = omega (arith, r .idcode)
+
+  other-part : 0 < flashSize g → OtherPartWitness g
+  other-part some =
+      let most = mostTraffic g (entryOf (targetOf 0)) in
+      let n = most .transfers + most .xresets + most .lineResets in
+      let d = run-demand3-holds g (headerFor g) erased passes (targetOf 0) (startable 0) (record { line = []; calls = [] }) n in
+      let r = d .comes (le-refl n) in
+      record {
+        run = record {
+          header = headerFor g;
+          bytes = erased;
+          passes = passes;
+          target = targetOf 0;
+          startable = startable 0;
+          other = other 0 some;
+          lists = record { line = []; calls = [] };
+          steps = n;
+          number = r .number;
+          step = r .step;
+          sent = r .sent;
+          reports = r .is;
+        };
+        wrong = wrong;
+        judged = by d r (d .number (r .number) (r .step) (r .sent) (r .is));
+      }
+    where
+      by : {n : ℕ} {x : Run} (d : RunDemand3 (imageOf g (headerFor g) erased) (targetOf 0) (record { line = []; calls = [] }) n x)
+          (r : record { number : ℕ; step : ℕ; sent : ℕ; is : x .session ≡ reported number step sent })
+          → (r .number ≡ 0) ⊎ ((x .monitor ≡ linkError (r .number)) ⊎ ((¬ RightPart (imageOf g (headerFor g) erased) ((targetOf 0) .silicon)) × ((r .number ≡ 16) ⊎ (r .number ≡ 20))))
+          → (r .number ≡ 16) ⊎ (r .number ≡ 20)
+      by d r (inl z) = absurd (wrong ((d .exactly (r .number) (r .step) (r .sent) (r .is)) .0 z .0))
+      by d r (inr (inl m)) = absurd (d .provoked (record { line = calmEnd; calls = callsEnd }) (r .number) m)
+      by d r (inr (inr (w, j))) = j
+
+  early : 0 < flashSize g → EarlyWitness g
+  unfolding targetOf
+  early some =
+      let f = faulted (imageOf g (headerFor g) erased) target refl (not-kill level lv) refl in
+      record {
+        run = record {
+          header = headerFor g;
+          bytes = erased;
+          passes = passes;
+          target = target;
+          startable = startable 0x0BB11477;
+          other = other 0x0BB11477 some;
+          lists = secondFaults;
+          steps = 4;
+          number = 28;
+          step = 1;
+          sent = 2;
+          reports = f .0;
+        };
+        right = right;
+        faulted = (refl, refl);
+        once = f .1;
       }
 
 -- ---- every part and M
@@ -207,3 +247,12 @@ witness-3 = both-levels (geometry part3 1) listed3
 
 pub witness-3-2 : Both (geometry part3 2)
 witness-3-2 = both-levels (geometry part3 2) listed3b
+
+-- a board of another part, and a failure before step 3, both with a flash that is not the image's
+pub other-part-witness : OtherPartWitness (geometry part1 1)
+unfolding flashSize rowsOf
+other-part-witness = other-part (geometry part1 1) listed1 1 (inl refl) (lit< tt)
+
+pub early-witness : EarlyWitness (geometry part1 1)
+unfolding flashSize rowsOf
+early-witness = early (geometry part1 1) listed1 1 (inl refl) (lit< tt)

@@ -10,7 +10,7 @@ use Rattle.flow.specs.Run.{Run, runAfter, started, handedOut}
 use Rattle.flow.specs.Session.{reported}
 use Rattle.flow.specs.Target.{Target, idle, Lists}
 use Rattle.flow.specs.Terms.{Passes, Startable, RightPart, NoError, Calm, entryOf, delaysIn, Used, entries}
-use Rattle.image.specs.Image.{Image, imageOf}
+use Rattle.image.specs.Image.{Image, imageOf, flashIn}
 use Rattle.image.specs.declared.Header.{Header}
 use Rattle.parts.specs.declared.Geometry.{Geometry}
 
@@ -76,6 +76,33 @@ EarlySpared =
     (i : Image) (b : Target) → b .running ≡ idle → (l : Lists) (n number step sent : ℕ)
     → (runAfter i n (started b l)) .session ≡ reported number step sent → step ≤ 2 → (runAfter i n (started b l)) .traffic .xresets ≤ 1
     → (runAfter i n (started b l)) .target .memory ≡ b .memory
+
+-- both can be met, by a target whose flash is not the image's, so that a session that programs would show: on another part the session
+-- reports 16 or 20; on the right one a FAULT after the IDCODE is 28 at step 1
+pub record SparedWitness (g : Geometry) : Type 0 where
+  pub header : Header
+  pub bytes : List ℕ
+  pub passes : Passes g header bytes
+  pub target : Target
+  pub startable : Startable g target
+  pub other : ¬ (target .memory .flash ≡ flashIn g bytes)
+  pub lists : Lists
+  pub steps : ℕ
+  pub number : ℕ
+  pub step : ℕ
+  pub sent : ℕ
+  pub reports : (runAfter (imageOf g header bytes) steps (started target lists)) .session ≡ reported number step sent
+
+pub record OtherPartWitness (g : Geometry) : Type 0 where
+  pub run : SparedWitness g
+  pub wrong : ¬ RightPart (imageOf g (run .header) (run .bytes)) (run .target .silicon)
+  pub judged : (run .number ≡ 16) ⊎ (run .number ≡ 20)
+
+pub record EarlyWitness (g : Geometry) : Type 0 where
+  pub run : SparedWitness g
+  pub right : RightPart (imageOf g (run .header) (run .bytes)) (run .target .silicon)
+  pub faulted : (run .number ≡ 28) × (run .step ≡ 1)
+  pub once : (runAfter (imageOf g (run .header) (run .bytes)) (run .steps) (started (run .target) (run .lists))) .traffic .xresets ≡ 1
 
 -- the hypotheses can be met, and done be reached: an image of the geometry, a right target with this level, lists that are empty
 pub record Achieved (g : Geometry) (level : ℕ) : Type 0 where
