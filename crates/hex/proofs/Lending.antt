@@ -1,6 +1,6 @@
 -- What the section filler leaves of the three locations, by the part that it was lent. Assumes nothing.
 use mathlib.Core.List.{List, _++_}
-use mathlib.Core.Path.{_≡_, refl, sym, ap, _∙_}
+use mathlib.Core.Path.{_≡_, ap, _∙_}
 use Prim.Native.Nat.{ℕ, _-_, _≤_}
 use borrow.Rule.Slice.PartMut.{putMid}
 use lib.ListN.{length, take, drop}
@@ -29,8 +29,8 @@ module _ (g : Geometry) (due : Section) (row : List ℕ) (count : ℕ) (image he
   everywhere s InHeader = s .1 .1
 
 module _ (g : Geometry) (image header : List ℕ) (due : Section) (row : List ℕ) (count flash : ℕ) (is : flash ≡ flashSize g) (inside : flash ≤ length image) where
-  abbrev Filled : (image′ header′ : List ℕ) → Type 0
-  Filled image′ header′ = Stored g due row count image header image′ header′
+  abbrev Leaves : (image′ header′ : List ℕ) → Type 0
+  Leaves image′ header′ = Stored g due row count image header image′ header′
 
   -- an image of two parts, the first of which is as long as the flash
   flash-is : (a b : List ℕ) → length a ≡ flash → flashIn g (a ++ b) ≡ a
@@ -39,14 +39,14 @@ module _ (g : Geometry) (image header : List ℕ) (due : Section) (row : List �
   protection-is : (a b : List ℕ) → length a ≡ flash → protectionIn g (a ++ b) ≡ b
   protection-is a b e = drop-at a b (flashSize g) (e ∙ is)
 
-  pub flash-lent : (part : List ℕ) → due .location ≡ InFlash → part ≡ storedAt (take flash image) (due .offset) row 4 count → Filled (part ++ drop flash image) header
+  pub flash-lent : (part : List ℕ) → due .location ≡ InFlash → part ≡ storedAt (take flash image) (due .offset) row 4 count → Leaves (part ++ drop flash image) header
   flash-lent part e p =
       let n : length part ≡ flash = ap length p ∙ stored-length (take flash image) (due .offset) row 4 count ∙ length-take-le flash image inside in
       (rw e (flash-is part (drop flash image) n ∙ p ∙ rw is), (rw e (protection-is part (drop flash image) n ∙ rw is), rw e))
 
   pub protection-lent : (part : List ℕ) → due .location ≡ InProtection
       → part ≡ storedAt (take (length image - flash) (drop flash image)) (due .offset) row 4 count
-      → Filled (putMid flash (length image - flash) image part) header
+      → Leaves (putMid flash (length image - flash) image part) header
   protection-lent part e p =
       let n : length (take flash image) ≡ flash = length-take-le flash image inside in
       let q = put-tail image flash part in (
@@ -54,5 +54,5 @@ module _ (g : Geometry) (image header : List ℕ) (due : Section) (row : List �
         (rw e (ap (protectionIn g) q ∙ protection-is (take flash image) part n ∙ p ∙ rw (tail-part image flash, is)), rw e),
       )
 
-  pub header-lent : (part : List ℕ) → due .location ≡ InHeader → part ≡ storedAt header (due .offset) row 4 count → Filled image part
+  pub header-lent : (part : List ℕ) → due .location ≡ InHeader → part ≡ storedAt header (due .offset) row 4 count → Leaves image part
   header-lent part e p = (rw e, (rw e, rw e p))

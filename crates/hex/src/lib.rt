@@ -230,8 +230,7 @@ fn advanced(g: Geometry, due: Due, count: usize) -> Due
     }
 }
 
-// Stores payload of the row in the section that is due: the section filler is lent the flash, the buffer's part after the flash, or the header's
-// bytes.
+// Stores payload where the due section lies: lends the section filler the flash, the buffer's part after the flash, or the header's bytes.
 fn store_payload(
     g: Geometry,
     image: &mut [u8],
