@@ -71,7 +71,7 @@ pub(crate) fn put_record(bytes: &mut [u8], h: Header)
         m,
         h.level,
     );
-    text::store(bytes, 0, &row, 0, 17);
+    text::fill(bytes, 0, &row, 0, 17);
 }
 
 fn entry_byte(y: Entry) -> u8

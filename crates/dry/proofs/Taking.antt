@@ -15,16 +15,16 @@ use Rattle.image.specs.Checks.{imageFault}
 use Rattle.image.specs.Sections.{sectionsOf, headerOf}
 use Rattle.image.specs.Words.{total}
 use Rattle.image.specs.declared.Header.{Header}
-use Rattle.image.specs.declared.Location.the-variants.{InImage, InHeader}
+use Rattle.image.specs.declared.Location.the-variants.{InHeader}
 use Rattle.image.specs.declared.Section.{Section}
 use Rattle.parts.specs.Parts.{lookIn}
 use Rattle.parts.specs.Sizes.{rowsOf, flashSize, lockTotal, imageSize}
 use Rattle.text.proofs.Capitals.{AllBytes, bytes-append, bytes-take, bytes-drop, bytes-spelt}
-use Rattle.text.proofs.Pieces.{gathered-bytes}
+use Rattle.text.proofs.Pieces.{gathered-bytes, image-bytes}
 use Rattle.text.specs.Digits.{Spelt, Unreadable, Spells, spelt}
 use Rattle.text.specs.Lines.{Line, Ended, Open, withoutCR, linesOf}
 use Rattle.text.specs.Placing.{Event, Bad, Other, Data, End, Content, Refusal, Stream, prepend, fits, dueAfter, placing, gathered}
-use Rattle.text.specs.Reading.{Reading, Untouched, Cleared, Taken, judged}
+use Rattle.text.specs.Reading.{Reading, Untouched, Cleared, Taken, imageIn, judged}
 
 -- ---- a record has bytes, or a number
 
@@ -139,8 +139,8 @@ judged-good (Refusal n) h = h
 judged-good (Stream bs) a =
     let i = gathered InHeader (sectionsOf partOne) bs in
     let ia = gathered-bytes InHeader (sectionsOf partOne) bs a in
-    by (headerOf 1 1 i) (gathered InImage (sectionsOf partOne) bs) (eqb (imageFault (headerOf 1 1 i) (gathered InImage (sectionsOf partOne) bs)) 0) refl
-    refl refl (gathered-bytes InImage (sectionsOf partOne) bs a) (bytes-take 12 (drop 2 i) (bytes-drop 2 i ia))
+    by (headerOf 1 1 i) (imageIn partOne bs) (eqb (imageFault (headerOf 1 1 i) (imageIn partOne bs)) 0) refl refl refl (image-bytes partOne bs a)
+    (bytes-take 12 (drop 2 i) (bytes-drop 2 i ia))
   where
     by : (h : Header) (image : List ℕ) (t : Bool) → eqb (imageFault h image) 0 ≡ t → h .part ≡ 1 → h .macros ≡ 1 → AllBytes image → AllBytes (h .metadata)
         → GoodReading (cond t (Taken h image) (Cleared (imageFault h image) (imageSize partOne)))

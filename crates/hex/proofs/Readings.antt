@@ -2,12 +2,12 @@
 use mathlib.Core.Bool.{Bool, true, false, cond}
 use mathlib.Core.List.{List, [], _++_, append-nil}
 use mathlib.Core.Path.{_≡_, refl, sym, ap, _∙_}
-use Prim.Native.Nat.{ℕ, _+_, _≤_, _<_}
+use Prim.Native.Nat.{ℕ, _≤_, _<_}
 use native.Mathlib.Nat.{le-refl}
 use native.Mathlib.Omega.{arith}
 use borrow.Author.Tests.{le-leb, lt-leb}
 use lib.Dec.{eqb}
-use lib.ListN.{length, take, drop}
+use lib.ListN.{length, take, drop, take-append-drop}
 use lib.Seq.{drop-length, length-take-le}
 use Rattle.hex.specs.Steps.{Filled, ScannedAs}
 use Rattle.hex.specs.Texts.{events, contentOf, hexReading}
@@ -17,17 +17,17 @@ use Rattle.image.specs.Checks.{imageFault}
 use Rattle.image.specs.Image.{noHeader}
 use Rattle.image.specs.Sections.{sectionsOf, headerOf}
 use Rattle.image.specs.declared.Header.{Header}
-use Rattle.image.specs.declared.Location.the-variants.{InImage, InHeader}
+use Rattle.image.specs.declared.Location.the-variants.{InFlash, InProtection, InHeader}
 use Rattle.parts.specs.Parts.{lookupOf}
-use Rattle.parts.specs.Sizes.{imageSize}
+use Rattle.parts.specs.Sizes.{flashSize, imageSize}
 use Rattle.parts.specs.declared.Geometry.{Geometry}
 use Rattle.parts.specs.declared.Lookup.the-variants.{Found, Refused}
 use Rattle.text.specs.Lines.{linesOf}
 use Rattle.text.specs.Placing.{Content, Refusal, Stream, gathered}
-use Rattle.text.specs.Reading.{Reading, Untouched, Cleared, Taken, checked, judged, answerOf, bufferAfter}
+use Rattle.text.specs.Reading.{Reading, Untouched, Cleared, Taken, checked, imageIn, judged, answerOf, bufferAfter}
 use Rattle.text.specs.Storing.{cleared, settled}
 use Rattle.text.specs.declared.ReadAnswer.{ReadAnswer}
-use Rattle.text.proofs.Placing.{placing-length, laid-image, laid-header, image-length}
+use Rattle.text.proofs.Placing.{placing-length, image-length}
 
 -- a reading that writes just `size` bytes
 abbrev pub Writes : (size : ℕ) → Reading → Type 0
@@ -69,7 +69,7 @@ module _ (g : Geometry) (part macros : ℕ) (text : List ℕ) where
       go : (o : Content) → contentOf text (sectionsOf g) ≡ o → Writes (imageSize g) (judged g part macros o)
       go (Refusal n) e = refl
       go (Stream s) e =
-          checked-writes (headerOf part macros (gathered InHeader (sectionsOf g) s)) (gathered InImage (sectionsOf g) s)
+          checked-writes (headerOf part macros (gathered InHeader (sectionsOf g) s)) (imageIn g s)
           (image-length g s (placing-length (events 0 (linesOf text)) (sectionsOf g) s e))
 
   module _ (image₀ : List ℕ) (size : length image₀ ≡ imageSize g) where
@@ -77,13 +77,13 @@ module _ (g : Geometry) (part macros : ℕ) (text : List ℕ) where
     Answers r image =
         (r ≡ answerOf (judged g part macros (contentOf text (sectionsOf g)))) × (image ≡ bufferAfter (judged g part macros (contentOf text (sectionsOf g))) image₀)
 
-    pub refused : (n : ℕ) (header₀ image₁ header₁ image : List ℕ) (r : ReadAnswer) (x : Scanned) → ScannedAs text g image₀ header₀ x image₁ header₁ → x ≡ Bad n
+    pub refused : (n : ℕ) (image₁ header₁ image : List ℕ) (r : ReadAnswer) (x : Scanned) → ScannedAs text g x image₁ header₁ → x ≡ Bad n
         → length image₁ ≡ length image₀
         → r ≡ record { number = n; header = noHeader }
         → image ≡ cleared (length image₁) image₁
         → Answers r image
     unfolding cleared
-    refused n header₀ image₁ header₁ image r x s ex k er ei =
+    refused n image₁ header₁ image r x s ex k er ei =
         let o : contentOf text (sectionsOf g) ≡ Refusal n = rw ex at s in
         let z : length image₁ ≡ imageSize g = k ∙ size in (
           rw o er,
@@ -96,17 +96,18 @@ module _ (g : Geometry) (part macros : ℕ) (text : List ℕ) where
     unfolding settled
     settled-is header image e = rw e
 
-    pub whole : (header₀ image₁ header₁ image : List ℕ) (r : ReadAnswer) (x : Scanned) → ScannedAs text g image₀ header₀ x image₁ header₁ → x ≡ Whole
-        → length header₀ ≡ 15
+    pub whole : (image₁ header₁ image : List ℕ) (r : ReadAnswer) (x : Scanned) → ScannedAs text g x image₁ header₁ → x ≡ Whole
         → length image₁ ≡ length image₀
         → r ≡ answerOf (settled part macros header₁ image₁)
         → image ≡ bufferAfter (settled part macros header₁ image₁) image₁
         → Answers r image
-    whole header₀ image₁ header₁ image r x s ex h k er ei =
-        let f : Filled text g image₀ header₀ image₁ header₁ = rw ex at s in
-        let all = placing-length (events 0 (linesOf text)) (sectionsOf g) (f .stream) (f .is) in
-        let a : image₁ ≡ gathered InImage (sectionsOf g) (f .stream) = f .image-is ∙ laid-image g (f .stream) all image₀ size in
-        let b : header₁ ≡ gathered InHeader (sectionsOf g) (f .stream) = f .header-is ∙ laid-header g (f .stream) all header₀ h in
+    whole image₁ header₁ image r x s ex k er ei =
+        let f : Filled text g image₁ header₁ = rw ex at s in
+        let a : image₁ ≡ imageIn g (f .stream) =
+        sym (take-append-drop (flashSize g) image₁)
+        ∙ ap (λ (l : List ℕ). l ++ drop (flashSize g) image₁) (f .has InFlash)
+        ∙ ap (λ (l : List ℕ). gathered InFlash (sectionsOf g) (f .stream) ++ l) (f .has InProtection) in
+        let b : header₁ ≡ gathered InHeader (sectionsOf g) (f .stream) = f .has InHeader in
         let j : settled part macros header₁ image₁ ≡ judged g part macros (contentOf text (sectionsOf g)) =
         settled-is header₁ image₁ (k ∙ size)
         ∙ ap (λ (l : List ℕ). checked g (headerOf part macros l) image₁) b

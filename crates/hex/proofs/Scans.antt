@@ -7,23 +7,24 @@ use native.Mathlib.Omega.{arith}
 use borrow.Author.Tests.{eqb-false, eq-eqb, ne-eqb}
 use lib.Dec.{eqb, lit≤, lit<}
 use lib.ListN.{length, getD, drop}
-use lib.Seq.{sets, length-sets}
-use Rattle.hex.specs.Steps.{contentAt, dues, TurnAt, TableSizes, advancedOf, ScannedAs}
-use Rattle.hex.specs.Texts.{contentOf}
+use lib.Seq.{sets}
+use Rattle.hex.specs.Steps.{contentAt, dues, TurnAt, TableSizes, ToFill, advancedOf, filledIn, ScannedAs}
+use Rattle.hex.specs.Texts.{events, contentOf}
 use Rattle.hex.specs.declared.Due.{Due}
 use Rattle.hex.specs.declared.Scanned.the-variants.{Bad, Whole}
 use Rattle.hex.specs.declared.Turn.{Turn}
 use Rattle.hex.specs.declared.Turn.the-variants.{Stop, Done, Moved, Store}
-use Rattle.image.specs.Sections.{sectionsOf, noSection}
+use Rattle.image.proofs.Sections.{locationSize, location-length}
+use Rattle.image.specs.Sections.{sectionsOf, noSection, locationBytes}
 use Rattle.image.specs.declared.Location.{Location}
-use Rattle.image.specs.declared.Location.the-variants.{InImage, InHeader}
 use Rattle.image.specs.declared.Section.{Section}
-use Rattle.parts.specs.Sizes.{imageSize}
+use Rattle.parts.specs.Sizes.{flashSize, imageSize}
 use Rattle.parts.specs.declared.Geometry.{Geometry}
 use Rattle.text.specs.Placing.{Content, Refusal, Stream, prepend, dueAfter, restOf, sameLocation}
-use Rattle.text.specs.Storing.{filledWith, laid}
-use Rattle.text.proofs.Placing.{prepend-append, laid-due-after, filled-with}
+use Rattle.text.specs.Lines.{linesOf}
+use Rattle.text.proofs.Placing.{prepend-append, placing-length, laid, laid-due-after, laid-in, stored-in, same-location}
 use Rattle.hex.proofs.Bodies.{payloadIn, payload-length}
+use Rattle.hex.proofs.Lending.{Stored, everywhere}
 use Rattle.hex.proofs.Sizes.{Roomy, roomy-at, due-at, last-section}
 
 -- what is due, and the sections after it
@@ -64,18 +65,12 @@ module _ (g : Geometry) (z : TableSizes g) (d : Due) (count : ℕ) (some : 1 ≤
           let n = eqb-false count (d .section .size) e in
           dues-some (restOf count (d .section)) (drop (d .next) (sectionsOf g)) (omega (arith, n))
 
-  roomy-advance : Roomy (imageSize g) 15 (d .section) → Roomy (imageSize g) 15 (advancedOf g d count .section)
+  roomy-advance : Roomy g (d .section) → Roomy g (advancedOf g d count .section)
   roomy-advance r = go (eqb count (d .section .size))
     where
-      go : (b : Bool)
-          → Roomy (imageSize g) 15 (chosen b g d count .section)
+      go : (b : Bool) → Roomy g (chosen b g d count .section)
       go true = roomy-at g z (d .next)
-      go false = record {
-        in-image = λ e. omega (arith, r .in-image e);
-        in-header = λ e. omega (arith, r .in-header e);
-        end = omega (arith, r .end);
-        addresses = omega (arith, r .addresses);
-      }
+      go false = record { room = omega (arith, r .room); end = omega (arith, r .end); addresses = omega (arith, r .addresses) }
 
   next-advance : d .next ≤ 5 → 0 < advancedOf g d count .section .size → advancedOf g d count .next ≤ 5
   next-advance h = go (eqb count (d .section .size))
@@ -92,51 +87,60 @@ pub record Here (g : Geometry) (text image₀ header₀ image header : List ℕ)
   pub upper-lt : upper < 65536
   pub image-kept : length image ≡ length image₀
   pub header-kept : length header ≡ length header₀
-  pub roomy : Roomy (imageSize g) 15 (due .section)
+  pub roomy : Roomy g (due .section)
   pub next-le : 0 < due .section .size → due .next ≤ 5
   pub done : List ℕ
   pub content : contentOf text (sectionsOf g) ≡ prepend done (contentAt text at upper (dueList g due))
-  pub image-laid : (r : List ℕ) → laid InImage (sectionsOf g) (done ++ r) image₀ ≡ laid InImage (dueList g due) r image
-  pub header-laid : (r : List ℕ) → laid InHeader (sectionsOf g) (done ++ r) header₀ ≡ laid InHeader (dueList g due) r header
+  pub lies : (l : Location) (r : List ℕ)
+      → laid l (sectionsOf g) (done ++ r) (locationBytes g image₀ header₀ l) ≡ laid l (dueList g due) r (locationBytes g image header l)
+
+-- the image has room for its flash
+pub here-flash : {g : Geometry} {text image₀ header₀ image header : List ℕ} {at upper : ℕ} {due : Due} → ToFill g image₀ header₀
+    → Here g text image₀ header₀ image header at upper due
+    → flashSize g ≤ length image
+unfolding imageSize
+here-flash z h = omega (arith, h .image-kept, z .image-size)
 
 prepend-nil : (o : Content) → o ≡ prepend [] o
 unfolding prepend
 prepend-nil (Refusal n) = refl
 prepend-nil (Stream bs) = refl
 
-module _ (g : Geometry) (z : TableSizes g) (text image₀ header₀ : List ℕ) where
+module _ (g : Geometry) (text image₀ header₀ : List ℕ) (z : ToFill g image₀ header₀) where
   pub here-start : (s : Section) → s ≡ getD (sectionsOf g) 0 noSection → Here g text image₀ header₀ image₀ header₀ 0 0 (record { section = s; next = 1 })
   here-start s e =
-      let d : dueList g (record { section = s; next = 1 }) ≡ sectionsOf g = ap (λ (x : Section). dues x (drop 1 (sectionsOf g))) e ∙ due-at g z 0 in
+      let d : dueList g (record { section = s; next = 1 }) ≡ sectionsOf g = ap (λ (x : Section). dues x (drop 1 (sectionsOf g))) e ∙ due-at g (z .table) 0 in
       record {
         at-le = omega arith;
         upper-lt = lit< tt;
         image-kept = refl;
         header-kept = refl;
-        roomy = rw e (roomy-at g z 0);
+        roomy = rw e (roomy-at g (z .table) 0);
         next-le = λ h. lit≤ tt;
         done = [];
         content = prepend-nil (contentOf text (sectionsOf g)) ∙ ap (λ (ds : List Section). prepend [] (contentAt text 0 0 ds)) (sym d);
-        image-laid = λ r. ap (λ (ds : List Section). laid InImage ds r image₀) (sym d);
-        header-laid = λ r. ap (λ (ds : List Section). laid InHeader ds r header₀) (sym d);
+        lies = λ l r. ap (λ (ds : List Section). laid l ds r (locationBytes g image₀ header₀ l)) (sym d);
       }
 
   module _ {image header : List ℕ} {at upper : ℕ} {due : Due} (h : Here g text image₀ header₀ image header at upper due)
       (t : Turn) (row : List ℕ) (turn : TurnAt text at upper (due .section) t row) where
-    pub here-stop : (n : ℕ) → t ≡ Stop n → ScannedAs text g image₀ header₀ (Bad n) image header
+    pub here-stop : (n : ℕ) → t ≡ Stop n → ScannedAs text g (Bad n) image header
     unfolding prepend
     here-stop n e = let u = rw e at turn in h .content ∙ ap (prepend (h .done)) (u (drop (due .next) (sectionsOf g)))
 
-    pub here-done : t ≡ Done → ScannedAs text g image₀ header₀ Whole image header
+    pub here-done : t ≡ Done → ScannedAs text g Whole image header
     unfolding prepend laid
     here-done e =
         let u = rw e at turn in
         let n = dues-none (due .section) (drop (due .next) (sectionsOf g)) (u .1) in
+        let is = h .content ∙ ap (prepend (h .done)) (u .0 (drop (due .next) (sectionsOf g))) in
+        let all = placing-length (events 0 (linesOf text)) (sectionsOf g) (h .done ++ []) is in
         record {
           stream = h .done ++ [];
-          is = h .content ∙ ap (prepend (h .done)) (u .0 (drop (due .next) (sectionsOf g)));
-          image-is = sym (h .image-laid [] ∙ ap (λ (ds : List Section). laid InImage ds [] image) n);
-          header-is = sym (h .header-laid [] ∙ ap (λ (ds : List Section). laid InHeader ds [] header) n);
+          is = is;
+          has = λ l.
+              sym (h .lies l [] ∙ ap (λ (ds : List Section). laid l ds [] (locationBytes g image header l)) n)
+              ∙ laid-in g (h .done ++ []) all l (locationBytes g image₀ header₀ l) (location-length g image₀ header₀ l (z .image-size) (z .header-size));
         }
 
     module _ (next new : ℕ) (e : t ≡ Moved next new) where
@@ -152,8 +156,7 @@ module _ (g : Geometry) (z : TableSizes g) (text image₀ header₀ : List ℕ) 
             next-le = h .next-le;
             done = h .done;
             content = h .content ∙ ap (prepend (h .done)) (u .0 (dueList g due));
-            image-laid = h .image-laid;
-            header-laid = h .header-laid;
+            lies = h .lies;
           }
 
       pub moved-less : (at < next) × (next ≤ length text)
@@ -163,14 +166,14 @@ module _ (g : Geometry) (z : TableSizes g) (text image₀ header₀ : List ℕ) 
       pub store-bounds : (at < next) × (next ≤ length text) × (1 ≤ count) × (count ≤ 255) × (count ≤ due .section .size)
       store-bounds = let u = rw e at turn in (u .1, u .2, u .3, u .4, u .5)
 
-      pub store-asks : (due .section .offset + due .section .size ≤ 131200) × (due .section .address + due .section .size ≤ 4294967296) × (due .next ≤ 5)
+      pub store-asks : (due .section .offset + due .section .size ≤ 131072) × (due .section .address + due .section .size ≤ 4294967296) × (due .next ≤ 5)
           × (count ≤ 255)
           × (count ≤ due .section .size)
       store-asks =
           let b = store-bounds in
           (h .roomy .end, h .roomy .addresses, h .next-le (omega (arith, b .2, b .4)), b .3, b .4)
 
-      module _ (wide : length row ≡ 260) (image-size : length image₀ ≡ imageSize g) (header-size : length header₀ ≡ 15) where
+      module _ (wide : length row ≡ 260) where
         bs : List ℕ
         bs = payloadIn row count
 
@@ -181,33 +184,6 @@ module _ (g : Geometry) (z : TableSizes g) (text image₀ header₀ : List ℕ) 
         full : dueList g due ≡ due .section ∷ drop (due .next) (sectionsOf g)
         full = let b = store-bounds in dues-some (due .section) (drop (due .next) (sectionsOf g)) (omega (arith, b .2, b .4))
 
-        put-kept : (b : Bool) (dst : List ℕ) → length (cond b (sets dst (due .section .offset) bs) dst) ≡ length dst
-        put-kept true dst = length-sets dst (due .section .offset) bs
-        put-kept false dst = refl
-
-        module _ (location : Location) (dst₀ dst dst′ : List ℕ) (is : dst′ ≡ filledWith location dst (due .section) row 4 count)
-            (room : sameLocation location (due .section .location) ≡ true → due .section .offset + due .section .size ≤ length dst)
-            (before : (r : List ℕ) → laid location (sectionsOf g) (h .done ++ r) dst₀ ≡ laid location (dueList g due) r dst) where
-          put-is : dst′ ≡ cond (sameLocation location (due .section .location)) (sets dst (due .section .offset) bs) dst
-          unfolding bs
-          put-is =
-              let b = store-bounds in
-              is ∙ filled-with location dst (due .section) row 4 count (omega (arith, b .3)) (λ e. omega (arith, room e, b .4))
-
-          put-length : length dst′ ≡ length dst
-          put-length = ap length put-is ∙ put-kept (sameLocation location (due .section .location)) dst
-
-          put-laid : (r : List ℕ) → laid location (sectionsOf g) ((h .done ++ bs) ++ r) dst₀ ≡ laid location (dueList g (advancedOf g due count)) r dst′
-          put-laid r =
-              let b = store-bounds in
-              ap (λ (l : List ℕ). laid location (sectionsOf g) l dst₀) (append-assoc (h .done) bs r)
-              ∙ before (bs ++ r)
-              ∙ ap (λ (ds : List Section). laid location ds (bs ++ r) dst) full
-              ∙ laid-due-after location (due .section) (drop (due .next) (sectionsOf g)) bs r dst (omega (arith, size, b .4))
-              ∙ ap (λ (n : ℕ). laid location (dueAfter n (due .section) (drop (due .next) (sectionsOf g))) r (cond (sameLocation location (due .section .location)) (sets dst (due .section .offset) bs) dst)) size
-              ∙ ap (λ (ds : List Section). laid location ds r (cond (sameLocation location (due .section .location)) (sets dst (due .section .offset) bs) dst)) (sym (due-list-after g z due count (b .2) (b .4)))
-              ∙ ap (laid location (dueList g (advancedOf g due count)) r) (sym put-is)
-
         stream : contentOf text (sectionsOf g) ≡ prepend (h .done ++ bs) (contentAt text next upper (dueList g (advancedOf g due count)))
         unfolding bs
         stream =
@@ -217,28 +193,54 @@ module _ (g : Geometry) (z : TableSizes g) (text image₀ header₀ : List ℕ) 
             ∙ ap (λ (ds : List Section). prepend (h .done) (contentAt text at upper ds)) full
             ∙ ap (prepend (h .done)) (u .0 (drop (due .next) (sectionsOf g)))
             ∙ prepend-append (h .done) (payloadIn row count) (contentAt text next upper (dueAfter count (due .section) (drop (due .next) (sectionsOf g))))
-            ∙ ap (λ (ds : List Section). prepend (h .done ++ payloadIn row count) (contentAt text next upper ds)) (sym (due-list-after g z due count (b .2) (b .4)))
+            ∙ ap (λ (ds : List Section). prepend (h .done ++ payloadIn row count) (contentAt text next upper ds)) (sym (due-list-after g (z .table) due count (b .2) (b .4)))
 
-        pub here-store : (image′ header′ : List ℕ) (due′ : Due) → image′ ≡ filledWith InImage image (due .section) row 4 count
-            → header′ ≡ filledWith InHeader header (due .section) row 4 count
+        -- the bytes of a location, before and after
+        module _ (l : Location) (part part′ : List ℕ) (is : part′ ≡ filledIn (due .section) row count l part) (long : length part ≡ locationSize g l) where
+          abbrev mine : Bool
+          mine = sameLocation l (due .section .location)
+
+          abbrev put : List ℕ
+          put = cond mine (sets part (due .section .offset) bs) part
+
+          fits : mine ≡ true → due .section .offset + count ≤ length part
+          fits q = let b = store-bounds in omega (arith, h .roomy .room, ap (locationSize g) (same-location l (due .section .location) q), long, b .4)
+
+          put-is : part′ ≡ put
+          unfolding bs
+          put-is = let b = store-bounds in is ∙ stored-in mine part (due .section .offset) row 4 count (omega (arith, b .3)) fits
+
+          lies-on : (part₀ r : List ℕ)
+              → laid l (sectionsOf g) (h .done ++ (bs ++ r)) part₀ ≡ laid l (dueList g due) (bs ++ r) part
+              → laid l (sectionsOf g) ((h .done ++ bs) ++ r) part₀ ≡ laid l (dueList g (advancedOf g due count)) r part′
+          lies-on part₀ r before =
+              let b = store-bounds in
+              ap (λ (x : List ℕ). laid l (sectionsOf g) x part₀) (append-assoc (h .done) bs r)
+              ∙ before
+              ∙ ap (λ (ds : List Section). laid l ds (bs ++ r) part) full
+              ∙ laid-due-after l (due .section) (drop (due .next) (sectionsOf g)) bs r part (omega (arith, size, b .4))
+              ∙ ap (λ (n : ℕ). laid l (dueAfter n (due .section) (drop (due .next) (sectionsOf g))) r put) size
+              ∙ ap (λ (ds : List Section). laid l ds r put) (sym (due-list-after g (z .table) due count (b .2) (b .4)))
+              ∙ ap (laid l (dueList g (advancedOf g due count)) r) (sym put-is)
+
+        pub here-store : (image′ header′ : List ℕ) (due′ : Due) → length image′ ≡ length image → length header′ ≡ length header
+            → Stored g (due .section) row count image header image′ header′
             → due′ ≡ advancedOf g due count
             → Here g text image₀ header₀ image′ header′ next upper due′
-        here-store image′ header′ due′ ei eh ed =
+        here-store image′ header′ due′ ki kh is ed =
             let b = store-bounds in
-            let ri : sameLocation InImage (due .section .location) ≡ true → due .section .offset + due .section .size ≤ length image =
-            λ q. omega (arith, h .roomy .in-image q, h .image-kept) in
-            let rh : sameLocation InHeader (due .section .location) ≡ true → due .section .offset + due .section .size ≤ length header =
-            λ q. omega (arith, h .roomy .in-header q, h .header-kept) in
             rw ed
             (record {
               at-le = b .1;
               upper-lt = h .upper-lt;
-              image-kept = put-length InImage image₀ image image′ ei ri (h .image-laid) ∙ h .image-kept;
-              header-kept = put-length InHeader header₀ header header′ eh rh (h .header-laid) ∙ h .header-kept;
-              roomy = roomy-advance g z due count (b .2) (b .4) (h .roomy);
-              next-le = next-advance g z due count (b .2) (b .4) (h .next-le (omega (arith, b .2, b .4)));
+              image-kept = ki ∙ h .image-kept;
+              header-kept = kh ∙ h .header-kept;
+              roomy = roomy-advance g (z .table) due count (b .2) (b .4) (h .roomy);
+              next-le = next-advance g (z .table) due count (b .2) (b .4) (h .next-le (omega (arith, b .2, b .4)));
               done = h .done ++ bs;
               content = stream;
-              image-laid = put-laid InImage image₀ image image′ ei ri (h .image-laid);
-              header-laid = put-laid InHeader header₀ header header′ eh rh (h .header-laid);
+              lies = λ l r.
+                  lies-on l (locationBytes g image header l) (locationBytes g image′ header′ l) (everywhere g (due .section) row count image header image′ header′ is l)
+                  (location-length g image header l (h .image-kept ∙ z .image-size) (h .header-kept ∙ z .header-size))
+                  (locationBytes g image₀ header₀ l) r (h .lies l (bs ++ r));
             })

@@ -8,15 +8,14 @@ use borrow.Author.Tests.{leb-true, ne-eqb}
 use lib.Dec.{eqb, leb}
 use lib.ListN.{getD, drop, drop-of-length-le}
 use Rattle.hex.specs.Steps.{TableSizes, dues}
+use Rattle.image.proofs.Sections.{locationSize}
 use Rattle.image.specs.Sections.{sectionsOf, noSection}
-use Rattle.image.specs.declared.Location.the-variants.{InImage, InHeader}
 use Rattle.image.specs.declared.Section.{Section}
 use Rattle.parts.specs.Parts.{part1, part2, part3, offers, lookIn, lookupOf}
-use Rattle.parts.specs.Sizes.{rowsOf, flashSize, lockTotal, imageSize}
+use Rattle.parts.specs.Sizes.{rowsOf, flashSize, lockTotal}
 use Rattle.parts.specs.declared.Geometry.{Geometry}
 use Rattle.parts.specs.declared.Lookup.the-variants.{Found, Refused}
 use Rattle.parts.specs.declared.Part.{Part}
-use Rattle.text.specs.Placing.{sameLocation}
 
 macros-in : (p : Part) (n m : ℕ) → offers p n m ≡ true → (1 ≤ m) × (m ≤ p .«most_macros»)
 macros-in p n m e = go (eqb (p .number) n) (leb 1 m) (leb m (p .«most_macros»)) refl refl e
@@ -62,46 +61,19 @@ sized n m g = go (offers part1 n m) (offers part2 n m) (offers part3 n m) refl r
     go false false false p q r e = let t : false ≡ true = cc e in absurd (false≢true t)
 
 -- a section that has room in its location, and whose addresses have 32 bits
-pub record Roomy (image header : ℕ) (s : Section) : Type 0 where
-  pub in-image : sameLocation InImage (s .location) ≡ true → s .offset + s .size ≤ image
-  pub in-header : sameLocation InHeader (s .location) ≡ true → s .offset + s .size ≤ header
-  pub end : s .offset + s .size ≤ 131200
+pub record Roomy (g : Geometry) (s : Section) : Type 0 where
+  pub room : s .offset + s .size ≤ locationSize g (s .location)
+  pub end : s .offset + s .size ≤ 131072
   pub addresses : s .address + s .size ≤ 4294967296
 
 module _ (g : Geometry) (z : TableSizes g) where
-  pub roomy-at : (k : ℕ) → Roomy (imageSize g) 15 (getD (sectionsOf g) k noSection)
-  unfolding imageSize
-  roomy-at zero = record {
-    in-image = λ e. omega arith;
-    in-header = λ e. absurd (false≢true e);
-    end = omega (arith, z .flash-most);
-    addresses = omega (arith, z .flash-most);
-  }
-  roomy-at (suc zero) = record { in-image = λ e. absurd (false≢true e); in-header = λ e. omega arith; end = omega arith; addresses = omega arith }
-  roomy-at (suc (suc zero)) = record {
-    in-image = λ e. omega arith;
-    in-header = λ e. absurd (false≢true e);
-    end = omega (arith, z .flash-most, z .locks-most);
-    addresses = omega (arith, z .locks-most);
-  }
-  roomy-at (suc (suc (suc zero))) = record {
-    in-image = λ e. absurd (false≢true e);
-    in-header = λ e. omega arith;
-    end = omega arith;
-    addresses = omega arith;
-  }
-  roomy-at (suc (suc (suc (suc zero)))) = record {
-    in-image = λ e. absurd (false≢true e);
-    in-header = λ e. omega arith;
-    end = omega arith;
-    addresses = omega arith;
-  }
-  roomy-at (suc (suc (suc (suc (suc k))))) = record {
-    in-image = λ e. omega arith;
-    in-header = λ e. absurd (false≢true e);
-    end = omega arith;
-    addresses = omega arith;
-  }
+  pub roomy-at : (k : ℕ) → Roomy g (getD (sectionsOf g) k noSection)
+  roomy-at zero = record { room = omega arith; end = omega (arith, z .flash-most); addresses = omega (arith, z .flash-most) }
+  roomy-at (suc zero) = record { room = omega arith; end = omega arith; addresses = omega arith }
+  roomy-at (suc (suc zero)) = record { room = omega arith; end = omega (arith, z .locks-most); addresses = omega (arith, z .locks-most) }
+  roomy-at (suc (suc (suc zero))) = record { room = omega arith; end = omega arith; addresses = omega arith }
+  roomy-at (suc (suc (suc (suc zero)))) = record { room = omega arith; end = omega arith; addresses = omega arith }
+  roomy-at (suc (suc (suc (suc (suc k))))) = record { room = omega arith; end = omega arith; addresses = omega arith }
 
   -- the section at a place and those after it
   pub due-at : (k : ℕ) → dues (getD (sectionsOf g) k noSection) (drop (k + 1) (sectionsOf g)) ≡ drop k (sectionsOf g)

@@ -12,7 +12,7 @@ use Rattle.hex.specs.Texts.{events, contentOf}
 use Rattle.image.specs.Checks.{imageFault}
 use Rattle.image.specs.Sections.{sectionsOf, headerOf}
 use Rattle.image.specs.declared.Header.{Header}
-use Rattle.image.specs.declared.Location.the-variants.{InImage, InHeader}
+use Rattle.image.specs.declared.Location.the-variants.{InHeader}
 use Rattle.parts.proofs.Table.{everywhere, entry, both}
 use Rattle.parts.specs.Parts.{partTable, lookupOf}
 use Rattle.parts.specs.Sizes.{flashSize, lockTotal, imageSize, rowsOf}
@@ -23,7 +23,7 @@ use Rattle.text.proofs.Pieces.{placing-data}
 use Rattle.text.proofs.Placing.{placing-length}
 use Rattle.text.specs.Lines.{linesOf}
 use Rattle.text.specs.Placing.{Content, Refusal, Stream, gathered, overall}
-use Rattle.text.specs.Reading.{Untouched, Cleared, Taken, judged, readFor}
+use Rattle.text.specs.Reading.{Untouched, Cleared, Taken, imageIn, judged, readFor}
 
 pub record TakenFrom (part macros : ℕ) (text : List ℕ) (room : ℕ) (h : Header) (bytes : List ℕ) : Type 0 where
   pub g : Geometry
@@ -31,7 +31,7 @@ pub record TakenFrom (part macros : ℕ) (text : List ℕ) (room : ℕ) (h : Hea
   pub stream : List ℕ
   pub content : contentOf text (sectionsOf g) ≡ Stream stream
   pub header : headerOf part macros (gathered InHeader (sectionsOf g) stream) ≡ h
-  pub image : gathered InImage (sectionsOf g) stream ≡ bytes
+  pub image : imageIn g stream ≡ bytes
   pub none : imageFault h bytes ≡ 0
 
 module _ (part macros : ℕ) (text : List ℕ) (room : ℕ) (h : Header) (bytes : List ℕ) where
@@ -44,7 +44,7 @@ module _ (part macros : ℕ) (text : List ℕ) (room : ℕ) (h : Header) (bytes 
       i = headerOf part macros (gathered InHeader (sectionsOf g) s)
 
       b : List ℕ
-      b = gathered InImage (sectionsOf g) s
+      b = imageIn g s
 
       go : (y : Bool) → eqb (imageFault i b) 0 ≡ y → cond y (Taken i b) (Cleared (imageFault i b) (imageSize g)) ≡ Taken h bytes
           → TakenFrom part macros text room h bytes
@@ -126,7 +126,7 @@ one-image part macros part′ macros′ text room room′ h h′ bytes bytes′ 
           ∙ ap (λ (x : List ℕ). headerOf part′ macros′ (gathered InHeader (sectionsOf (b .g)) x)) d
           ∙ b .header,
       sym (a .image)
-          ∙ ap (λ (x : Geometry). gathered InImage (sectionsOf x) (a .stream)) g
-          ∙ ap (gathered InImage (sectionsOf (b .g))) d
+          ∙ ap (λ (x : Geometry). imageIn x (a .stream)) g
+          ∙ ap (imageIn (b .g)) d
           ∙ b .image,
     )

@@ -16,15 +16,15 @@ use Rattle.hex.specs.declared.Scanned.{Scanned}
 use Rattle.hex.specs.declared.Scanned.the-variants.{Bad, Whole}
 use Rattle.hex.specs.declared.Turn.{Turn}
 use Rattle.hex.specs.declared.Turn.the-variants.{Stop, Done, Moved, Store}
-use Rattle.image.specs.Sections.{sectionsOf, noSection}
+use Rattle.image.specs.Sections.{sectionsOf, noSection, locationBytes}
 use Rattle.image.specs.Words.{total}
-use Rattle.image.specs.declared.Location.the-variants.{InImage, InHeader}
+use Rattle.image.specs.declared.Location.{Location}
 use Rattle.image.specs.declared.Section.{Section}
-use Rattle.parts.specs.Sizes.{flashSize, lockTotal}
+use Rattle.parts.specs.Sizes.{flashSize, lockTotal, imageSize}
 use Rattle.parts.specs.declared.Geometry.{Geometry}
 use Rattle.text.specs.Lines.{Line, linesOf}
-use Rattle.text.specs.Placing.{Content, Refusal, Stream, placing, prepend, dueAfter, restOf}
-use Rattle.text.specs.Storing.{laid}
+use Rattle.text.specs.Placing.{Content, Refusal, Stream, placing, prepend, dueAfter, restOf, sameLocation, gathered}
+use Rattle.text.specs.Storing.{storedAt}
 
 -- the first line at a position is such a record
 pub record LineAt (text : List ℕ) (at : ℕ) (r : Record) : Type 0 where
@@ -105,19 +105,28 @@ pub record TableSizes (g : Geometry) : Type 0 where
   pub locks-some : 0 < lockTotal g
   pub locks-most : lockTotal g ≤ 128
 
+-- what the reader fills: the bytes of an image of such a part, and a header's
+pub record ToFill (g : Geometry) (image header : List ℕ) : Type 0 where
+  pub table : TableSizes g
+  pub image-size : length image ≡ imageSize g
+  pub header-size : length header ≡ 15
+
 -- what is due after count bytes
 abbrev pub advancedOf : Geometry → Due → (count : ℕ) → Due
 advancedOf g d count =
     cond (eqb count (d .section .size)) (record { section = getD (sectionsOf g) (d .next) noSection; next = d .next + 1 })
     (record { section = restOf count (d .section); next = d .next })
 
--- a text whose records all are in place, and where its bytes are
-pub record Filled (text : List ℕ) (g : Geometry) (image₀ header₀ image header : List ℕ) : Type 0 where
+-- the bytes of a location after payload of the row went into the section that is due: its own location has them, the others stay
+abbrev pub filledIn : Section → (row : List ℕ) (count : ℕ) → Location → (part : List ℕ) → List ℕ
+filledIn due row count l part = cond (sameLocation l (due .location)) (storedAt part (due .offset) row 4 count) part
+
+-- a text whose records all are in place: every location has the bytes of its sections
+pub record Filled (text : List ℕ) (g : Geometry) (image header : List ℕ) : Type 0 where
   pub stream : List ℕ
   pub is : contentOf text (sectionsOf g) ≡ Stream stream
-  pub image-is : image ≡ laid InImage (sectionsOf g) stream image₀
-  pub header-is : header ≡ laid InHeader (sectionsOf g) stream header₀
+  pub has : (l : Location) → locationBytes g image header l ≡ gathered l (sectionsOf g) stream
 
-abbrev pub ScannedAs : (text : List ℕ) (g : Geometry) (image₀ header₀ : List ℕ) → Scanned → (image header : List ℕ) → Type 0
-ScannedAs text g image₀ header₀ (Bad n) image header = contentOf text (sectionsOf g) ≡ Refusal n
-ScannedAs text g image₀ header₀ Whole image header = Filled text g image₀ header₀ image header
+abbrev pub ScannedAs : (text : List ℕ) (g : Geometry) → Scanned → (image header : List ℕ) → Type 0
+ScannedAs text g (Bad n) image header = contentOf text (sectionsOf g) ≡ Refusal n
+ScannedAs text g Whole image header = Filled text g image header

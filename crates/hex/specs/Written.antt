@@ -53,7 +53,7 @@ writtenText ps = extendedLine 0 ++ (linesFrom 0 ps ++ endLine)
 
 -- the text of an image
 unfoldable pub textOf : Geometry → Header → (bytes : List ℕ) → List ℕ
-textOf g h bytes = writtenText (pieces (sectionBytes h bytes) (sectionsOf g))
+textOf g h bytes = writtenText (pieces (sectionBytes g h bytes) (sectionsOf g))
 
 -- the text's length: 17 bytes for each upper half, 13 for each data record and the end record, 2 for each byte of data
 abbrev pub uppersIn : Section → ℕ

@@ -2,12 +2,15 @@
 ghost use mathlib.Core.Path.{_≡_};
 ghost use Prim.Native.Nat.{_+_, _*_, _≤_, _<_};
 ghost use lib.ListN.{length};
-ghost use Rattle.hex.specs.Steps.{FrameAt, foundIn, FoundAt, dataTurn, endTurn, TurnAt, TableSizes, advancedOf, ScannedAs};
+ghost use Rattle.hex.specs.Steps.{FrameAt, foundIn, FoundAt, dataTurn, endTurn, TurnAt, ToFill, advancedOf, filledIn, ScannedAs};
 ghost use Rattle.hex.specs.Texts.{contentOf, hexReading};
+ghost use Rattle.image.specs.Image.{flashIn, protectionIn};
 ghost use Rattle.image.specs.Sections.{sectionsOf};
+ghost use Rattle.image.specs.declared.Location.the-variants.{InFlash, InProtection, InHeader};
 ghost use Rattle.parts.specs.Parts.{lookupOf};
-ghost use Rattle.parts.specs.Sizes.{imageSize};
+ghost use Rattle.parts.specs.Sizes.{flashSize, imageSize};
 ghost use Rattle.text.specs.Reading.{judged, answerOf, bufferAfter};
+use image::Location;
 use image::Section;
 use parts::Geometry;
 use parts::Lookup;
@@ -204,7 +207,7 @@ fn turn_at(text: &[u8], at: usize, upper: u32, due: Section, row: &mut [u8]) -> 
 
 // What is due after count bytes.
 fn advanced(g: Geometry, due: Due, count: usize) -> Due
-    requires { ⌜ (due .section .offset + due .section .size ≤ 131200) × (due .section .address + due .section .size ≤ 4294967296) × (due .next ≤ 5) × (count ≤ 255) × (count ≤ due .section .size) ⌝ }
+    requires { ⌜ (due .section .offset + due .section .size ≤ 131072) × (due .section .address + due .section .size ≤ 4294967296) × (due .next ≤ 5) × (count ≤ 255) × (count ≤ due .section .size) ⌝ }
     ensures { λ r. ⌜ r ≡ advancedOf g due count ⌝ }
 {
     let s = due.section;
@@ -227,12 +230,35 @@ fn advanced(g: Geometry, due: Due, count: usize) -> Due
     }
 }
 
-// Puts the payload of a text's records into the image and the header's bytes.
-fn scan(g: Geometry, text: &[u8], image: &mut [u8], header: &mut [u8]) -> Scanned
-    requires { ⌜ TableSizes g × (length (now image) ≡ imageSize g) × (length (now header) ≡ 15) ⌝ }
-    ensures { λ r. ⌜ ScannedAs (now (text .entry)) g (now (image .entry)) (now (header .entry)) r (now (image .exit)) (now (header .exit)) ⌝ }
+// Stores payload where the due section lies: lends the section filler the flash, the buffer's part after the flash, or the header's bytes.
+fn store_payload(
+    g: Geometry,
+    image: &mut [u8],
+    header: &mut [u8],
+    due: Section,
+    row: &[u8],
+    count: usize,
+)
+    requires { ⌜ flashSize g ≤ length (now image) ⌝ }
+    ensures { λ _. ⌜ flashIn g (now (image .exit)) ≡ filledIn due (now (row .entry)) count InFlash (flashIn g (now (image .entry))) ⌝ }
+    ensures { λ _. ⌜ protectionIn g (now (image .exit)) ≡ filledIn due (now (row .entry)) count InProtection (protectionIn g (now (image .entry))) ⌝ }
+    ensures { λ _. ⌜ now (header .exit) ≡ filledIn due (now (row .entry)) count InHeader (now (header .entry)) ⌝ }
 {
     let flash = parts::flash_size(g);
+    let location = due.location;
+    let to = due.offset;
+    match location {
+        Location::InFlash => text::fill(&mut image[..flash], to, row, 4, count),
+        Location::InProtection => text::fill(&mut image[flash..], to, row, 4, count),
+        Location::InHeader => text::fill(header, to, row, 4, count),
+    }
+}
+
+// Puts the payload of a text's records where their sections lie.
+fn scan(g: Geometry, text: &[u8], image: &mut [u8], header: &mut [u8]) -> Scanned
+    requires { ⌜ ToFill g (now image) (now header) ⌝ }
+    ensures { λ r. ⌜ ScannedAs (now (text .entry)) g r (now (image .exit)) (now (header .exit)) ⌝ }
+{
     let mut row = [0u8; 260];
     let mut at: usize = 0;
     let mut upper: u32 = 0;
@@ -251,7 +277,7 @@ fn scan(g: Geometry, text: &[u8], image: &mut [u8], header: &mut [u8]) -> Scanne
                 upper = new;
             }
             Turn::Store { count, next } => {
-                text::fill(image, header, flash, section, &row, 4, count);
+                store_payload(g, image, header, section, &row, count);
                 due = advanced(g, due, count);
                 at = next;
             }

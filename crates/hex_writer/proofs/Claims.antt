@@ -18,17 +18,17 @@ use Rattle.hex_writer.proofs.RoundTrip as trip
 use Rattle.hex_writer.proofs.Written.{written-from, writes, some-number}
 use Rattle.image.specs.Sections.{sectionsOf, headerOf}
 use Rattle.image.specs.declared.Header.{Header}
-use Rattle.image.specs.declared.Location.the-variants.{InImage, InHeader}
+use Rattle.image.specs.declared.Location.the-variants.{InHeader}
 use Rattle.parts.specs.Parts.{lookupOf}
 use Rattle.parts.specs.Sizes.{flashSize, lockTotal, imageSize}
 use Rattle.parts.specs.declared.Geometry.{Geometry}
 use Rattle.parts.specs.declared.Lookup.the-variants.{Found}
 use Rattle.text.proofs.Capitals.{AllBytes, all-bytes, bytes-take, bytes-drop}
-use Rattle.text.proofs.Pieces.{placing-data, gathered-bytes}
+use Rattle.text.proofs.Pieces.{placing-data, gathered-bytes, image-bytes}
 use Rattle.text.proofs.Placing.{placing-length, image-length}
 use Rattle.text.specs.Lines.{linesOf}
 use Rattle.text.specs.Placing.{gathered, overall}
-use Rattle.text.specs.Reading.{Reading, Taken, answerOf, bufferAfter}
+use Rattle.text.specs.Reading.{Reading, Taken, imageIn, answerOf, bufferAfter}
 
 reads-back : (h : Header) (bytes : List ℕ) (room : ℕ) (text : List ℕ) (space : ℕ) → Typed h bytes → Writes h bytes room text → length bytes ≤ space
     → Takes (h .part) (h .macros) text space h bytes
@@ -86,7 +86,7 @@ module _ (part macros : ℕ) (g : Geometry) (stream : List ℕ) (all : AllBytes 
       let c = length-take-le 1 r₄ (omega arith) in
       simp length-append (omega arith)
 
-  typed : Typed (headerOf part macros (gathered InHeader (sectionsOf g) stream)) (gathered InImage (sectionsOf g) stream)
+  typed : Typed (headerOf part macros (gathered InHeader (sectionsOf g) stream)) (imageIn g stream)
   unfolding said
   typed =
       let a = gathered-bytes InHeader (sectionsOf g) stream all in
@@ -97,7 +97,7 @@ module _ (part macros : ℕ) (g : Geometry) (stream : List ℕ) (all : AllBytes 
         metadata = simp (length-take, length-drop) (omega arith);
         metadataBytes = all-bytes (take 12 (drop 2 (gathered InHeader (sectionsOf g) stream))) (bytes-take 12 (drop 2 (gathered InHeader (sectionsOf g) stream)) (bytes-drop 2 (gathered InHeader (sectionsOf g) stream) a));
         level = at 14;
-        imageBytes = all-bytes (gathered InImage (sectionsOf g) stream) (gathered-bytes InImage (sectionsOf g) stream all);
+        imageBytes = all-bytes (imageIn g stream) (image-bytes g stream all);
       }
 
 again : (part macros : ℕ) (g : Geometry) (text : List ℕ) (space : ℕ) (h : Header) (bytes : List ℕ) (room : ℕ) → lookupOf part macros ≡ Found g
@@ -112,7 +112,7 @@ again part macros known text space h bytes room offered t fits =
     let each = placing-length es (sectionsOf g) s (a .content) in
     let all : AllBytes s = subst AllBytes (sym (placing-data es (sectionsOf g) s (a .content))) (data-bytes 0 (linesOf text)) in
     let ty : Typed h bytes =
-    subst (Typed h) (a .image) (subst (λ (x : Header). Typed x (gathered InImage (sectionsOf g) s)) (a .header) (typed part macros g s all each)) in
+    subst (Typed h) (a .image) (subst (λ (x : Header). Typed x (imageIn g s)) (a .header) (typed part macros g s all each)) in
     let p : part ≡ h .part = ap (λ (x : Header). x .part) (a .header) in
     let m : macros ≡ h .macros = ap (λ (x : Header). x .macros) (a .header) in
     let found : lookupOf (h .part) (h .macros) ≡ Found g = sym (ap (λ (x : ℕ). lookupOf x macros) p ∙ ap (lookupOf (h .part)) m) ∙ a .found in

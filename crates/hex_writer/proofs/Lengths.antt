@@ -12,7 +12,7 @@ use Rattle.hex_writer.specs.Lines.{upperPast, positionAfter}
 use Rattle.hex_writer.specs.Sized.{Sized, Laid}
 use Rattle.hex_writer.proofs.Lines.{data-length, extended-length, upper-same, upper-new, lines-append}
 use Rattle.hex_writer.proofs.Whole.{linesLength, laid-at, text-lines, text-room}
-use Rattle.image.specs.Sections.{sectionsOf, noSection, sectionBytes, locationBytes}
+use Rattle.image.specs.Sections.{sectionsOf, noSection, sectionBytes}
 use Rattle.image.specs.declared.Header.{Header}
 use Rattle.image.specs.declared.Section.{Section}
 use Rattle.parts.specs.Sizes.{flashSize}
@@ -130,16 +130,15 @@ first-lines f s ss some size begins rest =
       ap (λ (v : ℕ). length (linesFrom v (pieces f ss))) past,
     )
 
-section-size : (h : Header) (bytes : List ℕ) (s : Section) → Laid h bytes s → length (sectionBytes h bytes s) ≡ s .size
-section-size h bytes s l =
-    omega (arith, length-take (s .size) (drop (s .offset) (locationBytes (s .location) h bytes)), length-drop (s .offset) (locationBytes (s .location) h bytes), l .inside)
+section-size : (part : List ℕ) (s : Section) → Laid part s → length (take (s .size) (drop (s .offset) part)) ≡ s .size
+section-size part s l = omega (arith, length-take (s .size) (drop (s .offset) part), length-drop (s .offset) part, l .inside)
 
 -- the text of an image has the length that the formula says
 module _ {g : Geometry} {h : Header} {bytes : List ℕ} (z : Sized g h bytes) where
-  pub size-at : (k : ℕ) → k < 5 → length (sectionBytes h bytes (getD (sectionsOf g) k noSection)) ≡ getD (sectionsOf g) k noSection .size
-  size-at k i = section-size h bytes (getD (sectionsOf g) k noSection) (laid-at z k i)
+  pub size-at : (k : ℕ) → k < 5 → length (sectionBytes g h bytes (getD (sectionsOf g) k noSection)) ≡ getD (sectionsOf g) k noSection .size
+  size-at k i = section-size _ (getD (sectionsOf g) k noSection) (laid-at z k i)
 
-  all-apart : Apart (sectionBytes h bytes) ((flashSize g - 1) / 65536) (drop 1 (sectionsOf g))
+  all-apart : Apart (sectionBytes g h bytes) ((flashSize g - 1) / 65536) (drop 1 (sectionsOf g))
   all-apart =
       let f = z .sizes .flash-most in
       let l = z .sizes .locks-most in
@@ -170,5 +169,5 @@ module _ {g : Geometry} {h : Header} {bytes : List ℕ} (z : Sized g h bytes) wh
         arith,
         text-room [] g h bytes,
         text-lines g,
-        first-lines (sectionBytes h bytes) (getD (sectionsOf g) 0 noSection) (drop 1 (sectionsOf g)) (z .sizes .flash-some) (size-at 0 (omega arith)) refl all-apart,
+        first-lines (sectionBytes g h bytes) (getD (sectionsOf g) 0 noSection) (drop 1 (sectionsOf g)) (z .sizes .flash-some) (size-at 0 (omega arith)) refl all-apart,
       )

@@ -15,11 +15,13 @@ use Rattle.hex_writer.specs.Sized.{Sized}
 use Rattle.hex_writer.proofs.Lengths.{size-at}
 use Rattle.hex_writer.proofs.ReadBack.{AllFitRecords, fits-append, cut-fits, text-says}
 use Rattle.hex.proofs.Sizes as table
-use Rattle.image.proofs.Sections.{headerWith}
+use Rattle.image.proofs.Sections.{headerWith, location-length}
 use Rattle.image.specs.Checks.{imageFault}
-use Rattle.image.specs.Sections.{sectionsOf, sectionBytes, headerBytes, headerOf}
+use Rattle.image.specs.Image.{flashIn, protectionIn}
+use Rattle.image.specs.Sections.{sectionsOf, noSection, sectionBytes, locationBytes, headerBytes, headerOf}
 use Rattle.image.specs.declared.Header.{Header}
-use Rattle.image.specs.declared.Location.the-variants.{InImage, InHeader}
+use Rattle.image.specs.declared.Location.{Location}
+use Rattle.image.specs.declared.Location.the-variants.{InFlash, InProtection, InHeader}
 use Rattle.image.specs.declared.Section.{Section}
 use Rattle.parts.specs.Parts.{lookupOf}
 use Rattle.parts.specs.Sizes.{flashSize, lockTotal, imageSize}
@@ -29,7 +31,7 @@ use Rattle.parts.specs.declared.Lookup.the-variants.{Found}
 use Rattle.text.proofs.Capitals.{AllBytes, bytes-all, bytes-append, bytes-take, bytes-drop}
 use Rattle.text.proofs.Pieces.{Filled, joined, placed, gathered-joined}
 use Rattle.text.specs.Placing.{Stream, pieces, piecesIn, cut, gathered}
-use Rattle.text.specs.Reading.{Untouched, judged, readFor}
+use Rattle.text.specs.Reading.{Untouched, imageIn, judged, readFor}
 
 -- sections whose pieces are neat
 abbrev Aligned : (Section → List ℕ) → List Section → Type 0
@@ -55,10 +57,9 @@ module _ (h : Header) (sum : h .sum < 65536) (twelve : length (h .metadata) ≡ 
       ∙ ap (λ (x : List ℕ). headerWith (h .part) (h .macros) (h .sum) x (getD (h .metadata ++ (h .level ∷ [])) 12 0)) m
       ∙ ap (headerWith (h .part) (h .macros) (h .sum) (h .metadata)) l
 
--- a list in two or three parts
-two-parts : (l : List ℕ) (a b : ℕ) → length l ≡ a + b → take a (drop 0 l) ++ ([] ++ (take b (drop a l) ++ ([] ++ ([] ++ [])))) ≡ l
-two-parts l a b e =
-    rw (append-nil (take b (drop a l)), take-all b (drop a l) (omega (arith, length-drop a l))) (take-append-drop a l)
+-- a list in one part, or in three
+one-part : (l : List ℕ) (n : ℕ) → length l ≡ n → take n (drop 0 l) ++ [] ≡ l
+one-part l n e = append-nil (take n l) ∙ take-all n l (omega arith)
 
 three-parts : (l : List ℕ) → length l ≡ 15 → [] ++ (take 2 (drop 0 l) ++ ([] ++ (take 12 (drop 2 l) ++ (take 1 (drop 14 l) ++ [])))) ≡ l
 three-parts l e =
@@ -70,7 +71,7 @@ module _ {g : Geometry} {h : Header} {bytes : List ℕ} (found : lookupOf (h .pa
   sized = record { sizes = table.sized (h .part) (h .macros) g found; metadata = t .metadata; exact = exact }
 
   abbrev f : Section → List ℕ
-  f = sectionBytes h bytes
+  f = sectionBytes g h bytes
 
   filled : Filled f (sectionsOf g)
   filled =
@@ -85,16 +86,26 @@ module _ {g : Geometry} {h : Header} {bytes : List ℕ} (found : lookupOf (h .pa
         ),
       )
 
+  header-length : length (headerBytes h) ≡ 15
+  header-length = omega (arith, length-append (h .metadata) (h .level ∷ []), t .metadata)
+
   header-bytes : AllBytes (headerBytes h)
   header-bytes =
       let s = t .sum in
       (omega arith, (omega arith, bytes-append (h .metadata) (h .level ∷ []) (bytes-all (h .metadata) (t .metadataBytes)) (t .level, tt)))
 
-  in-image : (n o : ℕ) → AllBytes (take n (drop o bytes))
-  in-image n o = bytes-take n (drop o bytes) (bytes-drop o bytes (bytes-all bytes (t .imageBytes)))
+  located-bytes : (l : Location) → AllBytes (locationBytes g bytes (headerBytes h) l)
+  located-bytes InFlash = bytes-take (flashSize g) bytes (bytes-all bytes (t .imageBytes))
+  located-bytes InProtection = bytes-drop (flashSize g) bytes (bytes-all bytes (t .imageBytes))
+  located-bytes InHeader = header-bytes
 
-  in-header : (n o : ℕ) → AllBytes (take n (drop o (headerBytes h)))
-  in-header n o = bytes-take n (drop o (headerBytes h)) (bytes-drop o (headerBytes h) header-bytes)
+  section-bytes : (s : Section) → AllBytes (f s)
+  section-bytes s =
+      bytes-take (s .size) (drop (s .offset) (locationBytes g bytes (headerBytes h) (s .location)))
+      (bytes-drop (s .offset) (locationBytes g bytes (headerBytes h) (s .location)) (located-bytes (s .location)))
+
+  abbrev nth : ℕ → Section
+  nth k = getD (sectionsOf g) k noSection
 
   aligned : Aligned f (sectionsOf g)
   aligned =
@@ -102,12 +113,12 @@ module _ {g : Geometry} {h : Header} {bytes : List ℕ} (found : lookupOf (h .pa
       let b = sized .sizes .locks-most in (
         omega arith,
         omega arith,
-        in-image (flashSize g) 0,
+        section-bytes (nth 0),
         (
           omega arith,
           omega arith,
-          in-header 2 0,
-          (omega arith, omega arith, in-image (lockTotal g) (flashSize g), (omega arith, omega arith, in-header 12 2, (omega arith, omega arith, in-header 1 14, tt))),
+          section-bytes (nth 1),
+          (omega arith, omega arith, section-bytes (nth 2), (omega arith, omega arith, section-bytes (nth 3), (omega arith, omega arith, section-bytes (nth 4), tt))),
         ),
       )
 
@@ -115,14 +126,21 @@ module _ {g : Geometry} {h : Header} {bytes : List ℕ} (found : lookupOf (h .pa
   unfolding textOf
   content = placed f (sectionsOf g) _ filled (text-says (pieces f (sectionsOf g)) (pieces-fit f (sectionsOf g) filled aligned))
 
-  image-is : gathered InImage (sectionsOf g) (joined f (sectionsOf g)) ≡ bytes
-  unfolding imageSize
-  image-is = gathered-joined InImage f (sectionsOf g) filled ∙ two-parts bytes (flashSize g) (lockTotal g) exact
+  flash-is : gathered InFlash (sectionsOf g) (joined f (sectionsOf g)) ≡ flashIn g bytes
+  flash-is = gathered-joined InFlash f (sectionsOf g) filled ∙ one-part (flashIn g bytes) (flashSize g) (location-length g bytes (headerBytes h) InFlash exact header-length)
+
+  protection-is : gathered InProtection (sectionsOf g) (joined f (sectionsOf g)) ≡ protectionIn g bytes
+  protection-is =
+      gathered-joined InProtection f (sectionsOf g) filled
+      ∙ one-part (protectionIn g bytes) (lockTotal g) (location-length g bytes (headerBytes h) InProtection exact header-length)
+
+  image-is : imageIn g (joined f (sectionsOf g)) ≡ bytes
+  image-is = rw (flash-is, protection-is) (take-append-drop (flashSize g) bytes)
 
   header-is : gathered InHeader (sectionsOf g) (joined f (sectionsOf g)) ≡ headerBytes h
   header-is =
       gathered-joined InHeader f (sectionsOf g) filled
-      ∙ three-parts (headerBytes h) (omega (arith, length-append (h .metadata) (h .level ∷ []), t .metadata))
+      ∙ three-parts (headerBytes h) header-length
 
   pub reads-back : (room : ℕ) → imageFault h bytes ≡ 0 → length bytes ≤ room → Takes (h .part) (h .macros) (textOf g h bytes) room h bytes
   reads-back room none fits =

@@ -10,14 +10,21 @@ use lib.ListN.{length, take, drop, length-drop, length-take, drop-of-length-le}
 use lib.Seq.{sets, take-all, drop-drop}
 use Rattle.hex.specs.Written.{linesFrom}
 use Rattle.hex_writer.specs.Lines.{onePiece, positionAfter}
-use Rattle.hex_writer.specs.Sized.{Laid}
+use Rattle.hex_writer.specs.Sized.{Laid, piecesOf}
 use Rattle.hex_writer.specs.declared.Position.{Position}
 use Rattle.hex_writer.proofs.Lines as lines
-use Rattle.image.specs.Sections.{locationBytes, sectionBytes, headerBytes}
+use Rattle.image.specs.Sections.{locationBytes, headerBytes}
 use Rattle.image.specs.declared.Header.{Header}
-use Rattle.image.specs.declared.Location.the-variants.{InImage, InHeader}
+use Rattle.image.specs.declared.Location.the-variants.{InFlash, InProtection, InHeader}
 use Rattle.image.specs.declared.Section.{Section}
+use Rattle.parts.specs.Sizes.{flashSize}
+use Rattle.parts.specs.declared.Geometry.{Geometry}
+use Rattle.text.proofs.Storing.{tail-part}
 use Rattle.text.specs.Placing.{Piece, cut, piecesIn}
+
+-- some pieces were put, from a position on
+abbrev pub Put : (text : List ℕ) → Position → (pieces : List Piece) (text′ : List ℕ) → Position → Type 0
+Put text w ps text′ w′ = (w′ ≡ positionAfter w ps) × (text′ ≡ sets text (w .at) (linesFrom (w .upper) ps))
 
 -- the first piece, and the rest
 pub cut-turn : (n a : ℕ) (bs : List ℕ) → 0 < n → cut n a bs ≡ onePiece a (take 64 bs) ++ cut (n - 1) (a + 64) (drop 64 bs)
@@ -89,39 +96,44 @@ module _ {text₀ : List ℕ} {w₀ : Position} {address : ℕ} {bytes text : Li
   pub ended : left ≡ 0 → (w ≡ positionAfter w₀ (cut ((length bytes + 63) / 64) address bytes)) × (text ≡ sets text₀ (w₀ .at) (linesFrom (w₀ .upper) (cut ((length bytes + 63) / 64) address bytes)))
   ended e = lines.ended (v .going) (cut-none left a (drop from bytes) e)
 
--- a section's bytes, as they are lent
-module _ (h : Header) (bytes : List ℕ) (s : Section) (laid : Laid h bytes s) (location : List ℕ) (e : locationBytes (s .location) h bytes ≡ location) where
+-- a section's bytes, lent out of those of its location
+module _ (part : List ℕ) (s : Section) (laid : Laid part s) where
   abbrev lent : List ℕ
-  lent = take (s .offset + s .size - s .offset) (drop (s .offset) location)
+  lent = take (s .offset + s .size - s .offset) (drop (s .offset) part)
 
-  pub part-inside : s .offset + s .size ≤ length location
-  part-inside = omega (arith, laid .inside, ap length e)
+  lent-size : length lent ≡ s .size
+  lent-size = omega (arith, length-take (s .offset + s .size - s .offset) (drop (s .offset) part), length-drop (s .offset) part, laid .inside)
 
-  part-is : lent ≡ sectionBytes h bytes s
-  part-is =
+  cuts : cut ((length lent + 63) / 64) (s .address) lent ≡ piecesOf part s
+  cuts =
       let n : s .offset + s .size - s .offset ≡ s .size = omega arith in
-      ap (λ (k : ℕ). take k (drop (s .offset) location)) n ∙ ap (λ (l : List ℕ). take (s .size) (drop (s .offset) l)) (sym e)
-
-  part-size : length lent ≡ s .size
-  part-size = omega (arith, length-take (s .offset + s .size - s .offset) (drop (s .offset) location), length-drop (s .offset) location, part-inside)
-
-  cuts : cut ((length lent + 63) / 64) (s .address) lent ≡ cut (piecesIn s) (s .address) (sectionBytes h bytes s)
-  cuts = ap (λ (n : ℕ). cut ((n + 63) / 64) (s .address) lent) part-size ∙ ap (cut (piecesIn s) (s .address)) part-is
+      ap (λ (k : ℕ). cut ((k + 63) / 64) (s .address) lent) lent-size
+      ∙ ap (λ (k : ℕ). cut (piecesIn s) (s .address) (take k (drop (s .offset) part))) n
 
   module _ (text : List ℕ) (w : Position) where
-    abbrev Put : (pieces : List Piece) (text′ : List ℕ) (w′ : Position) → Type 0
-    Put ps text′ w′ = (w′ ≡ positionAfter w ps) × (text′ ≡ sets text (w .at) (linesFrom (w .upper) ps))
-
-    pub section-asks : positionAfter w (cut (piecesIn s) (s .address) (sectionBytes h bytes s)) .at ≤ length text
+    pub section-asks : positionAfter w (piecesOf part s) .at ≤ length text
         → (s .address + length lent + 64 ≤ 4294967296) × (positionAfter w (cut ((length lent + 63) / 64) (s .address) lent) .at ≤ length text)
-    section-asks room = (omega (arith, part-size, laid .high), rw cuts room)
+    section-asks room = (omega (arith, lent-size, laid .high), rw cuts room)
 
-    pub section-put : (text′ : List ℕ) (w′ : Position) → Put (cut ((length lent + 63) / 64) (s .address) lent) text′ w′
-        → Put (cut (piecesIn s) (s .address) (sectionBytes h bytes s)) text′ w′
+    pub section-put : (text′ : List ℕ) (w′ : Position) → Put text w (cut ((length lent + 63) / 64) (s .address) lent) text′ w′
+        → Put text w (piecesOf part s) text′ w′
     section-put text′ w′ p = rw cuts at p
 
-pub in-image : (h : Header) (bytes : List ℕ) (s : Section) → s .location ≡ InImage → locationBytes (s .location) h bytes ≡ bytes
-in-image h bytes s e = rw e
+-- the bytes of a section's location, as they are lent
+module _ (g : Geometry) (image header : List ℕ) (s : Section) (flash : ℕ) (is : flash ≡ flashSize g) where
+  pub in-flash : s .location ≡ InFlash → take flash image ≡ locationBytes g image header (s .location)
+  in-flash e = rw (e, is)
 
-pub in-header : (h : Header) (bytes : List ℕ) (s : Section) (l : List ℕ) → s .location ≡ InHeader → l ≡ headerBytes h → locationBytes (s .location) h bytes ≡ l
-in-header h bytes s l e d = rw e (sym d)
+  pub in-protection : s .location ≡ InProtection → take (length image - flash) (drop flash image) ≡ locationBytes g image header (s .location)
+  in-protection e = tail-part image flash ∙ rw (e, is)
+
+pub in-header : (g : Geometry) (image header : List ℕ) (h : Header) (s : Section) → s .location ≡ InHeader → header ≡ headerBytes h
+    → header ≡ locationBytes g image (headerBytes h) (s .location)
+in-header g image header h s e d = rw e d
+
+module _ (part located : List ℕ) (e : part ≡ located) (s : Section) (text : List ℕ) (w : Position) where
+  pub located-asks : Laid located s → positionAfter w (piecesOf located s) .at ≤ length text → Laid part s × (positionAfter w (piecesOf part s) .at ≤ length text)
+  located-asks l r = (rw e l, rw e r)
+
+  pub located-put : (text′ : List ℕ) (w′ : Position) → Put text w (piecesOf part s) text′ w′ → Put text w (piecesOf located s) text′ w′
+  located-put text′ w′ p = rw e at p

@@ -11,10 +11,13 @@ use Rattle.hex_writer.specs.Lines.{positionAfter}
 use Rattle.hex_writer.specs.Sized.{Sized, Laid}
 use Rattle.hex_writer.specs.declared.Position.{Position}
 use Rattle.hex_writer.proofs.Lines as lines
-use Rattle.image.specs.Sections.{sectionsOf, noSection, sectionBytes, headerBytes}
+use Rattle.image.proofs.Sections.{locationSize, location-length}
+use Rattle.image.specs.Sections.{sectionsOf, noSection, sectionBytes, locationBytes, headerBytes}
 use Rattle.image.specs.declared.Header.{Header}
+use Rattle.image.specs.declared.Location.{Location}
+use Rattle.image.specs.declared.Location.the-variants.{InFlash, InProtection, InHeader}
 use Rattle.image.specs.declared.Section.{Section}
-use Rattle.parts.specs.Sizes.{imageSize}
+use Rattle.parts.specs.Sizes.{flashSize, imageSize}
 use Rattle.parts.specs.declared.Geometry.{Geometry}
 use Rattle.text.proofs.Storing.{sets-append}
 use Rattle.text.specs.Placing.{Piece, cut, piecesIn, pieces, overall}
@@ -38,7 +41,7 @@ pieces-none f ss k h = ap (pieces f) (drop-of-length-le ss {i = k} h)
 pub small-at : (g : Geometry) → TableSizes g → (k : ℕ) → k < 5 → getD (sectionsOf g) k noSection .offset + getD (sectionsOf g) k noSection .size ≤ 33554432
 small-at g z zero i = omega (arith, z .flash-most)
 small-at g z (suc zero) i = omega arith
-small-at g z (suc (suc zero)) i = omega (arith, z .flash-most, z .locks-most)
+small-at g z (suc (suc zero)) i = omega (arith, z .locks-most)
 small-at g z (suc (suc (suc zero))) i = omega arith
 small-at g z (suc (suc (suc (suc zero)))) i = omega arith
 small-at g z (suc (suc (suc (suc (suc k))))) i = absurd (omega arith)
@@ -47,44 +50,51 @@ module _ {g : Geometry} {h : Header} {bytes : List ℕ} (z : Sized g h bytes) wh
   header-size : length (headerBytes h) ≡ 15
   header-size = omega (arith, length-append (h .metadata) (h .level ∷ []), z .metadata)
 
-  pub laid-at : (k : ℕ) → k < 5 → Laid h bytes (getD (sectionsOf g) k noSection)
-  unfolding imageSize
-  laid-at zero i = record { some = z .sizes .flash-some; small = small-at g (z .sizes) 0 i; high = omega (arith, z .sizes .flash-most); inside = omega (arith, z .exact) }
-  laid-at (suc zero) i = record { some = omega arith; small = small-at g (z .sizes) 1 i; high = omega arith; inside = omega (arith, header-size) }
-  laid-at (suc (suc zero)) i = record { some = z .sizes .locks-some; small = small-at g (z .sizes) 2 i; high = omega (arith, z .sizes .locks-most); inside = omega (arith, z .exact) }
-  laid-at (suc (suc (suc zero))) i = record { some = omega arith; small = small-at g (z .sizes) 3 i; high = omega arith; inside = omega (arith, header-size) }
-  laid-at (suc (suc (suc (suc zero)))) i = record { some = omega arith; small = small-at g (z .sizes) 4 i; high = omega arith; inside = omega (arith, header-size) }
+  room-at : (l : Location) → length (locationBytes g bytes (headerBytes h) l) ≡ locationSize g l
+  room-at l = location-length g bytes (headerBytes h) l (z .exact) header-size
+
+  pub laid-at : (k : ℕ) → k < 5 → Laid (locationBytes g bytes (headerBytes h) (getD (sectionsOf g) k noSection .location)) (getD (sectionsOf g) k noSection)
+  laid-at zero i = record { some = z .sizes .flash-some; small = small-at g (z .sizes) 0 i; high = omega (arith, z .sizes .flash-most); inside = omega (arith, room-at InFlash) }
+  laid-at (suc zero) i = record { some = omega arith; small = small-at g (z .sizes) 1 i; high = omega arith; inside = omega (arith, room-at InHeader) }
+  laid-at (suc (suc zero)) i = record { some = z .sizes .locks-some; small = small-at g (z .sizes) 2 i; high = omega (arith, z .sizes .locks-most); inside = omega (arith, room-at InProtection) }
+  laid-at (suc (suc (suc zero))) i = record { some = omega arith; small = small-at g (z .sizes) 3 i; high = omega arith; inside = omega (arith, room-at InHeader) }
+  laid-at (suc (suc (suc (suc zero)))) i = record { some = omega arith; small = small-at g (z .sizes) 4 i; high = omega arith; inside = omega (arith, room-at InHeader) }
   laid-at (suc (suc (suc (suc (suc k))))) i = absurd (omega arith)
+
+  flash-inside : flashSize g ≤ length bytes
+  unfolding imageSize
+  flash-inside = omega (arith, z .exact)
 
 -- how far the loop over the sections has come
 pub record Through (text₀ : List ℕ) (w₀ : Position) (g : Geometry) (h : Header) (bytes text : List ℕ) (w : Position) (k : ℕ) : Type 0 where
   pub sized : Sized g h bytes
-  pub going : lines.Going text₀ w₀ (pieces (sectionBytes h bytes) (sectionsOf g)) text w (pieces (sectionBytes h bytes) (drop k (sectionsOf g)))
+  pub going : lines.Going text₀ w₀ (pieces (sectionBytes g h bytes) (sectionsOf g)) text w (pieces (sectionBytes g h bytes) (drop k (sectionsOf g)))
 
 pub start : (text : List ℕ) (w : Position) (g : Geometry) (h : Header) (bytes : List ℕ) → Sized g h bytes
-    → positionAfter w (pieces (sectionBytes h bytes) (sectionsOf g)) .at ≤ length text
+    → positionAfter w (pieces (sectionBytes g h bytes) (sectionsOf g)) .at ≤ length text
     → Through text w g h bytes text w 0
 start text w g h bytes z r = record { sized = z; going = lines.start text w _ r }
 
 module _ {text₀ : List ℕ} {w₀ : Position} {g : Geometry} {h : Header} {bytes text : List ℕ} {w : Position} {k : ℕ} (v : Through text₀ w₀ g h bytes text w k) where
   module _ (some : k < 5) (s : Section) (is : s ≡ getD (sectionsOf g) k noSection) where
-    first : pieces (sectionBytes h bytes) (drop k (sectionsOf g))
-        ≡ cut (piecesIn s) (s .address) (sectionBytes h bytes s) ++ pieces (sectionBytes h bytes) (drop (k + 1) (sectionsOf g))
-    first = rw is (pieces-turn (sectionBytes h bytes) (sectionsOf g) k noSection some)
+    first : pieces (sectionBytes g h bytes) (drop k (sectionsOf g))
+        ≡ cut (piecesIn s) (s .address) (sectionBytes g h bytes s) ++ pieces (sectionBytes g h bytes) (drop (k + 1) (sectionsOf g))
+    first = rw is (pieces-turn (sectionBytes g h bytes) (sectionsOf g) k noSection some)
 
-    pub asks : Laid h bytes s × (positionAfter w (cut (piecesIn s) (s .address) (sectionBytes h bytes s)) .at ≤ length text)
-    asks = (rw is (laid-at (v .sized) k some), lines.fits (v .going) _ _ first)
+    pub asks : ((flashSize g ≤ length bytes) × Laid (locationBytes g bytes (headerBytes h) (s .location)) s)
+        × (positionAfter w (cut (piecesIn s) (s .address) (sectionBytes g h bytes s)) .at ≤ length text)
+    asks = ((flash-inside (v .sized), rw is (laid-at (v .sized) k some)), lines.fits (v .going) _ _ first)
 
     pub turn : (text′ : List ℕ) (w′ : Position)
-        → w′ ≡ positionAfter w (cut (piecesIn s) (s .address) (sectionBytes h bytes s))
-        → text′ ≡ sets text (w .at) (linesFrom (w .upper) (cut (piecesIn s) (s .address) (sectionBytes h bytes s)))
+        → w′ ≡ positionAfter w (cut (piecesIn s) (s .address) (sectionBytes g h bytes s))
+        → text′ ≡ sets text (w .at) (linesFrom (w .upper) (cut (piecesIn s) (s .address) (sectionBytes g h bytes s)))
         → Through text₀ w₀ g h bytes text′ w′ (k + 1)
     turn text′ w′ ew et = record { sized = v .sized; going = lines.turn (v .going) _ _ first text′ w′ ew et }
 
   pub ended : 5 ≤ k
-      → (w ≡ positionAfter w₀ (pieces (sectionBytes h bytes) (sectionsOf g)))
-      × (text ≡ sets text₀ (w₀ .at) (linesFrom (w₀ .upper) (pieces (sectionBytes h bytes) (sectionsOf g))))
-  ended i = lines.ended (v .going) (pieces-none (sectionBytes h bytes) (sectionsOf g) k i)
+      → (w ≡ positionAfter w₀ (pieces (sectionBytes g h bytes) (sectionsOf g)))
+      × (text ≡ sets text₀ (w₀ .at) (linesFrom (w₀ .upper) (pieces (sectionBytes g h bytes) (sectionsOf g))))
+  ended i = lines.ended (v .going) (pieces-none (sectionBytes g h bytes) (sectionsOf g) k i)
 
 -- the lengths of all sections' lines
 pub overall-lines : (ss : List Section) → 17 * overall uppersIn ss + 13 * overall piecesIn ss + 2 * overall (λ s. s .size) ss ≡ overall linesLength ss
@@ -135,7 +145,7 @@ module _ {g : Geometry} {sum k : ℕ} (v : Measuring g sum k) where
 -- the text of an image, put part by part
 module _ (text : List ℕ) (g : Geometry) (h : Header) (bytes : List ℕ) where
   abbrev all : List Piece
-  all = pieces (sectionBytes h bytes) (sectionsOf g)
+  all = pieces (sectionBytes g h bytes) (sectionsOf g)
 
   abbrev begin : Position
   begin = record { at = 17; upper = 0 }

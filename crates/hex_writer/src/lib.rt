@@ -9,12 +9,13 @@ ghost use Rattle.text.specs.Digits.{capital as capitalOf, pairsOf};
 ghost use Rattle.hex.specs.Steps.{TableSizes};
 ghost use Rattle.hex.specs.Written.{lineText, dataLine, extendedLine, endLine, newUpper, linesFrom, textOf, textLength};
 ghost use Rattle.hex_writer.specs.Lines.{capitalsFrom, onePiece, positionAfter};
-ghost use Rattle.hex_writer.specs.Sized.{Sized, Laid};
+ghost use Rattle.hex_writer.specs.Sized.{Sized, Laid, piecesOf};
 ghost use Rattle.hex_writer.specs.Writing.{writeOf, textAfter};
-ghost use Rattle.image.specs.Sections.{sectionsOf, sectionBytes};
+ghost use Rattle.image.specs.Sections.{sectionsOf, headerBytes, locationBytes, sectionBytes};
 ghost use Rattle.parts.specs.Parts.{lookupOf};
+ghost use Rattle.parts.specs.Sizes.{flashSize};
 ghost use Rattle.parts.specs.declared.Lookup.the-variants.{Found};
-ghost use Rattle.text.specs.Placing.{piecesIn, cut, pieces};
+ghost use Rattle.text.specs.Placing.{cut, pieces};
 use image::Header;
 use image::Location;
 use image::Section;
@@ -161,22 +162,41 @@ fn put_section(text: &mut [u8], position: Position, address: u32, bytes: &[u8]) 
     w
 }
 
-// Puts the lines of a section, whose bytes lie in the image or in the header.
-fn put_located(text: &mut [u8], position: Position, s: Section, h: Header, bytes: &[u8]) -> Position
-    requires { ⌜ Laid h (now bytes) s ⌝ }
-    requires { ⌜ positionAfter position (cut (piecesIn s) (s .address) (sectionBytes h (now bytes) s)) .at ≤ length (now text) ⌝ }
-    ensures { λ r. ⌜ r ≡ positionAfter position (cut (piecesIn s) (s .address) (sectionBytes h (now (bytes .entry)) s)) ⌝ }
-    ensures { λ _. ⌜ now (text .exit) ≡ sets (now (text .entry)) (position .at) (linesFrom (position .upper) (cut (piecesIn s) (s .address) (sectionBytes h (now (bytes .entry)) s))) ⌝ }
+// Puts the lines of a section, out of the bytes of its location.
+fn put_part(text: &mut [u8], position: Position, s: Section, part: &[u8]) -> Position
+    requires { ⌜ Laid (now part) s ⌝ }
+    requires { ⌜ positionAfter position (piecesOf (now part) s) .at ≤ length (now text) ⌝ }
+    ensures { λ r. ⌜ r ≡ positionAfter position (piecesOf (now (part .entry)) s) ⌝ }
+    ensures { λ _. ⌜ now (text .exit) ≡ sets (now (text .entry)) (position .at) (linesFrom (position .upper) (piecesOf (now (part .entry)) s)) ⌝ }
 {
     let address = s.address;
-    let location = s.location;
     let from = s.offset;
     let end = from + s.size;
+    put_section(text, position, address, &part[from..end])
+}
+
+// Puts the lines of a section that lies in the flash, in the image's part after the flash, or in the header's bytes.
+fn put_located(
+    text: &mut [u8],
+    position: Position,
+    s: Section,
+    g: Geometry,
+    h: Header,
+    bytes: &[u8],
+) -> Position
+    requires { ⌜ (flashSize g ≤ length (now bytes)) × Laid (locationBytes g (now bytes) (headerBytes h) (s .location)) s ⌝ }
+    requires { ⌜ positionAfter position (piecesOf (locationBytes g (now bytes) (headerBytes h) (s .location)) s) .at ≤ length (now text) ⌝ }
+    ensures { λ r. ⌜ r ≡ positionAfter position (piecesOf (locationBytes g (now (bytes .entry)) (headerBytes h) (s .location)) s) ⌝ }
+    ensures { λ _. ⌜ now (text .exit) ≡ sets (now (text .entry)) (position .at) (linesFrom (position .upper) (piecesOf (locationBytes g (now (bytes .entry)) (headerBytes h) (s .location)) s)) ⌝ }
+{
+    let flash = parts::flash_size(g);
+    let location = s.location;
     match location {
-        Location::InImage => put_section(text, position, address, &bytes[from..end]),
+        Location::InFlash => put_part(text, position, s, &bytes[..flash]),
+        Location::InProtection => put_part(text, position, s, &bytes[flash..]),
         Location::InHeader => {
             let header = image::header_bytes(h);
-            put_section(text, position, address, &header[from..end])
+            put_part(text, position, s, &header)
         }
     }
 }
@@ -190,15 +210,15 @@ fn put_sections(
     bytes: &[u8],
 ) -> Position
     requires { ⌜ Sized g h (now bytes) ⌝ }
-    requires { ⌜ positionAfter position (pieces (sectionBytes h (now bytes)) (sectionsOf g)) .at ≤ length (now text) ⌝ }
-    ensures { λ r. ⌜ r ≡ positionAfter position (pieces (sectionBytes h (now (bytes .entry))) (sectionsOf g)) ⌝ }
-    ensures { λ _. ⌜ now (text .exit) ≡ sets (now (text .entry)) (position .at) (linesFrom (position .upper) (pieces (sectionBytes h (now (bytes .entry))) (sectionsOf g))) ⌝ }
+    requires { ⌜ positionAfter position (pieces (sectionBytes g h (now bytes)) (sectionsOf g)) .at ≤ length (now text) ⌝ }
+    ensures { λ r. ⌜ r ≡ positionAfter position (pieces (sectionBytes g h (now (bytes .entry))) (sectionsOf g)) ⌝ }
+    ensures { λ _. ⌜ now (text .exit) ≡ sets (now (text .entry)) (position .at) (linesFrom (position .upper) (pieces (sectionBytes g h (now (bytes .entry))) (sectionsOf g))) ⌝ }
 {
     let mut w = position;
     let mut k: usize = 0;
     while k < 5 {
         let s = image::section_at(g, k);
-        w = put_located(text, w, s, h, bytes);
+        w = put_located(text, w, s, g, h, bytes);
         k += 1;
     }
     w
@@ -209,7 +229,7 @@ fn put_end(text: &mut [u8], at: usize)
     requires { ⌜ at + 13 ≤ length (now text) ⌝ }
     ensures { λ _. ⌜ now (text .exit) ≡ sets (now (text .entry)) at endLine ⌝ }
 {
-    text::store(text, at, b":00000001FF\r\n", 0, 13);
+    text::fill(text, at, b":00000001FF\r\n", 0, 13);
 }
 
 // The length of a section's lines.

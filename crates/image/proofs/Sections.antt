@@ -3,9 +3,14 @@ use mathlib.Core.List.{List, [], _∷_}
 use mathlib.Core.Path.{_≡_, refl, ap, _∙_}
 use Prim.Native.Nat.{ℕ, zero, suc, _+_, _≤_, _<_}
 use native.Mathlib.Omega.{arith}
-use lib.ListN.{length, getD, take, drop}
-use lib.Seq.{drop-cons, take-all}
+use lib.ListN.{length, getD, take, drop, length-drop}
+use lib.Seq.{drop-cons, take-all, length-take-le}
+use Rattle.image.specs.Sections.{locationBytes}
 use Rattle.image.specs.declared.Header.{Header}
+use Rattle.image.specs.declared.Location.{Location}
+use Rattle.image.specs.declared.Location.the-variants.{InFlash, InProtection, InHeader}
+use Rattle.parts.specs.Sizes.{flashSize, lockTotal, imageSize}
+use Rattle.parts.specs.declared.Geometry.{Geometry}
 
 -- n elements from i on, one by one
 abbrev pub spread : (i n : ℕ) → List ℕ → List ℕ
@@ -24,3 +29,16 @@ spread-all n l e = spread-part 0 n l (omega arith) ∙ take-all n l (omega arith
 -- a header of its fields
 abbrev pub headerWith : (part macros sum : ℕ) → List ℕ → (level : ℕ) → Header
 headerWith p m s d l = record { part = p; macros = m; sum = s; metadata = d; level = l }
+
+-- how many bytes each location of an image has
+abbrev pub locationSize : Geometry → Location → ℕ
+locationSize g InFlash = flashSize g
+locationSize g InProtection = lockTotal g
+locationSize g InHeader = 15
+
+pub location-length : (g : Geometry) (image header : List ℕ) (l : Location) → length image ≡ imageSize g → length header ≡ 15
+    → length (locationBytes g image header l) ≡ locationSize g l
+unfolding imageSize
+location-length g image header InFlash a b = length-take-le (flashSize g) image (omega arith)
+location-length g image header InProtection a b = omega (arith, length-drop (flashSize g) image)
+location-length g image header InHeader a b = b

@@ -2,9 +2,10 @@
 use mathlib.Core.List.{List, [], _∷_, _++_}
 use Prim.Native.Nat.{ℕ, _/_, _%_, _+_, _*_}
 use lib.ListN.{getD, take, drop}
+use Rattle.image.specs.Image.{flashIn, protectionIn}
 use Rattle.image.specs.declared.Header.{Header}
 use Rattle.image.specs.declared.Location.{Location}
-use Rattle.image.specs.declared.Location.the-variants.{InImage, InHeader}
+use Rattle.image.specs.declared.Location.the-variants.{InFlash, InProtection, InHeader}
 use Rattle.image.specs.declared.Section.{Section}
 use Rattle.parts.specs.Sizes.{flashSize, lockTotal}
 use Rattle.parts.specs.declared.Geometry.{Geometry}
@@ -13,16 +14,16 @@ use Rattle.parts.specs.declared.Geometry.{Geometry}
 -- 0x90600000', each with where its bytes lie
 abbrev pub sectionsOf : Geometry → List Section
 sectionsOf g =
-    record { address = 0; size = flashSize g; location = InImage; offset = 0 }
+    record { address = 0; size = flashSize g; location = InFlash; offset = 0 }
     ∷ record { address = 0x90300000; size = 2; location = InHeader; offset = 0 }
-    ∷ record { address = 0x90400000; size = lockTotal g; location = InImage; offset = flashSize g }
+    ∷ record { address = 0x90400000; size = lockTotal g; location = InProtection; offset = 0 }
     ∷ record { address = 0x90500000; size = 12; location = InHeader; offset = 2 }
     ∷ record { address = 0x90600000; size = 1; location = InHeader; offset = 14 }
     ∷ []
 
 -- past the last section
 abbrev pub noSection : Section
-noSection = record { address = 0; size = 0; location = InImage; offset = 0 }
+noSection = record { address = 0; size = 0; location = InFlash; offset = 0 }
 
 -- what a text says of a header: the sum, high byte first, the metadata and the level
 abbrev pub headerBytes : Header → List ℕ
@@ -38,10 +39,12 @@ headerOf part macros bs = record {
   level = getD bs 14 0;
 }
 
--- the bytes of a section
-abbrev pub locationBytes : Location → Header → List ℕ → List ℕ
-locationBytes InImage h bytes = bytes
-locationBytes InHeader h bytes = headerBytes h
+-- the bytes of a location, out of an image's bytes and a header's; 'The protection bytes (N / 8) follow the flash bytes (N × L) in it.'
+abbrev pub locationBytes : Geometry → (image header : List ℕ) → Location → List ℕ
+locationBytes g image header InFlash = flashIn g image
+locationBytes g image header InProtection = protectionIn g image
+locationBytes g image header InHeader = header
 
-abbrev pub sectionBytes : Header → List ℕ → Section → List ℕ
-sectionBytes h bytes s = take (s .size) (drop (s .offset) (locationBytes (s .location) h bytes))
+-- the bytes of a section
+abbrev pub sectionBytes : Geometry → Header → (image : List ℕ) → Section → List ℕ
+sectionBytes g h image s = take (s .size) (drop (s .offset) (locationBytes g image (headerBytes h) (s .location)))

@@ -32,9 +32,10 @@ pub struct Header {
     pub level: u8,
 }
 
-// Where the bytes of a section lie: in the lent image, or in the header's bytes.
+// Where the bytes of a section lie: in the image's flash, in the image's part after the flash, or in the header's bytes.
 pub enum Location {
-    InImage,
+    InFlash,
+    InProtection,
     InHeader,
 }
 
@@ -194,14 +195,15 @@ pub fn check(h: Header, bytes: &[u8]) -> u8
     }
 }
 
-fn in_image(address: u32, size: usize, offset: usize) -> Section
-    ensures { λ s. ⌜ s ≡ record { address = address; size = size; location = Location.InImage; offset = offset } ⌝ }
+// A section that is a whole part of the image.
+fn whole_of(location: Location, address: u32, size: usize) -> Section
+    ensures { λ s. ⌜ s ≡ record { address = address; size = size; location = location; offset = 0 } ⌝ }
 {
     Section {
         address: address,
         size: size,
-        location: Location::InImage,
-        offset: offset,
+        location: location,
+        offset: 0,
     }
 }
 
@@ -220,14 +222,13 @@ fn in_header(address: u32, size: usize, offset: usize) -> Section
 pub fn section_at(g: Geometry, k: usize) -> Section
     ensures { λ s. ⌜ s ≡ getD (sectionsOf g) k noSection ⌝ }
 {
-    let flash = parts::flash_size(g);
     match k {
-        0 => in_image(0, flash, 0),
+        0 => whole_of(Location::InFlash, 0, parts::flash_size(g)),
         1 => in_header(0x90300000, 2, 0),
-        2 => in_image(0x90400000, parts::lock_total(g), flash),
+        2 => whole_of(Location::InProtection, 0x90400000, parts::lock_total(g)),
         3 => in_header(0x90500000, 12, 2),
         4 => in_header(0x90600000, 1, 14),
-        _ => in_image(0, 0, 0),
+        _ => whole_of(Location::InFlash, 0, 0),
     }
 }
 

@@ -7,9 +7,13 @@ use native.Mathlib.Omega.{arith}
 use borrow.Author.Tests.{le-leb, eq-eqb, ne-eqb}
 use lib.ListN.{length, take, drop, length-drop, take-append-drop}
 use lib.Seq.{take-all, length-take-le, take-at, drop-at}
-use Rattle.image.specs.declared.Section.{Section}
+use Rattle.image.specs.Sections.{sectionsOf}
 use Rattle.image.specs.declared.Location.{Location}
+use Rattle.image.specs.declared.Location.the-variants.{InFlash, InProtection}
+use Rattle.image.specs.declared.Section.{Section}
+use Rattle.parts.specs.declared.Geometry.{Geometry}
 use Rattle.text.specs.Placing.{Event, Bad, Other, Data, End, Content, Refusal, Stream, prepend, restOf, fits, dueAfter, placing, sameLocation, gathered, Piece, cut, piecesIn, pieces}
+use Rattle.text.specs.Reading.{imageIn}
 use Rattle.text.proofs.Capitals.{AllBytes, bytes-append, bytes-take, bytes-drop}
 use Rattle.text.proofs.Placing.{no-content, prepend-stream, prepend-append}
 
@@ -156,3 +160,8 @@ gathered-bytes h (s ∷ ss) stream a = bytes-append (cond (sameLocation h (s .lo
     go : (b : Bool) → AllBytes (cond b (take (s .size) stream) [])
     go true = bytes-take (s .size) stream a
     go false = tt
+
+pub image-bytes : (g : Geometry) (stream : List ℕ) → AllBytes stream → AllBytes (imageIn g stream)
+image-bytes g stream a =
+    bytes-append (gathered InFlash (sectionsOf g) stream) (gathered InProtection (sectionsOf g) stream) (gathered-bytes InFlash (sectionsOf g) stream a)
+    (gathered-bytes InProtection (sectionsOf g) stream a)

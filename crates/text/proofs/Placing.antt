@@ -9,14 +9,16 @@ use borrow.Author.Tests.{eqb-true, leb-true}
 use lib.Dec.{eqb, leb}
 use lib.ListN.{length, take, drop, length-append, length-drop}
 use lib.Seq.{sets, sets-eq, drop-length, take-at, drop-at, take-append-add, drop-append-add, length-take-le}
+use Rattle.image.proofs.Sections.{locationSize}
 use Rattle.image.specs.Sections.{sectionsOf}
 use Rattle.image.specs.declared.Location.{Location}
-use Rattle.image.specs.declared.Location.the-variants.{InImage, InHeader}
+use Rattle.image.specs.declared.Location.the-variants.{InFlash, InProtection, InHeader}
 use Rattle.image.specs.declared.Section.{Section}
 use Rattle.parts.specs.Sizes.{flashSize, lockTotal, imageSize}
 use Rattle.parts.specs.declared.Geometry.{Geometry}
 use Rattle.text.specs.Placing.{Event, Bad, Other, Data, End, Content, Refusal, Stream, prepend, restOf, dueAfter, placing, sameLocation, gathered, overall}
-use Rattle.text.specs.Storing.{storedAt, filledWith, laid}
+use Rattle.text.specs.Reading.{imageIn}
+use Rattle.text.specs.Storing.{storedAt}
 use Rattle.text.proofs.Storing.{sets-past, sets-append, stored}
 
 -- Taken: each byte of each section once.
@@ -70,48 +72,60 @@ prepend-append a b (Stream g) = ap Stream (sym (append-assoc a b g))
 
 -- Bytes that go into the section that is due.
 
-module _ (h : Location) (s : Section) (ss : List Section) (bs r dst : List ℕ) (h-le : length bs ≤ s .size) where
-  abbrev put : List ℕ
-  put = cond (sameLocation h (s .location)) (sets dst (s .offset) bs) dst
+-- the bytes of a location after all bytes of the sections went into it
+unfoldable pub laid : Location → List Section → (stream part : List ℕ) → List ℕ
+laid l [] stream part = part
+laid l (s ∷ ss) stream part =
+    laid l ss (drop (s .size) stream) (cond (sameLocation l (s .location)) (sets part (s .offset) (take (s .size) stream)) part)
 
-  whole : length bs ≡ s .size → laid h (s ∷ ss) (bs ++ r) dst ≡ laid h ss r put
+module _ (l : Location) (s : Section) (ss : List Section) (bs r part : List ℕ) (h-le : length bs ≤ s .size) where
+  abbrev put : List ℕ
+  put = cond (sameLocation l (s .location)) (sets part (s .offset) bs) part
+
+  whole : length bs ≡ s .size → laid l (s ∷ ss) (bs ++ r) part ≡ laid l ss r put
   unfolding laid
   whole e = rw (take-at bs r (s .size) e, drop-at bs r (s .size) e)
 
   twice : (b : Bool) (n m : ℕ) (ws : List ℕ) → n ≡ length bs
-      → cond b (sets dst m (bs ++ ws)) dst ≡ cond b (sets (cond b (sets dst m bs) dst) (m + n) ws) (cond b (sets dst m bs) dst)
-  twice true n m ws e = sets-append dst m bs ws ∙ ap (λ (k : ℕ). sets (sets dst m bs) (m + k) ws) (sym e)
+      → cond b (sets part m (bs ++ ws)) part ≡ cond b (sets (cond b (sets part m bs) part) (m + n) ws) (cond b (sets part m bs) part)
+  twice true n m ws e = sets-append part m bs ws ∙ ap (λ (k : ℕ). sets (sets part m bs) (m + k) ws) (sym e)
   twice false n m ws e = refl
 
-  part : laid h (s ∷ ss) (bs ++ r) dst ≡ laid h (restOf (length bs) s ∷ ss) r put
+  rest : laid l (s ∷ ss) (bs ++ r) part ≡ laid l (restOf (length bs) s ∷ ss) r put
   unfolding laid
-  part =
+  rest =
       let e : s .size ≡ length bs + (s .size - length bs) = omega arith in
-      ap (λ (k : ℕ). laid h ss (drop k (bs ++ r)) (cond (sameLocation h (s .location)) (sets dst (s .offset) (take k (bs ++ r))) dst)) e
-      ∙ ap (λ (l : List ℕ). laid h ss l (cond (sameLocation h (s .location)) (sets dst (s .offset) (take (length bs + (s .size - length bs)) (bs ++ r))) dst)) (drop-append-add bs r (s .size - length bs))
-      ∙ ap (λ (l : List ℕ). laid h ss (drop (s .size - length bs) r) (cond (sameLocation h (s .location)) (sets dst (s .offset) l) dst)) (take-append-add bs r (s .size - length bs))
-      ∙ ap (laid h ss (drop (s .size - length bs) r)) (twice (sameLocation h (s .location)) (length bs) (s .offset) (take (s .size - length bs) r) refl)
+      ap (λ (k : ℕ). laid l ss (drop k (bs ++ r)) (cond (sameLocation l (s .location)) (sets part (s .offset) (take k (bs ++ r))) part)) e
+      ∙ ap (λ (x : List ℕ). laid l ss x (cond (sameLocation l (s .location)) (sets part (s .offset) (take (length bs + (s .size - length bs)) (bs ++ r))) part)) (drop-append-add bs r (s .size - length bs))
+      ∙ ap (λ (x : List ℕ). laid l ss (drop (s .size - length bs) r) (cond (sameLocation l (s .location)) (sets part (s .offset) x) part)) (take-append-add bs r (s .size - length bs))
+      ∙ ap (laid l ss (drop (s .size - length bs) r)) (twice (sameLocation l (s .location)) (length bs) (s .offset) (take (s .size - length bs) r) refl)
 
-  pub laid-due-after : laid h (s ∷ ss) (bs ++ r) dst ≡ laid h (dueAfter (length bs) s ss) r put
+  pub laid-due-after : laid l (s ∷ ss) (bs ++ r) part ≡ laid l (dueAfter (length bs) s ss) r put
   unfolding dueAfter
   laid-due-after = go (eqb (length bs) (s .size)) refl
     where
-      go : (b : Bool) → eqb (length bs) (s .size) ≡ b → laid h (s ∷ ss) (bs ++ r) dst ≡ laid h (cond b ss (restOf (length bs) s ∷ ss)) r put
+      go : (b : Bool) → eqb (length bs) (s .size) ≡ b → laid l (s ∷ ss) (bs ++ r) part ≡ laid l (cond b ss (restOf (length bs) s ∷ ss)) r put
       go true q = whole (eqb-true (length bs) (s .size) q)
-      go false q = part
+      go false q = rest
 
 -- a store that has room
-pub filled-with : (h : Location) (dst : List ℕ) (s : Section) (row : List ℕ) (from n : ℕ) → from + n ≤ length row
-    → (sameLocation h (s .location) ≡ true → s .offset + n ≤ length dst)
-    → filledWith h dst s row from n ≡ cond (sameLocation h (s .location)) (sets dst (s .offset) (take n (drop from row))) dst
-unfolding filledWith
-filled-with h dst s row from n a b = go (sameLocation h (s .location)) refl
-  where
-    go : (t : Bool) → sameLocation h (s .location) ≡ t → cond t (storedAt dst (s .offset) row from n) dst ≡ cond t (sets dst (s .offset) (take n (drop from row))) dst
-    go true e = sym (stored dst (s .offset) row from n a (b e))
-    go false e = refl
+pub stored-in : (b : Bool) (part : List ℕ) (to : ℕ) (row : List ℕ) (from n : ℕ) → from + n ≤ length row → (b ≡ true → to + n ≤ length part)
+    → cond b (storedAt part to row from n) part ≡ cond b (sets part to (take n (drop from row))) part
+stored-in true part to row from n h i = sym (stored part to row from n h (i refl))
+stored-in false part to row from n h i = refl
 
--- The five sections laid into an image and a header are the bytes gathered for each.
+pub same-location : (l m : Location) → sameLocation l m ≡ true → l ≡ m
+same-location InFlash InFlash e = refl
+same-location InFlash InProtection e = absurd (false≢true e)
+same-location InFlash InHeader e = absurd (false≢true e)
+same-location InProtection InFlash e = absurd (false≢true e)
+same-location InProtection InProtection e = refl
+same-location InProtection InHeader e = absurd (false≢true e)
+same-location InHeader InFlash e = absurd (false≢true e)
+same-location InHeader InProtection e = absurd (false≢true e)
+same-location InHeader InHeader e = refl
+
+-- The five sections laid into the three locations are the bytes gathered for each.
 
 sets-front : (d vs : List ℕ) → length vs ≤ length d → sets d 0 vs ≡ vs ++ drop (length vs) d
 sets-front d vs h =
@@ -150,19 +164,7 @@ module _ (g : Geometry) (stream : List ℕ) (all : length stream ≡ overall siz
       let d = length-drop 12 r₃ in
       (omega arith, omega arith, omega arith, omega arith, omega arith)
 
-  pub laid-image : (image : List ℕ) → length image ≡ imageSize g → laid InImage (sectionsOf g) stream image ≡ gathered InImage (sectionsOf g) stream
-  unfolding laid gathered imageSize r₁ r₂ r₃ r₄
-  laid-image image h =
-      let z = sizes in
-      let a : length (take (flashSize g) stream) ≡ flashSize g = length-take-le (flashSize g) stream (z .4) in
-      let b : length (take (lockTotal g) r₂) ≡ lockTotal g = length-take-le (lockTotal g) r₂ (omega (arith, z .1)) in
-      ap (λ (l : List ℕ). sets l (flashSize g) (take (lockTotal g) r₂)) (sets-front image (take (flashSize g) stream) (omega arith))
-      ∙ sets-second (take (flashSize g) stream) (drop (length (take (flashSize g) stream)) image) (take (lockTotal g) r₂) (flashSize g) a
-      ∙ ap (λ (l : List ℕ). take (flashSize g) stream ++ l)
-      (sets-whole (drop (length (take (flashSize g) stream)) image) (take (lockTotal g) r₂) (omega (arith, length-drop (length (take (flashSize g) stream)) image))
-      ∙ sym (append-nil (take (lockTotal g) r₂)))
-
-  pub laid-header : (header : List ℕ) → length header ≡ 15 → laid InHeader (sectionsOf g) stream header ≡ gathered InHeader (sectionsOf g) stream
+  laid-header : (header : List ℕ) → length header ≡ 15 → laid InHeader (sectionsOf g) stream header ≡ gathered InHeader (sectionsOf g) stream
   unfolding laid gathered r₁ r₂ r₃ r₄
   laid-header header h =
       let z = sizes in
@@ -182,13 +184,24 @@ module _ (g : Geometry) (stream : List ℕ) (all : length stream ≡ overall siz
       ∙ sets-second (take 12 r₃) d₂ (take 1 r₄) 12 b
       ∙ ap (λ (l : List ℕ). take 12 r₃ ++ l) (sets-whole d₂ (take 1 r₄) (omega arith) ∙ sym (append-nil (take 1 r₄))))
 
-  pub image-length : length (gathered InImage (sectionsOf g) stream) ≡ imageSize g
-  unfolding gathered imageSize r₁ r₂ r₃ r₄
-  image-length =
-      let z = sizes in
-      let a : length (take (flashSize g) stream) ≡ flashSize g = length-take-le (flashSize g) stream (z .4) in
-      let b : length (take (lockTotal g) r₂) ≡ lockTotal g = length-take-le (lockTotal g) r₂ (omega (arith, z .1)) in
-      simp (length-append, append-nil) (omega arith)
+  -- a section that is its whole location
+  flash-length : length (take (flashSize g) stream) ≡ flashSize g
+  flash-length = let z = sizes in length-take-le (flashSize g) stream (z .4)
+
+  protection-length : length (take (lockTotal g) r₂) ≡ lockTotal g
+  protection-length = let z = sizes in length-take-le (lockTotal g) r₂ (omega (arith, z .1))
+
+  pub laid-in : (l : Location) (part : List ℕ) → length part ≡ locationSize g l → laid l (sectionsOf g) stream part ≡ gathered l (sectionsOf g) stream
+  unfolding laid gathered r₁ r₂
+  laid-in InFlash part h =
+      sets-whole part (take (flashSize g) stream) (flash-length ∙ sym h) ∙ sym (append-nil (take (flashSize g) stream))
+  laid-in InProtection part h =
+      sets-whole part (take (lockTotal g) r₂) (protection-length ∙ sym h) ∙ sym (append-nil (take (lockTotal g) r₂))
+  laid-in InHeader part h = laid-header part h
+
+  pub image-length : length (imageIn g stream) ≡ imageSize g
+  unfolding gathered imageSize r₁ r₂
+  image-length = let a = flash-length in let b = protection-length in simp (length-append, append-nil) (omega arith)
 
 -- Whatever follows records that are in place is 5.
 pub placing-followed : (es : List Event) (ds : List Section) (g : List ℕ) (f : Event) (fs : List Event) → placing ds es ≡ Stream g → placing ds (es ++ (f ∷ fs)) ≡ Refusal 5

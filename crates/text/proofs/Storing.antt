@@ -1,17 +1,15 @@
 -- Laws of storing runs of bytes. Assumes nothing.
 use mathlib.Core.Bool.{Bool, true, false, _&&_, cond}
 use mathlib.Core.List.{List, [], _∷_, _++_, append-nil}
-use mathlib.Core.Path.{_≡_, refl, sym, ap, _∙_}
+use mathlib.Core.Path.{_≡_, refl, ap, _∙_}
 use Prim.Native.Nat.{ℕ, zero, suc, _+_, _-_, _≤_, _<_}
 use native.Mathlib.Omega.{arith}
-use borrow.Author.Tests.{le-leb, lt-leb, leb-true, leb-false}
+use borrow.Author.Tests.{le-leb, lt-leb}
 use borrow.Rule.Slice.PartMut.{putMid}
 use lib.Dec.{leb}
-use lib.ListN.{length, getD, set, take, drop, replicate, length-drop, drop-of-length-le, take-append-drop}
-use lib.Seq.{sets, drop-cons, take-all, length-take-le}
-use Rattle.image.specs.declared.Location.the-variants.{InImage, InHeader}
-use Rattle.image.specs.declared.Section.{Section}
-use Rattle.text.specs.Storing.{storedAt, filledWith, cleared}
+use lib.ListN.{length, getD, set, take, drop, replicate, length-drop, drop-of-length-le}
+use lib.Seq.{sets, drop-cons, take-all, length-sets}
+use Rattle.text.specs.Storing.{storedAt, cleared}
 
 -- one turn of a copying loop that counts what is left
 pub copy-more : (d row : List ℕ) (j i k : ℕ) → 0 < k → i < length row
@@ -51,62 +49,26 @@ module _ (xs : List ℕ) (a : ℕ) where
   put-tail ys = rw (drop-of-length-le (drop a xs) {i = length xs - a} (omega (arith, length-drop a xs)), append-nil)
 
 -- n bytes of a row, put at an offset
-module _ (dst : List ℕ) (to : ℕ) (row : List ℕ) (from n : ℕ) where
-  pub row-short : length row < from + n → dst ≡ storedAt dst to row from n
+module _ (part : List ℕ) (to : ℕ) (row : List ℕ) (from n : ℕ) where
+  pub row-short : length row < from + n → part ≡ storedAt part to row from n
   unfolding storedAt
   row-short h = rw (lt-leb (from + n) (length row) h)
 
-  pub dst-short : from + n ≤ length row → length dst < to + n → dst ≡ storedAt dst to row from n
+  pub part-short : from + n ≤ length row → length part < to + n → part ≡ storedAt part to row from n
   unfolding storedAt
-  dst-short h i = rw (le-leb (from + n) (length row) h, lt-leb (to + n) (length dst) i)
+  part-short h i = rw (le-leb (from + n) (length row) h, lt-leb (to + n) (length part) i)
 
-  pub stored : from + n ≤ length row → to + n ≤ length dst → sets dst to (take n (drop from row)) ≡ storedAt dst to row from n
+  pub stored : from + n ≤ length row → to + n ≤ length part → sets part to (take n (drop from row)) ≡ storedAt part to row from n
   unfolding storedAt
-  stored h i = rw (le-leb (from + n) (length row) h, le-leb (to + n) (length dst) i)
+  stored h i = rw (le-leb (from + n) (length row) h, le-leb (to + n) (length part) i)
 
-  -- by its room, known or not
-  pub past : length dst < to → dst ≡ storedAt dst to row from n
+  pub stored-length : length (storedAt part to row from n) ≡ length part
   unfolding storedAt
-  past h = go (leb (from + n) (length row))
+  stored-length = go (leb (from + n) (length row) && leb (to + n) (length part))
     where
-      go : (b : Bool) → dst ≡ cond (b && leb (to + n) (length dst)) (sets dst to (take n (drop from row))) dst
-      go true = rw (lt-leb (to + n) (length dst) (omega arith))
+      go : (b : Bool) → length (cond b (sets part to (take n (drop from row))) part) ≡ length part
+      go true = length-sets part to (take n (drop from row))
       go false = refl
-
--- a store into the part of a list from a on
-module _ (xs : List ℕ) (a to : ℕ) (row : List ℕ) (from n : ℕ) (inside : a ≤ length xs) (behind : a ≤ to) where
-  same-room : leb (to - a + n) (length (drop a xs)) ≡ leb (to + n) (length xs)
-  same-room = go (leb (to + n) (length xs)) refl
-    where
-      go : (b : Bool) → leb (to + n) (length xs) ≡ b → leb (to - a + n) (length (drop a xs)) ≡ b
-      go true e = le-leb (to - a + n) (length (drop a xs)) (omega (arith, length-drop a xs, leb-true (to + n) (length xs) e))
-      go false e = lt-leb (to - a + n) (length (drop a xs)) (omega (arith, length-drop a xs, leb-false (to + n) (length xs) e))
-
-  glued : (b : Bool) (vs : List ℕ) → take a xs ++ cond b (sets (drop a xs) (to - a) vs) (drop a xs) ≡ cond b (sets xs to vs) xs
-  glued true vs =
-      sym (ap (λ (l : List ℕ). sets l to vs) (sym (take-append-drop a xs)) ∙ sets-past (take a xs) (drop a xs) a to vs (length-take-le a xs inside) behind)
-  glued false vs = take-append-drop a xs
-
-  pub stored-tail : take a xs ++ storedAt (drop a xs) (to - a) row from n ≡ storedAt xs to row from n
-  unfolding storedAt
-  stored-tail = rw same-room (glued (leb (from + n) (length row) && leb (to + n) (length xs)) (take n (drop from row)))
-
-  -- the same, as the part is lent and comes back
-  pub stored-part : (ys : List ℕ) → ys ≡ storedAt (take (length xs - a) (drop a xs)) (to - a) row from n → putMid a (length xs - a) xs ys ≡ storedAt xs to row from n
-  stored-part ys e =
-      put-tail xs a ys
-      ∙ ap (λ (l : List ℕ). take a xs ++ l) (e ∙ ap (λ (l : List ℕ). storedAt l (to - a) row from n) (tail-part xs a))
-      ∙ stored-tail
-
--- a section that lies in one location
-module _ (dst : List ℕ) (s : Section) (row : List ℕ) (from n : ℕ) where
-  pub in-image : s .location ≡ InImage → (storedAt dst (s .offset) row from n ≡ filledWith InImage dst s row from n) × (dst ≡ filledWith InHeader dst s row from n)
-  unfolding filledWith
-  in-image e = (rw e, rw e)
-
-  pub in-header : s .location ≡ InHeader → (storedAt dst (s .offset) row from n ≡ filledWith InHeader dst s row from n) × (dst ≡ filledWith InImage dst s row from n)
-  unfolding filledWith
-  in-header e = (rw e, rw e)
 
 -- zeroing
 pub cleared-all : (n : ℕ) (bytes : List ℕ) → n ≤ length bytes → replicate n 0 ++ drop n bytes ≡ cleared n bytes

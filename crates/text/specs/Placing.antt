@@ -1,11 +1,11 @@
 -- What a text's records owe to the sections, in every format: document 01, 'Hex text' and numbers 4 and 5. Assumes nothing.
-use mathlib.Core.Bool.{Bool, true, false, _&&_, cond}
+use mathlib.Core.Bool.{Bool, _&&_, cond}
 use mathlib.Core.List.{List, [], _∷_, _++_}
 use Prim.Native.Nat.{ℕ, zero, suc, _+_, _-_, _/_}
 use lib.Dec.{eqb, leb}
 use lib.ListN.{length, take, drop}
 use Rattle.image.specs.declared.Location.{Location}
-use Rattle.image.specs.declared.Location.the-variants.{InImage, InHeader}
+use Rattle.image.specs.declared.Location.the-variants.{InFlash, InProtection, InHeader}
 use Rattle.image.specs.declared.Section.{Section}
 
 -- what one record of a text says
@@ -51,16 +51,19 @@ placing [] (End ∷ []) = Stream []
 placing [] (End ∷ e ∷ es) = Refusal 5
 placing (s ∷ ss) (End ∷ es) = Refusal 5
 
+-- the three locations, told apart by a number of each
+abbrev pub locationNumber : Location → ℕ
+locationNumber InFlash = 0
+locationNumber InProtection = 1
+locationNumber InHeader = 2
+
 abbrev pub sameLocation : Location → Location → Bool
-sameLocation InImage InImage = true
-sameLocation InImage InHeader = false
-sameLocation InHeader InImage = false
-sameLocation InHeader InHeader = true
+sameLocation l m = eqb (locationNumber l) (locationNumber m)
 
 -- the bytes of the sections that lie in one location, out of the bytes of them all
 unfoldable pub gathered : Location → List Section → List ℕ → List ℕ
-gathered h [] stream = []
-gathered h (s ∷ ss) stream = cond (sameLocation h (s .location)) (take (s .size) stream) [] ++ gathered h ss (drop (s .size) stream)
+gathered l [] stream = []
+gathered l (s ∷ ss) stream = cond (sameLocation l (s .location)) (take (s .size) stream) [] ++ gathered l ss (drop (s .size) stream)
 
 -- the data of a record that is written
 pub record Piece : Type 0 where

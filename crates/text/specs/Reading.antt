@@ -8,7 +8,7 @@ use Rattle.image.specs.Checks.{imageFault}
 use Rattle.image.specs.Image.{noHeader}
 use Rattle.image.specs.Sections.{sectionsOf, headerOf}
 use Rattle.image.specs.declared.Header.{Header}
-use Rattle.image.specs.declared.Location.the-variants.{InImage, InHeader}
+use Rattle.image.specs.declared.Location.the-variants.{InFlash, InProtection, InHeader}
 use Rattle.image.specs.declared.Section.{Section}
 use Rattle.parts.specs.Parts.{lookupOf}
 use Rattle.parts.specs.Sizes.{imageSize}
@@ -31,11 +31,14 @@ pub data Reading : Type 0 where
 abbrev pub checked : Geometry → Header → List ℕ → Reading
 checked g h bytes = cond (eqb (imageFault h bytes) 0) (Taken h bytes) (Cleared (imageFault h bytes) (imageSize g))
 
+-- the bytes of an image, out of the bytes of its sections; 'The protection bytes (N / 8) follow the flash bytes (N × L) in it.'
+abbrev pub imageIn : Geometry → (stream : List ℕ) → List ℕ
+imageIn g bs = gathered InFlash (sectionsOf g) bs ++ gathered InProtection (sectionsOf g) bs
+
 -- what the records came to, for part and M
 abbrev pub judged : Geometry → (part macros : ℕ) → Content → Reading
 judged g part macros (Refusal n) = Cleared n (imageSize g)
-judged g part macros (Stream bs) =
-    checked g (headerOf part macros (gathered InHeader (sectionsOf g) bs)) (gathered InImage (sectionsOf g) bs)
+judged g part macros (Stream bs) = checked g (headerOf part macros (gathered InHeader (sectionsOf g) bs)) (imageIn g bs)
 
 -- '11 part or M; 12 the buffer to be written under size', then the text against the sections that are due
 abbrev pub readFor : Lookup → (part macros room : ℕ) → (List Section → Content) → Reading

@@ -8,12 +8,9 @@ ghost use Rattle.image.specs.Image.{noHeader};
 ghost use Rattle.image.specs.Words.{total};
 ghost use Rattle.text.specs.Digits.{digitOf};
 ghost use Rattle.text.specs.Spelling.{digitsFrom, front, pairsAt, pairRunOf, rowAfter, lineEnd};
-ghost use Rattle.image.specs.declared.Location.the-variants.{InImage, InHeader};
 ghost use Rattle.text.specs.Reading.{answerOf, bufferAfter};
-ghost use Rattle.text.specs.Storing.{storedAt, filledWith, cleared, settled};
+ghost use Rattle.text.specs.Storing.{storedAt, cleared, settled};
 use image::Header;
-use image::Location;
-use image::Section;
 
 mod table;
 
@@ -119,25 +116,26 @@ pub fn line_end(text: &[u8], at: usize) -> usize
     0
 }
 
-// Copies n bytes of the row, from `from` on, into dst.
-fn copy(dst: &mut [u8], to: usize, row: &[u8], from: usize, n: usize)
-    requires { ⌜ (from + n ≤ length (now row)) × (to + n ≤ length (now dst)) ⌝ }
-    ensures { λ _. ⌜ now (dst .exit) ≡ sets (now (dst .entry)) to (take n (drop from (now (row .entry)))) ⌝ }
+// Copies n bytes of the row, from `from` on, into the part.
+fn copy(part: &mut [u8], to: usize, row: &[u8], from: usize, n: usize)
+    requires { ⌜ (from + n ≤ length (now row)) × (to + n ≤ length (now part)) ⌝ }
+    ensures { λ _. ⌜ now (part .exit) ≡ sets (now (part .entry)) to (take n (drop from (now (row .entry)))) ⌝ }
 {
     let mut i = from;
     let mut j = to;
     let mut left = n;
     while 0 < left {
-        dst[j] = row[i];
+        part[j] = row[i];
         i += 1;
         j += 1;
         left -= 1;
     }
 }
 
-// The same, and nothing where the row or dst is too short.
-pub fn store(dst: &mut [u8], to: usize, row: &[u8], from: usize, n: usize)
-    ensures { λ _. ⌜ now (dst .exit) ≡ storedAt (now (dst .entry)) to (now (row .entry)) from n ⌝ }
+// The section filler: puts n bytes of the row, from `from` on, at an offset of the part, and nothing where the row or the part is too short.
+// What is lent is just the part of the buffer that the section lies in.
+pub fn fill(part: &mut [u8], to: usize, row: &[u8], from: usize, n: usize)
+    ensures { λ _. ⌜ now (part .exit) ≡ storedAt (now (part .entry)) to (now (row .entry)) from n ⌝ }
 {
     if row.len() < n {
         return;
@@ -145,48 +143,13 @@ pub fn store(dst: &mut [u8], to: usize, row: &[u8], from: usize, n: usize)
     if row.len() - n < from {
         return;
     }
-    if dst.len() < n {
+    if part.len() < n {
         return;
     }
-    if dst.len() - n < to {
+    if part.len() - n < to {
         return;
     }
-    copy(dst, to, row, from, n);
-}
-
-// The same for an image: past the flash the part after it is lent.
-fn store_image(image: &mut [u8], flash: usize, to: usize, row: &[u8], from: usize, n: usize)
-    ensures { λ _. ⌜ now (image .exit) ≡ storedAt (now (image .entry)) to (now (row .entry)) from n ⌝ }
-{
-    if to < flash {
-        store(image, to, row, from, n);
-        return;
-    }
-    if image.len() < flash {
-        return;
-    }
-    store(&mut image[flash..], to - flash, row, from, n);
-}
-
-// Puts n data bytes of a row where the section that is due lies: in the image, or in the header's bytes.
-pub fn fill(
-    image: &mut [u8],
-    header: &mut [u8],
-    flash: usize,
-    due: Section,
-    row: &[u8],
-    from: usize,
-    n: usize,
-)
-    ensures { λ _. ⌜ now (image .exit) ≡ filledWith InImage (now (image .entry)) due (now (row .entry)) from n ⌝ }
-    ensures { λ _. ⌜ now (header .exit) ≡ filledWith InHeader (now (header .entry)) due (now (row .entry)) from n ⌝ }
-{
-    let location = due.location;
-    let to = due.offset;
-    match location {
-        Location::InImage => store_image(image, flash, to, row, from, n),
-        Location::InHeader => store(header, to, row, from, n),
-    }
+    copy(part, to, row, from, n);
 }
 
 // Zeroes the first n bytes, where there are so many.

@@ -10,14 +10,14 @@ scan-requires : tie.Need-scan-requires
 scan-requires c κs =
     let a = c .before .before .before .before .args in
     let p = c .before .before .before .before .pre in
-    (sized (a .part) (a .macros) (a .g) (p .0), p .1, refl)
+    record { table = sized (a .part) (a .macros) (a .g) (p .0); image-size = p .1; header-size = refl }
 
 returns : tie.Need-returns
 returns c =
     let a = c .before .before .before .before .before .before .before .before .before .before .before .before .before .before .before .before .args in
     let p = c .before .before .before .before .before .before .before .before .before .before .before .before .before .before .before .before .pre in
     let s = c .before .before .before .before .before .before .before .before .before .before .before .scan in
-    refused (a .g) (a .part) (a .macros) (a .text .now) (a .image .now) (p .1) _ _ _ _ _ _ _ (s .ensures) (c .before .before .before .before .before .before .scanned .given .1) (s .kept .1 .1 .0) (c .refusal .ensures) (c .before .before .before .clear .ensures)
+    refused (a .g) (a .part) (a .macros) (a .text .now) (a .image .now) (p .1) _ _ _ _ _ _ (s .ensures) (c .before .before .before .before .before .before .scanned .given .1) (s .kept .1 .1 .0) (c .refusal .ensures) (c .before .before .before .clear .ensures)
 
 returns-2 : tie.Need-returns-2
 returns-2 c =
@@ -25,7 +25,7 @@ returns-2 c =
     let p = c .before .before .before .before .before .before .before .before .before .before .before .before .before .before .pre in
     let s = c .before .before .before .before .before .before .before .before .before .scan in
     let t = c .before .before .settle .ensures in
-    whole (a .g) (a .part) (a .macros) (a .text .now) (a .image .now) (p .1) _ _ _ _ _ _ (s .ensures) (c .before .before .before .before .enum-told .given .1) refl (s .kept .1 .1 .0) (t .0) (t .1)
+    whole (a .g) (a .part) (a .macros) (a .text .now) (a .image .now) (p .1) _ _ _ _ _ (s .ensures) (c .before .before .before .before .enum-told .given .1) (s .kept .1 .1 .0) (t .0) (t .1)
 
 pub read-image-spec : {M : Type 1} → statement M
 read-image-spec =

@@ -4,68 +4,81 @@ use borrow.Author.Needs.{needs}
 use mathlib.Core.Path.{_≡_, refl, sym, _∙_}
 use Prim.Native.Nat.{_-_}
 use lib.ListN.{length}
-use Rattle.hex.proofs.Scans.{Here, here-start, here-stop, here-done, here-moved, moved-less, store-bounds, store-asks, here-store}
+use Rattle.hex.proofs.Scans.{Here, here-start, here-stop, here-done, here-moved, moved-less, store-bounds, store-asks, here-flash, here-store}
 use Rattle.hex.proofs.scan.Statement.{statement}
 use Rattle.hex.proofs.scan.Tie as tie
 
 abbrev Inv-loop : tie.InvT-loop
-Inv-loop g text image₀ header₀ flash row₀ at₀ upper₀ due₀ image header row at upper due = Here g text image₀ header₀ image header at upper due × (length row ≡ 260)
+Inv-loop g text image₀ header₀ row₀ at₀ upper₀ due₀ image header row at upper due = Here g text image₀ header₀ image header at upper due × (length row ≡ 260)
 
 abbrev μ-loop : tie.MeasureT-loop
-μ-loop g text image₀ header₀ flash row₀ at₀ upper₀ due₀ image header row at upper due = length text - at
+μ-loop g text image₀ header₀ row₀ at₀ upper₀ due₀ image header row at upper due = length text - at
 
+-- in each answer `t` is the place after `turn_at`, `o` that of the loop, `s` the start
 returns : tie.Need-returns Inv-loop μ-loop
 returns c =
-    let a = c .before .before .before .before .before .before .before .before .before .before .before .before .before .args in
-    let p = c .before .before .before .before .before .before .before .before .before .before .before .before .before .pre in
-    let l = c .before .before .before .before .before .before .before .loop in
-    here-stop (a .g) (p .0) (a .text .now) (a .image .now) (a .header .now) (l .inv .0) _ _ (c .before .before .before .before .turn-at .ensures) _ (c .before .turn .given .1)
+    let t = c .before .before .before .before in
+    let o = t .before .before .before in
+    let s = o .before .before .before .before .before in
+    here-stop (s .args .g) (s .args .text .now) (s .args .image .now) (s .args .header .now) (s .pre) (o .loop .inv .0) _ _ (t .turn-at .ensures) _ (c .before .turn .given .1)
 
 returns-2 : tie.Need-returns-2 Inv-loop μ-loop
 returns-2 c =
-    let a = c .before .before .before .before .before .before .before .before .before .before .before .before .args in
-    let p = c .before .before .before .before .before .before .before .before .before .before .before .before .pre in
-    let l = c .before .before .before .before .before .before .loop in
-    here-done (a .g) (p .0) (a .text .now) (a .image .now) (a .header .now) (l .inv .0) _ _ (c .before .before .before .turn-at .ensures) (c .enum-told .given .1)
+    let t = c .before .before .before in
+    let o = t .before .before .before in
+    let s = o .before .before .before .before .before in
+    here-done (s .args .g) (s .args .text .now) (s .args .image .now) (s .args .header .now) (s .pre) (o .loop .inv .0) _ _ (t .turn-at .ensures) (c .enum-told .given .1)
 
 loop-less : tie.Need-loop-less Inv-loop μ-loop
 loop-less c =
-    let a = c .before .before .before .before .before .before .before .before .before .before .before .before .before .args in
-    let p = c .before .before .before .before .before .before .before .before .before .before .before .before .before .pre in
-    let l = c .before .before .before .before .before .before .before .loop in
-    let m = moved-less (a .g) (p .0) (a .text .now) (a .image .now) (a .header .now) (l .inv .0) _ _ (c .before .before .before .before .turn-at .ensures) _ _ (c .before .turn2 .given .1) in
+    let t = c .before .before .before .before in
+    let o = t .before .before .before in
+    let s = o .before .before .before .before .before in
+    let m = moved-less (s .args .g) (s .args .text .now) (s .args .image .now) (s .args .header .now) (s .pre) (o .loop .inv .0) _ _ (t .turn-at .ensures) _ _ (c .before .turn2 .given .1) in
     omega (arith, m .0, m .1)
 
 loop-again : tie.Need-loop-again Inv-loop μ-loop
 loop-again c =
-    let a = c .before .before .before .before .before .before .before .before .before .before .before .before .before .args in
-    let p = c .before .before .before .before .before .before .before .before .before .before .before .before .before .pre in
-    let l = c .before .before .before .before .before .before .before .loop in
-    (here-moved (a .g) (p .0) (a .text .now) (a .image .now) (a .header .now) (l .inv .0) _ _ (c .before .before .before .before .turn-at .ensures) _ _ (c .before .turn2 .given .1), c .before .before .before .before .turn-at .kept .1 .1 .1 .1 .0 ∙ l .inv .1)
+    let t = c .before .before .before .before in
+    let o = t .before .before .before in
+    let s = o .before .before .before .before .before in
+    (here-moved (s .args .g) (s .args .text .now) (s .args .image .now) (s .args .header .now) (s .pre) (o .loop .inv .0) _ _ (t .turn-at .ensures) _ _ (c .before .turn2 .given .1), t .turn-at .kept .1 .1 .1 .1 .0 ∙ o .loop .inv .1)
+
+slice-aggregate-store-payload : tie.Need-slice-aggregate-store-payload Inv-loop μ-loop
+slice-aggregate-store-payload c =
+    let t = c .before .before .before .before .before .before .before in
+    sym (t .turn-at .kept .1 .1 .1 .1 .0 ∙ t .before .before .before .loop .inv .1)
+
+store-payload-requires : tie.Need-store-payload-requires Inv-loop μ-loop
+store-payload-requires c κs =
+    let o = c .before .before .before .before .before .before .before .before .before .before in
+    here-flash (o .before .before .before .before .before .pre) (o .loop .inv .0)
 
 advanced-requires : tie.Need-advanced-requires Inv-loop μ-loop
 advanced-requires c κs =
-    let a = c .before .before .before .before .before .before .before .before .before .before .before .before .before .before .before .before .before .before .before .before .before .args in
-    let p = c .before .before .before .before .before .before .before .before .before .before .before .before .before .before .before .before .before .before .before .before .before .pre in
-    let l = c .before .before .before .before .before .before .before .before .before .before .before .before .before .before .before .loop in
-    store-asks (a .g) (p .0) (a .text .now) (a .image .now) (a .header .now) (l .inv .0) _ _ (c .before .before .before .before .before .before .before .before .before .before .before .before .turn-at .ensures) _ _ (c .before .before .before .before .before .before .before .before .before .turn3 .given .1)
+    let f = c .before .before .before .before in
+    let t = f .before .before .before .before .before .before .before .before in
+    let o = t .before .before .before in
+    let s = o .before .before .before .before .before in
+    store-asks (s .args .g) (s .args .text .now) (s .args .image .now) (s .args .header .now) (s .pre) (o .loop .inv .0) _ _ (t .turn-at .ensures) _ _ (f .before .before .before .before .before .turn3 .given .1)
 
 loop-less-2 : tie.Need-loop-less-2 Inv-loop μ-loop
 loop-less-2 c =
-    let a = c .before .before .before .before .before .before .before .before .before .before .before .before .before .before .before .before .before .before .before .before .before .before .args in
-    let p = c .before .before .before .before .before .before .before .before .before .before .before .before .before .before .before .before .before .before .before .before .before .before .pre in
-    let l = c .before .before .before .before .before .before .before .before .before .before .before .before .before .before .before .before .loop in
-    let m = store-bounds (a .g) (p .0) (a .text .now) (a .image .now) (a .header .now) (l .inv .0) _ _ (c .before .before .before .before .before .before .before .before .before .before .before .before .before .turn-at .ensures) _ _ (c .before .before .before .before .before .before .before .before .before .before .turn3 .given .1) in
+    let f = c .before .before .before .before .before in
+    let t = f .before .before .before .before .before .before .before .before in
+    let o = t .before .before .before in
+    let s = o .before .before .before .before .before in
+    let m = store-bounds (s .args .g) (s .args .text .now) (s .args .image .now) (s .args .header .now) (s .pre) (o .loop .inv .0) _ _ (t .turn-at .ensures) _ _ (f .before .before .before .before .before .turn3 .given .1) in
     omega (arith, m .0, m .1)
 
 loop-again-2 : tie.Need-loop-again-2 Inv-loop μ-loop
 loop-again-2 c =
-    let a = c .before .before .before .before .before .before .before .before .before .before .before .before .before .before .before .before .before .before .before .before .before .before .args in
-    let p = c .before .before .before .before .before .before .before .before .before .before .before .before .before .before .before .before .before .before .before .before .before .before .pre in
-    let l = c .before .before .before .before .before .before .before .before .before .before .before .before .before .before .before .before .loop in
-    let f = c .before .before .before .before .before .fill .ensures in
-    let k = c .before .before .before .before .before .before .before .before .before .before .before .before .before .turn-at .kept .1 .1 .1 .1 .0 ∙ l .inv .1 in
-    (here-store (a .g) (p .0) (a .text .now) (a .image .now) (a .header .now) (l .inv .0) _ _ (c .before .before .before .before .before .before .before .before .before .before .before .before .before .turn-at .ensures) _ _ (c .before .before .before .before .before .before .before .before .before .before .turn3 .given .1) k (p .1) (p .2) _ _ _ (f .0) (f .1) (c .advanced .ensures), k)
+    let f = c .before .before .before .before .before in
+    let t = f .before .before .before .before .before .before .before .before in
+    let o = t .before .before .before in
+    let s = o .before .before .before .before .before in
+    let w = t .turn-at .kept .1 .1 .1 .1 .0 ∙ o .loop .inv .1 in
+    (here-store (s .args .g) (s .args .text .now) (s .args .image .now) (s .args .header .now) (s .pre) (o .loop .inv .0) _ _ (t .turn-at .ensures) _ _ (f .before .before .before .before .before .turn3 .given .1) w _ _ _ (f .store-payload .kept .1 .0) (f .store-payload .kept .1 .1 .0) (f .store-payload .ensures) (c .advanced .ensures), w)
 
 pub scan-spec : {M : Type 1} → statement M
 scan-spec =
@@ -74,24 +87,23 @@ scan-spec =
     Inv-loop
     μ-loop
     (λ c κs. search needs)
-    (λ c κs. search needs)
-    (λ c. (here-start _ (c .before .before .before .before .before .pre .0) _ _ _ _ (c .section-at .ensures), refl))
+    (λ c. (here-start _ _ _ _ (c .before .before .before .before .pre) _ (c .section-at .ensures), refl))
     (λ c. sym (c .before .before .loop .inv .1))
     (λ c κs. let l = c .before .before .loop in (l .inv .0 .at-le, l .inv .0 .upper-lt, l .inv .1))
     (λ c. c .match .keys1)
-    (λ c. c .before .before .before .before .before .before .before .loop .inv .0 .image-kept)
-    (λ c. c .before .before .before .before .before .before .before .loop .inv .0 .header-kept)
+    (λ c. let t = c .before .before .before .before in t .before .before .before .loop .inv .0 .image-kept)
+    (λ c. let t = c .before .before .before .before in t .before .before .before .loop .inv .0 .header-kept)
     returns
     (λ c. c .match .keys2)
-    (λ c. c .before .before .before .before .before .before .loop .inv .0 .image-kept)
-    (λ c. c .before .before .before .before .before .before .loop .inv .0 .header-kept)
+    (λ c. let t = c .before .before .before in t .before .before .before .loop .inv .0 .image-kept)
+    (λ c. let t = c .before .before .before in t .before .before .before .loop .inv .0 .header-kept)
     returns-2
     (λ c. c .match .keys3)
     loop-less
     loop-again
     (λ c. c .match .keys4)
-    (λ c. sym (c .before .before .before .before .before .before .before .turn-at .kept .1 .1 .1 .1 .0 ∙ c .before .before .before .before .before .before .before .before .before .before .loop .inv .1))
-    (λ c κs. search needs)
+    slice-aggregate-store-payload
+    store-payload-requires
     advanced-requires
     loop-less-2
     loop-again-2)

@@ -13,4 +13,4 @@ put-end-spec =
     (λ c. search needs)
     (λ c κs. search needs)
     (λ c. search needs)
-    (λ c. c .before .before .store .ensures ∙ sym (stored _ _ _ _ _ (omega arith) (omega arith))))
+    (λ c. c .before .before .fill .ensures ∙ sym (stored _ _ _ _ _ (omega arith) (omega arith))))

@@ -1,5 +1,5 @@
 -- Each arm is its section. Assumes nothing.
-use mathlib.Core.Path.{refl, sym, _∙_}
+use mathlib.Core.Path.{sym, _∙_}
 use Prim.Native.Nat.{_≤_}
 use native.Mathlib.Omega.{arith}
 use borrow.Author.Needs.{needs}
@@ -11,9 +11,9 @@ use Rattle.image.proofs.section_at.Tie as tie
 returns-6 : tie.Need-returns-6
 returns-6 c =
     let r = c .before .match .rest in
-    let k = c .before .before .before .args .k in
+    let k = c .before .before .args .k in
     let h : 5 ≤ k = omega (arith, r .1, r .0 .1, r .0 .0 .1, r .0 .0 .0 .1, r .0 .0 .0 .0 .1) in
-    c .in-image3 .ensures ∙ sym (List·getD-eq-default (sectionsOf (c .before .before .before .args .g)) noSection h)
+    c .whole-of3 .ensures ∙ sym (List·getD-eq-default (sectionsOf (c .before .before .args .g)) noSection h)
 
 pub section-at-spec : {M : Type 1} → statement M
 section-at-spec =
@@ -27,9 +27,9 @@ section-at-spec =
     (λ c κs. search needs)
     (λ c κs. search needs)
     (λ c κs. search needs)
-    (λ c. rw (c .in-image .ensures, c .before .match .keys1, c .before .before .flash-size .ensures .0))
+    (λ c. rw (c .whole-of .ensures, c .before .before .match .keys1, c .before .flash-size .ensures .0))
     (λ c. rw (c .in-header .ensures, c .before .match .keys2))
-    (λ c. simp (c .in-image2 .ensures, c .before .before .match .keys3, c .before .lock-total .ensures .0, c .before .before .before .flash-size .ensures .0) refl)
+    (λ c. rw (c .whole-of2 .ensures, c .before .before .match .keys3, c .before .lock-total .ensures .0))
     (λ c. rw (c .in-header2 .ensures, c .before .match .keys4))
     (λ c. rw (c .in-header3 .ensures, c .before .match .keys5))
     returns-6)

@@ -9,19 +9,19 @@ use Rattle.text.proofs.copy.Statement.{statement}
 use Rattle.text.proofs.copy.Tie as tie
 
 abbrev Inv-loop : tie.InvT-loop
-Inv-loop dst₀ to row from n i₀ j₀ left₀ dst i j left =
+Inv-loop part₀ to row from n i₀ j₀ left₀ part i j left =
     (i + left ≤ length row)
-    × (j + left ≤ length dst)
-    × (length dst ≡ length dst₀)
-    × (sets dst₀ to (take n (drop from row)) ≡ sets dst j (take left (drop i row)))
+    × (j + left ≤ length part)
+    × (length part ≡ length part₀)
+    × (sets part₀ to (take n (drop from row)) ≡ sets part j (take left (drop i row)))
 
 abbrev μ-loop : tie.MeasureT-loop
-μ-loop dst₀ to row from n i₀ j₀ left₀ dst i j left = left
+μ-loop part₀ to row from n i₀ j₀ left₀ part i j left = left
 
 loop-again : tie.Need-loop-again Inv-loop μ-loop
 loop-again c =
     let l = c .before .before .loop in
-    let e = copy-more (l .dst) (c .before .before .before .args .row .now) (l .j) (l .i) (l .left) (omega arith) (omega arith) in
+    let e = copy-more (l .part) (c .before .before .before .args .row .now) (l .j) (l .i) (l .left) (omega arith) (omega arith) in
     (omega arith, simp length-set (omega arith), simp length-set (l .inv .2), l .inv .3 ∙ e)
 
 returns : tie.Need-returns Inv-loop μ-loop

@@ -4,8 +4,8 @@ use borrow.Author.Needs.{needs}
 use Rattle.dry.proofs.lines.put.Statement.{statement}
 use Rattle.dry.proofs.lines.put.Tie as tie
 
-store-requires : tie.Need-store-requires
-store-requires c κs = search needs
+fill-requires : tie.Need-fill-requires
+fill-requires c κs = search needs
 
 add-result : tie.Need-add-result
 add-result c = search needs
@@ -17,8 +17,8 @@ returns : tie.Need-returns
 returns c =
     let a = c .before .before .before .before .before .before .args in
     let room = c .before .before .before .before .before .before .pre .0 in
-    let kept = c .before .before .store .ensures in
+    let kept = c .before .before .fill .ensures in
     (refl, (put-on (a .line .now) (a .bytes .now) _ (a .at) room kept, put-rest (a .line .now) (a .bytes .now) _ (a .at) room kept))
 
 pub put-spec : {M : Type 1} → statement M
-put-spec = tie.close (tie.spec store-requires add-result same-length returns)
+put-spec = tie.close (tie.spec fill-requires add-result same-length returns)
