@@ -1,6 +1,6 @@
 -- A run of turns is a list of steps, and demand 3 says how it ends. Assumes nothing.
 use mathlib.Core.Bool.{Bool, true, false, false≢true, _&&_}
-use mathlib.Core.List.{List}
+use mathlib.Core.List.{List, [], _∷_, _++_}
 use mathlib.Core.Path.{_≡_, refl, sym, ap, subst, _∙_}
 use Prim.Native.Nat.{ℕ, suc, _+_, _≤_, _<_}
 use native.Mathlib.Omega.{arith}
@@ -11,7 +11,7 @@ use Rattle.bench_board.specs.declared.Registers.{Registers}
 use Rattle.dry.specs.Playing.{noLists, nothing, meets, Turns, Started, reportIn, DoneAsPlanned}
 use Rattle.dry.specs.declared.AfterTurn.{AfterTurn}
 use Rattle.dry.proofs.Meets.{same-met}
-use Rattle.flow.specs.Terms.{calmEnd, callsEnd, entryOf}
+use Rattle.flow.specs.Terms.{Calm, calmEnd, callsEnd, entryOf, Used, entries}
 use Rattle.flow.specs.Examples.{partOne}
 use Rattle.flow.specs.Exchange.{Met, meet}
 use Rattle.flow.specs.Plan.{plan, loops, mostTraffic}
@@ -35,12 +35,32 @@ use Rattle.session.specs.declared.Report.{Report}
 use Rattle.session.specs.declared.Session.{Session}
 
 -- an answer more at the end of a list of steps
-snoc : {g : Geometry} {bytes : List ℕ} {n : ℕ} {s t : State} → Steps g bytes n s t → (p : Packet) → t .stands ≡ Ask p
-    → Steps g bytes (suc n) s (answered g p (reaction g p t) (stepWith (t .session) bytes ((reaction g p t) .answer)) t)
+snoc : {g : Geometry} {bytes : List ℕ} {n k : ℕ} {s t : State} → Steps g bytes n k s t → (p : Packet) → t .stands ≡ Ask p
+    → Steps g bytes (suc n) k s (answered g p (reaction g p t) (stepWith (t .session) bytes ((reaction g p t) .answer)) t)
 snoc none p e = answer p e none
 snoc (answer q f steps) p e = answer q f (snoc steps p e)
 snoc (refusal l a k f steps) p e = refusal l a k f (snoc steps p e)
 snoc (later a r f steps) p e = later a r f (snoc steps p e)
+
+-- a refusal never stands
+no-refusal : (before now : Outcome) → ((n : ℕ) → ¬ (before ≡ Refused n)) → (n : ℕ) → ¬ (standing before now ≡ Refused n)
+no-refusal before (Refused x) h n e = h n e
+no-refusal before (Ask p) h n e = let t : false ≡ true = cc in false≢true t
+no-refusal before (Reported r) h n e = let t : false ≡ true = cc in false≢true t
+
+stands-unrefused : {g : Geometry} {bytes : List ℕ} {n k : ℕ} {s t : State} → Steps g bytes n k s t → ((x : ℕ) → ¬ (s .stands ≡ Refused x)) → (x : ℕ) → ¬ (t .stands ≡ Refused x)
+stands-unrefused none h = h
+stands-unrefused {g} {bytes} {s = s} (answer q f steps) h = stands-unrefused steps (no-refusal (s .stands) ((stepWith (s .session) bytes ((reaction g q s) .answer)) .outcome) h)
+stands-unrefused {s = s} (refusal l a x f steps) h = stands-unrefused steps (no-refusal (s .stands) ((stepWith (s .session) l a) .outcome) h)
+stands-unrefused {bytes = bytes} {s = s} (later a r f steps) h = stands-unrefused steps (no-refusal (s .stands) ((stepWith (s .session) bytes a) .outcome) h)
+
+-- what was used of empty lists is calm
+nothing-used : {A : Type 0} (a b : List A) → [] ≡ a ++ b → a ≡ []
+nothing-used [] b e = refl
+nothing-used (x ∷ a) b e = let t : false ≡ true = cc in absurd (false≢true t)
+
+calm-used : {left : Lists} (u : Used noLists left) → Calm (entries u)
+calm-used {left} u = record { line = rw (nothing-used (u .line) (left .line) (u .lineIs)) calmEnd; calls = rw (nothing-used (u .calls) (left .calls) (u .callsIs)) callsEnd }
 
 -- the image passes, so the start is not refused
 start-taken : (h : Header) (bytes : List ℕ) → imageFault h bytes ≡ 0 → startOf h bytes true ≡ startedOn h
@@ -60,7 +80,7 @@ unrefused h bytes e n f =
 -- after n answers: the session s, the outcome o, and a board with these registers and buffers, its lists at their end
 pub record Stands (h : Header) (bytes : List ℕ) (b₀ : Target) (n : ℕ) (s : Session) (o : Outcome) (r : Registers) (b : Buffers) : Type 0 where
   pub state : State
-  pub steps : Steps partOne bytes n (begun (startOf h bytes true) b₀ noLists) state
+  pub steps : Steps partOne bytes n 0 (begun (startOf h bytes true) b₀ noLists) state
   pub session : state .session ≡ s
   pub stands : state .stands ≡ o
   pub target : state .target ≡ targetOf nothing r b
@@ -101,7 +121,7 @@ module _ (bytes : List ℕ) (s₀ : Session) (o₀ : Outcome) (r₀ : Registers)
   claim : (n : ℕ) (s : Session) (o : Outcome) (r : Registers) (b : Buffers) → (v : At n s o r b)
       → Demand3 (imageOf partOne (w .header) bytes) (targetOf nothing r₀ b₀) noLists n (v .state)
   claim n s o r b v =
-      demand3 partOne (w .header) bytes true (w .passes) (unrefused (w .header) bytes (w .passes .checked)) (targetOf nothing r₀ b₀) (w .startable) noLists n
+      demand3 partOne (w .header) bytes true (w .passes) (unrefused (w .header) bytes (w .passes .checked)) (targetOf nothing r₀ b₀) (w .startable) noLists n 0
       (v .state) (v .steps)
 
   from-open : entryOf (targetOf nothing r₀ b₀) ≡ FromOpen
@@ -109,11 +129,12 @@ module _ (bytes : List ℕ) (s₀ : Session) (o₀ : Outcome) (r₀ : Registers)
 
   pub done-planned : (n : ℕ) (s : Session) (x : Report) (r : Registers) (b : Buffers) → At n s (Reported x) r b → DoneAsPlanned x
   done-planned n s x r b v =
-      let d = (claim n s (Reported x) r b v) .calm (record { line = calmEnd; calls = callsEnd }) (w .right) x (v .stands) in
+      let c = claim n s (Reported x) r b v in
+      let d = c .calm (calm-used (c .used)) (w .right) x (v .stands) in
       record { number = d .0; transfers = d .1 ∙ ap (plan partOne) from-open }
 
   pub not-refused : (n : ℕ) (s : Session) (k : ℕ) (r : Registers) (b : Buffers) → At n s (Refused k) r b → ⊥
-  not-refused n s k r b v = (claim n s (Refused k) r b v) .stands k (v .stands)
+  not-refused n s k r b v = stands-unrefused (v .steps) (unrefused (w .header) bytes (w .passes .checked)) k (v .stands)
 
   most-turns : (n : ℕ) → 265637747 ≤ n
       → (most (imageOf partOne (w .header) bytes) (targetOf nothing r₀ b₀)) .transfers + (most (imageOf partOne (w .header) bytes) (targetOf nothing r₀ b₀)) .xresets
