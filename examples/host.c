@@ -3,7 +3,8 @@
  *     host PART MACROS FILE [kill]
  *
  * 'kill' is the leave that an image of level KILL needs. It prints 'done TRANSFERS', 'refused NUMBER'
- * or 'failed NUMBER step STEP transfers TRANSFERS', and ends with status 0, 2 or 1. */
+ * or 'failed NUMBER step STEP transfers TRANSFERS', and ends with status 0, 2 or 1. Status 3: it was called wrongly,
+ * or the file can't be read. */
 #include <stdio.h>
 #include <stdlib.h>
 #include <string.h>
@@ -12,9 +13,16 @@
 #include "wire.h"
 
 enum { RECORD = HALZUQEEN_RECORD_SIZE, SESSION = HALZUQEEN_SESSION_SIZE, OUTCOME = HALZUQEEN_OUTCOME_SIZE };
-enum { MOST_TEXT = 1 << 20, MOST_IMAGE = 131200 }; /* part 3 with two macros */
+enum { MOST_TEXT = 1 << 21, MOST_IMAGE = 131200 }; /* part 3 with two macros; its text with a record for each byte */
 
 static uint8_t text[MOST_TEXT], image[MOST_IMAGE];
+
+/* A part or a number of macros; 0, which is neither, for what is no byte. */
+static unsigned one_byte(const char *word)
+{
+    unsigned long number = strtoul(word, NULL, 10);
+    return number > 255 ? 0 : (unsigned)number;
+}
 
 /* The image's bytes: 'image lent .. of exact size' (12). */
 static size_t image_bytes(unsigned part, unsigned macros)
@@ -31,6 +39,10 @@ static size_t load(const char *path)
         exit(3);
     }
     length = fread(text, 1, sizeof text, file);
+    if (ferror(file) || length == sizeof text) {
+        fprintf(stderr, "%s: %s\n", path, ferror(file) ? "can't be read" : "too long");
+        exit(3);
+    }
     fclose(file);
     return length;
 }
@@ -79,8 +91,8 @@ int main(int count, char **words)
         fputs("host PART MACROS FILE [kill]\n", stderr);
         return 3;
     }
-    part = (unsigned)strtoul(words[1], NULL, 10);
-    macros = (unsigned)strtoul(words[2], NULL, 10);
+    part = one_byte(words[1]);
+    macros = one_byte(words[2]);
     length = load(words[3]);
     size = image_bytes(part, macros);
     if (size > MOST_IMAGE)

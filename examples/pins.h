@@ -1,4 +1,4 @@
-/* The four things that swd_pins.c asks of a microcontroller. Levels are 0 and 1. */
+/* The six things that swd_pins.c asks of whatever has the pins. Levels are 0 and 1. */
 #ifndef PINS_H
 #define PINS_H
 

@@ -8,16 +8,21 @@
 enum { OK = 1, WAIT = 2, FAULT = 4 };
 
 /* An attempt of step 1 must be rare enough for thirty of them to span the board's start (5 ms), and often
- * enough to meet its window (400 us): one each 185 us at 4 MHz. */
+ * enough to meet its window (400 us): one each 187 us at 4 MHz. */
 enum { XRES_LOW_US = 100, ATTEMPT_PAUSE_US = 160 };
 
-static void cycle(void)
+/* Clocks in which the host drives nothing: a turnaround, or what the board may still send. */
+static void let_pass(int count)
 {
-    pins_clock(0);
-    pins_clock(1);
+    int i;
+    for (i = 0; i < count; i++) {
+        pins_clock(0);
+        pins_release();
+        pins_clock(1);
+    }
 }
 
-/* Bits to the board, the lowest first. */
+/* At most 32 bits to the board, the lowest first. */
 static void put(uint32_t bits, int count)
 {
     int i;
@@ -28,7 +33,7 @@ static void put(uint32_t bits, int count)
     }
 }
 
-/* Bits from the board, the lowest first. */
+/* At most 32 bits from the board, the lowest first. */
 static uint32_t get(int count)
 {
     uint32_t bits = 0;
@@ -65,16 +70,15 @@ static struct answer transfer(const uint8_t *outcome)
     const uint8_t *word = outcome + HALZUQEEN_OUTCOME_WORD;
     int reads = outcome[HALZUQEEN_OUTCOME_KIND] == HALZUQEEN_READ;
     put(outcome[HALZUQEEN_OUTCOME_REQUEST], 8);
-    pins_release();
-    cycle();
+    let_pass(1);
     answer.ack = (uint8_t)get(3);
     if (answer.ack == OK && reads) {
         answer.word = get(32);
         answer.parity = (uint8_t)get(1);
     } else if (answer.ack != OK && answer.ack != WAIT && answer.ack != FAULT) {
-        get(33); /* nobody we know: let pass what may still come */
+        let_pass(33); /* silence: as long as a word and its parity take */
     }
-    cycle();
+    let_pass(1);
     if (answer.ack == OK && !reads) {
         put(word[0] | (uint32_t)word[1] << 8 | (uint32_t)word[2] << 16 | (uint32_t)word[3] << 24, 32);
         put(outcome[HALZUQEEN_OUTCOME_PARITY], 1);

@@ -3,9 +3,11 @@ use mathlib.Core.Bool.{cond}
 use mathlib.Core.List.{List, [], _∷_}
 use Prim.Native.Nat.{ℕ, _%_}
 use lib.ListN.{getD, replicate}
-use Rattle.flow.specs.Examples.{partOne, twoMacros, p5, p6, p7}
+use Rattle.flow.specs.Examples.{partOne, twoMacros, anImage, wordAtMove}
 use Rattle.flow.specs.Plan.{plan}
+use Rattle.flow.specs.Sequence.{privileged, programRow}
 use Rattle.flow.specs.declared.Entry.the-variants.{FromOpen}
+use Rattle.flow.specs.declared.Purpose.the-variants.{Keep}
 use Rattle.hex.specs.Records.{Record, BadRecord, DataRecord, ExtendedAddress, EndRecord, lineRecord}
 use Rattle.hex.specs.Texts.{upperAfter}
 use Rattle.image.specs.Words.{total}
@@ -42,10 +44,13 @@ paperExamples =
     ∷ requestByte Drw Read gives 0x9F
     -- 'P4 parity of 0x54000000 is 1.'
     ∷ parity 0x54000000 gives 1
-    -- 'P5 sum word 0x8000DEB6. P6 program row 0x0123: 0x0123D9B6. P7 latch, macro 1: 0x0100D7B6.'
-    ∷ p5
-    ∷ p6
-    ∷ p7
+    -- P5 to P7, as flow/specs/Examples.antt has them too, so that a wrong key word is refused there
+    -- 'P5 sum word 0x8000DEB6.': the DRW write of step 4's call
+    ∷ wordAtMove (privileged partOne 4 Keep) 1 gives 0x8000DEB6
+    -- 'P6 program row 0x0123: 0x0123D9B6.': the DRW write of call 6's list, after the 78 transfers of call 4
+    ∷ wordAtMove (programRow anImage 0x0123) 79 gives 0x0123D9B6
+    -- 'P7 latch, macro 1: 0x0100D7B6.': the first DRW write of row 512
+    ∷ wordAtMove (programRow anImage 512) 1 gives 0x0100D7B6
     -- 'P8 :0200000490303A sets 0x9030.'
     ∷ upperAfter 0 (lineRecord (Ended p8-line)) gives 0x9030
     -- 'P9 :0100000001FE is OPEN.'
