@@ -1,8 +1,3 @@
-pub mod Examples
-pub mod Judgements
-pub mod Mishaps
-pub mod SessionExamples
-pub mod Starts
 pub mod Hearing
 pub mod BoardExamples
 pub mod Table

@@ -1,10 +1,10 @@
 -- How an answer moves a session on, by example: on each limit the answer that just goes on beside the one that ends it. Assumes nothing.
 use mathlib.Core.List.{[]}
-use mathlib.Core.Path.{_≡_}
+use mathlib.Core.Path.{_≡_, refl}
 use Prim.Native.Nat.{ℕ}
 use Rattle.flow.specs.Judgements.{openImage}
-use Rattle.flow.specs.Mishaps.{answer, okayWith, wait}
-use Rattle.flow.specs.Sequence.{move}
+use Rattle.flow.specs.Mishaps.{answer, okayWith, wait, right, right-idcode}
+use Rattle.flow.specs.Sequence.{move, sequence, opening, acquire, silicon, call, write, read, writes, listed, inTurn, imoCall, privileged, programRow, program, afterwards}
 use Rattle.flow.specs.Session.{SessionState, running, reported, moveAt, stepOf}
 use Rattle.flow.specs.declared.Answer.{Answer}
 use Rattle.flow.specs.declared.Answer.the-variants.{ResetDone}
@@ -12,6 +12,11 @@ use Rattle.flow.specs.declared.Entry.the-variants.{FromOpen}
 use Rattle.flow.specs.declared.Purpose.the-variants.{Sent, Idcode, Poll, Status}
 use Rattle.flow.specs.declared.Request.the-variants.{Xres, ReadIdcode, ReadDrw, WriteDrw, WriteSetup}
 use Rattle.wire.specs.declared.Register.the-variants.{CtrlStat}
+use lib.Count.{ones}
+use Rattle.flow.specs.Judge.{judge, free, succeeded}
+use Rattle.flow.specs.Packets.{verdict, heard}
+use Rattle.image.specs.Words.{wordAt, wordsAt}
+use Rattle.parts.specs.Sizes.{rowsOf}
 
 -- a session on an image of part 1 at the index `at`, with 7 kept and 40 transfers counted
 abbrev pub standing : (at waits polls attempts : ℕ) → SessionState
@@ -60,3 +65,32 @@ pub record SessionExamples : Type 0 where
   pub wrongParity : after (standing 13 0 0 0) (answer 1 0 1) ≡ reported 30 1 41
   -- the report stays
   pub stays : (number step transfers : ℕ) (a : Answer) → after (reported number step transfers) a ≡ reported number step transfers
+
+-- ---- they hold
+
+pub move-examples : MoveExamples
+unfolding sequence opening acquire silicon call write read writes listed inTurn imoCall privileged programRow program afterwards rowsOf wordAt wordsAt
+move-examples = record { xres = refl; idcode = refl; setup = refl; testMode = refl; poll = refl; row = refl; nextRow = refl }
+
+pub session-examples : SessionExamples
+unfolding stepOf judge free succeeded
+session-examples = record {
+  reset = rw (move-examples .xres);
+  next = rw (move-examples .setup) (unfold verdict heard in refl);
+  nextRow = rw (move-examples .row, right 0xA0000000);
+  attempt29 = rw (move-examples .idcode) (unfold verdict heard in refl);
+  attempt30 = rw (move-examples .idcode) (unfold verdict heard in refl);
+  fault29 = rw (move-examples .idcode) (unfold verdict heard in refl);
+  fault30 = rw (move-examples .idcode) (unfold verdict heard in refl);
+  attemptOkay = rw (move-examples .idcode, right-idcode 0x0BB11477);
+  wait16 = rw (move-examples .setup) (unfold verdict heard in refl);
+  wait17 = rw (move-examples .setup) (unfold verdict heard in refl);
+  waited = rw (move-examples .setup) (unfold verdict heard in refl);
+  poll9999 = rw (move-examples .poll, right 0x80000000);
+  poll10000 = rw (move-examples .poll, right 0x80000000);
+  polled = rw (move-examples .poll, right 0);
+  fault = rw (move-examples .setup) (unfold verdict heard in refl);
+  silence = rw (move-examples .setup) (unfold verdict heard in refl);
+  wrongParity = rw (move-examples .poll) (unfold verdict heard ones in refl);
+  stays = λ number step transfers a. refl;
+}

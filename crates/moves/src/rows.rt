@@ -100,12 +100,7 @@ pub(crate) fn verify_move(g: Geometry, j: u32) -> Move
     let each = size / 4 * 3;
     let r = j / each;
     let at = 4 * (j % each / 3);
-    read_move(
-        6,
-        r * size + at,
-        Purpose::FlashWord(r, at),
-        j % each % 3,
-    )
+    read_move(6, r * size + at, Purpose::FlashWord(r, at), j % each % 3)
 }
 
 // A macro of step 7.

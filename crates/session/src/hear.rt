@@ -123,15 +123,7 @@ pub(crate) fn is_reset(q: Request) -> bool
 }
 
 // An OK: the parity of a read's word counts, and a write has no word.
-fn on_okay(
-    g: Geometry,
-    h: Header,
-    bytes: &[u8],
-    y: Entry,
-    p: Progress,
-    m: Move,
-    r: Reply,
-) -> Next
+fn on_okay(g: Geometry, h: Header, bytes: &[u8], y: Entry, p: Progress, m: Move, r: Reply) -> Next
     requires { ⌜ InRange p ⌝ ∗ ⌜ length (now bytes) ≡ imageSize g ⌝ }
     ensures { λ n. ⌜ n ≡ nextBy (isAttempt (m .request)) (imageOf g h (now (bytes .entry))) (m .purpose) (heard (isRead (m .request)) Ack.Okay (r .word) (r .parity)) y p ⌝ }
 {
