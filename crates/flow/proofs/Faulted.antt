@@ -7,7 +7,7 @@ use lib.Dec.{eqb}
 use Rattle.flow.specs.Calls.{reset}
 use Rattle.flow.specs.Exchange.{decode, carry, meet, transferred}
 use Rattle.flow.specs.Judge.{judge}
-use Rattle.flow.specs.Mishaps.{answer, okayWith, right-idcode}
+use Rattle.flow.specs.Mishaps.{answer, okayWith}
 use Rattle.flow.specs.Monitor.{Monitor, watch, nothingSeen}
 use Rattle.flow.specs.Packets.{verdict, heard}
 use Rattle.flow.specs.Plan.{Traffic}
@@ -23,6 +23,7 @@ use Rattle.flow.specs.declared.TransferOutcome.{TransferOutcome}
 use Rattle.flow.specs.declared.TransferOutcome.the-variants.{Clean, Faults}
 use Rattle.flow.proofs.Attempts.{barred-off}
 use Rattle.flow.proofs.Hearing.{attempt, plain, aCtrl, meets}
+use Rattle.flow.proofs.Mishaps.{right-idcode}
 use Rattle.image.specs.Image.{Image}
 use Rattle.wire.specs.declared.Register.the-variants.{CtrlStat}
 

@@ -1,5 +1,11 @@
+pub mod Examples
+pub mod Judgements
+pub mod Mishaps
+pub mod SessionExamples
+pub mod Starts
 pub mod Hearing
 pub mod BoardExamples
+pub mod Acceptance
 pub mod Table
 pub mod Places
 pub mod Counting

@@ -1,8 +1,8 @@
 -- P5, P6 and P7 of document 01, which pin the key words here too; all twelve stand in one table in the crate examples. Assumes nothing.
-use mathlib.Core.List.{List, [], _∷_}
+use mathlib.Core.List.{List, []}
 use Prim.Native.Nat.{ℕ}
 use lib.ListN.{getD}
-use Rattle.flow.specs.Sequence.{privileged, programRow, endMove, write, read, call, writes, listed}
+use Rattle.flow.specs.Sequence.{privileged, programRow, endMove}
 use Rattle.flow.specs.declared.Move.{Move}
 use Rattle.flow.specs.declared.Purpose.the-variants.{Keep}
 use Rattle.flow.specs.declared.Request.{Request}
@@ -10,9 +10,7 @@ use Rattle.flow.specs.declared.Request.the-variants.{Xres, LineReset, Re
 use Rattle.image.specs.Image.{Image}
 use Rattle.parts.specs.Parts.{part1, part3}
 use Rattle.parts.specs.declared.Geometry.{Geometry}
-use Rattle.wire.specs.Examples.{Example, _gives_, Each, none, more}
-use mathlib.Core.Path.{refl}
-use Rattle.image.specs.Words.{wordAt, wordsAt}
+use Rattle.wire.specs.Examples.{Example, _gives_}
 
 -- part 1 and M 1, as P11 and the dry run have them
 abbrev pub partOne : Geometry
@@ -49,9 +47,3 @@ p6 = wordAtMove (programRow anImage 0x0123) 79 gives 0x0123D9B6
 -- 'P7 latch, macro 1: 0x0100D7B6.': the first DRW write of row 512
 abbrev pub p7 : Example
 p7 = wordAtMove (programRow anImage 512) 1 gives 0x0100D7B6
-
--- ---- they hold
-
-pub key-examples : Each (p5 ∷ p6 ∷ p7 ∷ [])
-unfolding write read call writes listed privileged programRow wordAt wordsAt
-key-examples = more refl (more refl (more refl none))

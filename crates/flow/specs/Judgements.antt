@@ -1,15 +1,13 @@
 -- What each word is judged by, by example: a word that passes beside one that just does not. Assumes nothing.
 use mathlib.Core.List.{[], _∷_}
-use mathlib.Core.Path.{_≡_, refl}
+use mathlib.Core.Path.{_≡_}
 use Prim.Native.Nat.{ℕ}
 use Rattle.flow.specs.Examples.{partOne}
-use Rattle.flow.specs.Judge.{go, pollAgain, enter, report, judge, free, testBitSet, succeeded, idsFit, levelShown, sumsFit}
+use Rattle.flow.specs.Judge.{go, pollAgain, enter, report, judge}
 use Rattle.flow.specs.declared.Entry.the-variants.{FromOpen, FromProtected}
 use Rattle.flow.specs.declared.Purpose.the-variants.{Idcode, TestBit, Poll, Status, EntryLevel, Reopened, FlashWord, LockWord, StoredLevel, LastSum}
 use Rattle.image.specs.Image.{Image}
 use Rattle.parts.specs.Parts.{part2}
-use Rattle.image.specs.Words.{wordAt}
-use Rattle.parts.specs.Sizes.{locksIn}
 
 -- images of part 1 with this sum and level and the first of their bytes, and one of part 2
 abbrev pub imageWith : (sum level : ℕ) → Image
@@ -73,41 +71,3 @@ pub record JudgeExamples : Type 0 where
   -- '(this sum - that sum) mod 65536 equals the image's sum' (25), of 28 bits each
   pub sum : judge (imageWith 1 1) LastSum 0 0xAFFFFFFF 0xA0000000 ≡ report 0
   pub otherSum : judge (imageWith 2 1) LastSum 0 0xAFFFFFFF 0xA0000000 ≡ report 25
-
--- ---- they hold
-
-pub judge-examples : JudgeExamples
-unfolding wordAt locksIn judge free testBitSet succeeded idsFit levelShown sumsFit
-judge-examples = record {
-  idcode = refl;
-  otherIdcode = refl;
-  testBit = refl;
-  noTestBit = refl;
-  free = refl;
-  again = refl;
-  never = refl;
-  success = refl;
-  failure = refl;
-  fromOpen = refl;
-  fromProtected = refl;
-  kill = refl;
-  nine = refl;
-  reopened = refl;
-  notReopened = refl;
-  high = refl;
-  family = refl;
-  lowFits = refl;
-  lowFitsNot = refl;
-  flash = refl;
-  otherFlash = refl;
-  otherRow = refl;
-  locks = refl;
-  otherLocks = refl;
-  stored = refl;
-  storedVirgin = refl;
-  storedEight = refl;
-  storedKill = refl;
-  storedTwelve = refl;
-  sum = refl;
-  otherSum = refl;
-}

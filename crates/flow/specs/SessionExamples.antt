@@ -1,22 +1,18 @@
 -- How an answer moves a session on, by example: on each limit the answer that just goes on beside the one that ends it. Assumes nothing.
-use mathlib.Core.List.{[]}
-use mathlib.Core.Path.{_≡_, refl}
+use mathlib.Core.Path.{_≡_}
 use Prim.Native.Nat.{ℕ}
+use lib.ListN.{getD}
+use Rattle.flow.specs.Examples.{twoMacros}
 use Rattle.flow.specs.Judgements.{openImage}
-use Rattle.flow.specs.Mishaps.{answer, okayWith, wait, right, right-idcode}
-use Rattle.flow.specs.Sequence.{move, sequence, opening, acquire, silicon, call, write, read, writes, listed, inTurn, imoCall, privileged, programRow, program, afterwards}
+use Rattle.flow.specs.Mishaps.{answer, okayWith, wait}
+use Rattle.flow.specs.Sequence.{move, lockMacro, verifyMacro, afterwards, endMove}
 use Rattle.flow.specs.Session.{SessionState, running, reported, moveAt, stepOf}
 use Rattle.flow.specs.declared.Answer.{Answer}
 use Rattle.flow.specs.declared.Answer.the-variants.{ResetDone}
-use Rattle.flow.specs.declared.Entry.the-variants.{FromOpen}
+use Rattle.flow.specs.declared.Entry.the-variants.{FromOpen, FromProtected}
 use Rattle.flow.specs.declared.Purpose.the-variants.{Sent, Idcode, Poll, Status}
-use Rattle.flow.specs.declared.Request.the-variants.{Xres, ReadIdcode, ReadDrw, WriteDrw, WriteSetup}
+use Rattle.flow.specs.declared.Request.the-variants.{Xres, ReadIdcode, ReadDrw, WriteTar, WriteDrw, WriteSetup}
 use Rattle.wire.specs.declared.Register.the-variants.{CtrlStat}
-use lib.Count.{ones}
-use Rattle.flow.specs.Judge.{judge, free, succeeded}
-use Rattle.flow.specs.Packets.{verdict, heard}
-use Rattle.image.specs.Words.{wordAt, wordsAt}
-use Rattle.parts.specs.Sizes.{rowsOf}
 
 -- a session on an image of part 1 at the index `at`, with 7 kept and 40 transfers counted
 abbrev pub standing : (at waits polls attempts : ℕ) → SessionState
@@ -29,16 +25,24 @@ onto n w p a = running FromOpen n w p a 7 41
 abbrev pub after : SessionState → Answer → SessionState
 after s a = stepOf openImage s a
 
--- the moves at the indices below
+-- some moves, at their indices
 pub record MoveExamples : Type 0 where
   pub xres : moveAt openImage FromOpen 0 ≡ move 1 Xres Sent
   pub idcode : moveAt openImage FromOpen 2 ≡ move 1 ReadIdcode Idcode
   pub setup : moveAt openImage FromOpen 3 ≡ move 1 (WriteSetup CtrlStat 0x54000000) Sent
   pub testMode : moveAt openImage FromOpen 7 ≡ move 1 (WriteDrw 0x80000000) Sent
   pub poll : moveAt openImage FromOpen 13 ≡ move 1 ReadDrw Poll
+  -- the calls of steps 1 and 2, 0x15 and 0, alter nothing; 0x0A, which erases, comes in step 3
+  pub imo : moveAt openImage FromOpen 17 ≡ move 1 (WriteDrw 0x80000015) Sent
+  pub identify : moveAt openImage FromOpen 27 ≡ move 2 (WriteDrw 0x80000000) Sent
+  pub erase : moveAt openImage FromOpen 45 ≡ move 3 (WriteDrw 0x8000000A) Sent
+  pub reopened : getD (afterwards openImage FromProtected) 37 endMove ≡ move 2 (WriteDrw 0x80000000) Sent
   -- the last move of row 0, and the first word of row 1's list
   pub row : moveAt openImage FromOpen 122 ≡ move 5 ReadDrw Status
   pub nextRow : moveAt openImage FromOpen 124 ≡ move 5 (WriteDrw 0x0000D7B6) Sent
+  -- step 7 sends the image's level, here OPEN, for macro 0; step 8 reads macro 1's locks at their own address
+  pub lock : getD (lockMacro openImage 0) 31 endMove ≡ move 7 (WriteDrw 0x0001E0B6) Sent
+  pub locks : getD (verifyMacro twoMacros 1) 0 endMove ≡ move 8 (WriteTar 0x0FFFF400) Sent
 
 pub record SessionExamples : Type 0 where
   -- a reset is no transfer; a transfer answered OK leads to the next move and is counted
@@ -65,32 +69,3 @@ pub record SessionExamples : Type 0 where
   pub wrongParity : after (standing 13 0 0 0) (answer 1 0 1) ≡ reported 30 1 41
   -- the report stays
   pub stays : (number step transfers : ℕ) (a : Answer) → after (reported number step transfers) a ≡ reported number step transfers
-
--- ---- they hold
-
-pub move-examples : MoveExamples
-unfolding sequence opening acquire silicon call write read writes listed inTurn imoCall privileged programRow program afterwards rowsOf wordAt wordsAt
-move-examples = record { xres = refl; idcode = refl; setup = refl; testMode = refl; poll = refl; row = refl; nextRow = refl }
-
-pub session-examples : SessionExamples
-unfolding stepOf judge free succeeded
-session-examples = record {
-  reset = rw (move-examples .xres);
-  next = rw (move-examples .setup) (unfold verdict heard in refl);
-  nextRow = rw (move-examples .row, right 0xA0000000);
-  attempt29 = rw (move-examples .idcode) (unfold verdict heard in refl);
-  attempt30 = rw (move-examples .idcode) (unfold verdict heard in refl);
-  fault29 = rw (move-examples .idcode) (unfold verdict heard in refl);
-  fault30 = rw (move-examples .idcode) (unfold verdict heard in refl);
-  attemptOkay = rw (move-examples .idcode, right-idcode 0x0BB11477);
-  wait16 = rw (move-examples .setup) (unfold verdict heard in refl);
-  wait17 = rw (move-examples .setup) (unfold verdict heard in refl);
-  waited = rw (move-examples .setup) (unfold verdict heard in refl);
-  poll9999 = rw (move-examples .poll, right 0x80000000);
-  poll10000 = rw (move-examples .poll, right 0x80000000);
-  polled = rw (move-examples .poll, right 0);
-  fault = rw (move-examples .setup) (unfold verdict heard in refl);
-  silence = rw (move-examples .setup) (unfold verdict heard in refl);
-  wrongParity = rw (move-examples .poll) (unfold verdict heard ones in refl);
-  stays = λ number step transfers a. refl;
-}

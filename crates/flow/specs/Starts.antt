@@ -1,24 +1,23 @@
 -- What demand 3 leaves free and what it allows at most: nobody asks more of an image, a board or a list than stands here. Assumes nothing.
 use mathlib.Core.Bool.{true}
-use mathlib.Core.List.{List, [], _∷_}
+use mathlib.Core.List.{List, []}
 use mathlib.Core.Logic.{_⊎_}
-use mathlib.Core.Path.{_≡_, refl}
-use Prim.Native.Nat.{ℕ, _+_, _/_, _≤_, _<_, suc}
+use mathlib.Core.Path.{_≡_}
+use Prim.Native.Nat.{ℕ, _+_, _/_, _≤_, _<_}
 use lib.ListN.{length, getD}
-use Rattle.flow.specs.Terms.{Passes, Startable, Calm, CalmLine, calmEnd, calmEvent, CalmCalls, callsEnd, calmCall}
+use Rattle.flow.specs.Terms.{Passes, Startable, Calm}
 use Rattle.flow.specs.Examples.{partOne, twoMacros}
-use Rattle.flow.specs.Plan.{mostTraffic, plan, loops}
-use Rattle.flow.specs.Target.{Target, Memory, idle, Lists, nextEvent, nextOutcome, CallOutcome}
+use Rattle.flow.specs.Plan.{mostTraffic}
+use Rattle.flow.specs.Target.{Target, Memory, idle, Lists, nextEvent, nextOutcome}
 use Rattle.flow.specs.declared.Entry.the-variants.{FromOpen, FromProtected}
 use Rattle.flow.specs.declared.Silicon.{Silicon}
 use Rattle.flow.specs.declared.TransferOutcome.the-variants.{Clean}
 use Rattle.image.specs.Checks.{imageFault}
 use Rattle.image.specs.declared.Header.{Header}
 use Rattle.parts.specs.Parts.{lookupOf}
-use Rattle.parts.specs.Sizes.{rowBytes, flashSize, lockTotal, rowsOf, locksIn}
+use Rattle.parts.specs.Sizes.{rowBytes, flashSize, lockTotal}
 use Rattle.parts.specs.declared.Geometry.{Geometry}
 use Rattle.parts.specs.declared.Lookup.the-variants.{Found}
-use Rattle.flow.specs.declared.LineEvent.{LineEvent}
 
 -- a board on which no call runs; level in effect, PARAMS, registers and the posted word are given
 abbrev pub boardOf : Silicon → Memory → (params : List ℕ) → (effect sysarg sysreq testMode tar posted : ℕ) → Target
@@ -66,37 +65,3 @@ pub record MostExamples : Type 0 where
   pub part1Protected : mostTraffic partOne FromProtected ≡ record { transfers = 267168668; xresets = 2; lineResets = 60 }
   pub part3 : mostTraffic twoMacros FromOpen ≡ record { transfers = 1052208183; xresets = 1; lineResets = 30 }
   pub part3Protected : mostTraffic twoMacros FromProtected ≡ record { transfers = 1053229016; xresets = 2; lineResets = 60 }
-
--- ---- they hold
-
--- entries that are calm one by one
-calm-line : (l : List LineEvent) → ((j : ℕ) → (getD l j (nextEvent [])) .outcome ≡ Clean) → CalmLine l
-calm-line [] h = calmEnd
-calm-line (e ∷ es) h = calmEvent (h 0) (calm-line es (λ j. h (suc j)))
-
-calm-calls : (l : List CallOutcome) → ((j : ℕ) → ((getD l j (nextOutcome [])) .busyReads ≡ 0) × ((getD l j (nextOutcome [])) .succeeds ≡ true)) → CalmCalls l
-calm-calls [] h = callsEnd
-calm-calls (o ∷ os) h = calmCall (h 0 .0) (h 0 .1) (calm-calls os (λ j. h (suc j)))
-
-pub free-starts : FreeStarts
-free-starts = record {
-  board =
-      λ g x m ps e a q t p w ids sizes level. record {
-        flash = sizes .flash;
-        locks = sizes .locks;
-        latch = sizes .latch;
-        params = sizes .params;
-        high = ids .high;
-        low = ids .low;
-        revision = ids .revision;
-        family = ids .family;
-        level = level;
-        quiet = refl;
-      };
-  image = λ g h bytes found checked small. record { found = found; checked = checked; small = small };
-  calm = λ l line calls. record { line = calm-line (l .line) line; calls = calm-calls (l .calls) calls };
-}
-
-pub most-examples : MostExamples
-unfolding mostTraffic plan loops rowsOf locksIn
-most-examples = record { part1 = refl; part1Protected = refl; part3 = refl; part3Protected = refl }

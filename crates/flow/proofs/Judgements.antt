@@ -1,0 +1,42 @@
+-- The examples of what each word is judged by hold. Assumes nothing.
+use mathlib.Core.Path.{refl}
+use Rattle.flow.specs.Judge.{free, testBitSet, succeeded, idsFit, levelShown, sumsFit, judge}
+use Rattle.image.specs.Words.{wordAt}
+use Rattle.parts.specs.Sizes.{locksIn}
+use Rattle.flow.specs.Judgements.{JudgeExamples}
+
+pub judge-examples : JudgeExamples
+unfolding wordAt locksIn judge free testBitSet succeeded idsFit levelShown sumsFit
+judge-examples = record {
+  idcode = refl;
+  otherIdcode = refl;
+  testBit = refl;
+  noTestBit = refl;
+  free = refl;
+  again = refl;
+  never = refl;
+  success = refl;
+  failure = refl;
+  fromOpen = refl;
+  fromProtected = refl;
+  kill = refl;
+  nine = refl;
+  reopened = refl;
+  notReopened = refl;
+  high = refl;
+  family = refl;
+  lowFits = refl;
+  lowFitsNot = refl;
+  flash = refl;
+  otherFlash = refl;
+  otherRow = refl;
+  locks = refl;
+  otherLocks = refl;
+  stored = refl;
+  storedVirgin = refl;
+  storedEight = refl;
+  storedKill = refl;
+  storedTwelve = refl;
+  sum = refl;
+  otherSum = refl;
+}
