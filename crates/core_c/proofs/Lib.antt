@@ -9,3 +9,4 @@ pub mod ReadWrite
 pub mod Starting
 pub mod Stepping
 pub mod Claims
+pub mod Examples
