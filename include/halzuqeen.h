@@ -6,10 +6,15 @@
  * Every call returns 0, or the number of a refusal (document 01, 'Who brings a number about'):
  *    1 to 10  the text or the image: line form, record sum, record type, data not next due, end record, version, image ID, level, sum, row
  *    11       part or macros
- *    12       a buffer under size, an image not of its exact size, or a record, session, outcome or length not of the size below
+ *    12       a buffer under size, or an image lent for reading not of its exact size
  *    13       a session that is impossible for its part, or bytes that no session has
  *    14       a reset answered by an acknowledgement, or the reverse
  *    15       KILL without leave
+ *
+ * What is lent for a record, a session, an outcome or a length may be longer than its size below: bytes past the size are not looked at
+ * and stay. Under size it is 12, in the order that each call says.
+ * With a refusal every output that fits is written: a record, a session that starting gives and a length are all 0, an outcome has the
+ * refusal. An output that is under size stays as it was, since there is no room in it. A refused step leaves the session as it got it.
  *
  * What is proved, for every content and length of the buffers: the number returned and every byte of every buffer after the call equal
  * the definitions of crates/core_c/specs/Calls.antt. What a caller owes: each pointer is good for its length (with length 0 it is not
@@ -73,38 +78,40 @@ extern "C" {
  * text, text_length: the text.
  * image, image_length: at least the image's size: flash, then row locks. With 0 its bytes are the image's; with 1 to 10 they are zeroed;
  *     bytes past the image's size stay, and with 11 or 12 all of them do.
- * header, header_length: HALZUQEEN_RECORD_SIZE bytes, which become the image's record, or zeros with a refusal; of another length: 12,
- *     and nothing is written. */
+ * header, header_length: at least HALZUQEEN_RECORD_SIZE bytes, which become the image's record, zeros with a refusal.
+ * Checks 11, whatever the lengths are; 12, of the record and the image; then the text, 1 to 5 record by record, and 6 to 10. */
 uint32_t halzuqeen_read(uint8_t part, uint8_t macros, const uint8_t *text, size_t text_length, uint8_t *image, size_t image_length,
     uint8_t *header, size_t header_length);
 
 /* Writes the Intel hex text of an image.
- * header, header_length: the image's record, HALZUQEEN_RECORD_SIZE bytes.
+ * header, header_length: the image's record, at least HALZUQEEN_RECORD_SIZE bytes.
  * image, image_length: the image's bytes, exactly of its size.
  * text, text_length: at least as long as the text; bytes past the text stay, and with a refusal all of them do.
- * size, size_length: HALZUQEEN_LENGTH_SIZE bytes, which become the text's length, 0 with a refusal.
- * With a record or a size of another length: 12, and nothing is written. */
+ * size, size_length: at least HALZUQEEN_LENGTH_SIZE bytes, which become the text's length, 0 with a refusal.
+ * A record under size is 12, since no part can be read from it. Then checks 11; 12, of size, image and text; 6 to 10. */
 uint32_t halzuqeen_write(const uint8_t *header, size_t header_length, const uint8_t *image, size_t image_length, uint8_t *text,
     size_t text_length, uint8_t *size, size_t size_length);
 
 /* Starts a session that programs an image; the first request is XRES.
  * header, header_length, image, image_length: as for writing.
  * leave: 0 refuses an image of level KILL with 15; anything else lets it pass.
- * session, session_length: HALZUQEEN_SESSION_SIZE bytes, which become the session, zeros with a refusal.
- * outcome, outcome_length: HALZUQEEN_OUTCOME_SIZE bytes, which become XRES or the refusal.
- * With a record, session or outcome of another length: 12, and nothing is written. */
+ * session, session_length: at least HALZUQEEN_SESSION_SIZE bytes, which become the session, zeros with a refusal: a session that stood
+ *     there is gone, and a step refuses the zeros with 13.
+ * outcome, outcome_length: at least HALZUQEEN_OUTCOME_SIZE bytes, which become XRES or the refusal.
+ * A record under size is 12, since no part can be read from it. Then checks 11; 12, of session, outcome and image; 6 to 10; 15. */
 uint32_t halzuqeen_start(const uint8_t *header, size_t header_length, const uint8_t *image, size_t image_length, uint8_t leave,
     uint8_t *session, size_t session_length, uint8_t *outcome, size_t outcome_length);
 
 /* Takes the answer to the standing request; gives the next request, or the report, which every later step repeats.
- * session, session_length: as starting or the step before it left them; with a refusal they stay.
+ * session, session_length: as starting or the step before it left them, at least HALZUQEEN_SESSION_SIZE bytes; with a refusal they stay.
  * image, image_length: the image that the session was started on, the same bytes at every step.
  * reset_done: anything but 0 says that the reset asked for is done, and the next three are not looked at; 0 says that they answer a
  *     transfer.
  * ack: the acknowledgement, bit 0 first on the wire: 1 OK, 2 WAIT, 4 FAULT, anything else silence.
  * word, parity: the word and the parity bit of a read answered OK; otherwise not looked at.
  * outcome, outcome_length: as for starting; with a refusal it has the refusal.
- * With a session or outcome of another length: 12, and nothing is written. */
+ * A session under size is 12, since there is none to look at. Then checks 13, whatever outcome and image are; 12, of outcome and image;
+ * 14. */
 uint32_t halzuqeen_step(uint8_t *session, size_t session_length, const uint8_t *image, size_t image_length, uint8_t reset_done,
     uint8_t ack, uint32_t word, uint8_t parity, uint8_t *outcome, size_t outcome_length);
 

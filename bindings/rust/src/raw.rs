@@ -1,6 +1,11 @@
 //! The four calls on bytes, as the C ABI has them: slices of any length, and the refusal's number or 0.
 //! `lib.rs` puts types around them.
+//!
+//! A record, a session, an outcome or a length may be longer than its size, and bytes past it stay; under
+//! size it is 12, in the order that `include/halzuqeen.h` says. With a refusal every output that fits is
+//! written: zeros, or the refusal; a refused step leaves the session.
 
+// The sizes: what is lent must have at least so many bytes.
 pub const RECORD: usize = 17;
 pub const SESSION: usize = 45;
 pub const OUTCOME: usize = 8;
@@ -58,6 +63,7 @@ mod abi {
 // SAFETY, for all four: each pointer is a slice's own with its length, the mutable ones are
 // borrowed as such for the call, and the callee keeps none of them.
 
+/// Checks 11; 12 of record and image; the text.
 pub fn read(part: u8, macros: u8, text: &[u8], image: &mut [u8], record: &mut [u8]) -> u32 {
     unsafe {
         abi::halzuqeen_read(
@@ -73,6 +79,7 @@ pub fn read(part: u8, macros: u8, text: &[u8], image: &mut [u8], record: &mut [u
     }
 }
 
+/// Checks 12 of the record; 11; 12 of length, image and text; 6 to 10.
 pub fn write(record: &[u8], image: &[u8], text: &mut [u8], length: &mut [u8]) -> u32 {
     unsafe {
         abi::halzuqeen_write(
@@ -88,6 +95,7 @@ pub fn write(record: &[u8], image: &[u8], text: &mut [u8], length: &mut [u8]) ->
     }
 }
 
+/// Checks 12 of the record; 11; 12 of session, outcome and image; 6 to 10; 15.
 pub fn start(record: &[u8], image: &[u8], leave: u8, session: &mut [u8], outcome: &mut [u8]) -> u32 {
     unsafe {
         abi::halzuqeen_start(
@@ -113,6 +121,7 @@ pub struct Answer {
     pub parity: u8,
 }
 
+/// Checks 12 of the session; 13; 12 of outcome and image; 14.
 pub fn step(session: &mut [u8], image: &[u8], answer: Answer, outcome: &mut [u8]) -> u32 {
     unsafe {
         abi::halzuqeen_step(

@@ -2,8 +2,11 @@
 use mathlib.Core.Bool.{Bool, true, false, _&&_}
 use mathlib.Core.List.{List}
 use mathlib.Core.Path.{_≡_, refl, ap, subst, _∙_}
-use Prim.Native.Nat.{ℕ}
+use Prim.Native.Nat.{ℕ, _≤_}
+use native.Mathlib.Omega.{arith}
 use lib.Dec.{leb}
+use lib.ListN.{length, drop, length-drop}
+use lib.Seq.{length-take-le}
 use Rattle.core_c.proofs.Spelled.{sum-same, entry-same}
 use Rattle.core_c.specs.Claims.{Twelve, InWords, packetWord, outcomeWord}
 use Rattle.core_c.specs.Outcomes.{packetBytes, outcomeBytes, outcomeIn}
@@ -114,6 +117,19 @@ session-back s w =
     let p = same-progress (d .progress) (s .progress) (k .at ∙ low-same (s .progress .at) (w .at)) (k .waits ∙ low-same (s .progress .waits) (w .waits)) (k .polls ∙ low-same (s .progress .polls) (w .polls)) (k .attempts ∙ low-same (s .progress .attempts) (w .attempts)) (k .kept ∙ low-same (s .progress .kept) (w .kept)) in
     same-session d s (k .header) (k .entry) p (k .transfers ∙ low-same (s .transfers) (w .transfers)) (k .finished) (k .number) (k .step)
 
+-- bytes that are long enough hold twelve metadata bytes
+pub record-twelve : (bs : List ℕ) → 17 ≤ length bs → Twelve (recordIn bs)
+unfolding recordIn
+record-twelve bs h = length-take-le 12 (drop 4 bs) (omega (arith, length-drop 4 bs))
+
+pub record-length : (h : Header) → Twelve h → length (recordBytes h) ≡ 17
+unfolding recordBytes
+record-length h n = twelve-in (λ (k : Header). length (recordBytes k) ≡ 17) h n (λ m. refl)
+
+pub session-length : (s : Session) → Twelve (s .header) → length (sessionBytes s) ≡ 45
+unfolding sessionBytes recordBytes
+session-length s n = twelve-of (λ (t : Session). length (sessionBytes t) ≡ 45) s n (λ m. refl)
+
 -- they are bytes that a session has
 is-entry : (y : Entry) (f : Bool) → (leb (entryByte y) 1 && leb (flagByte f) 1) ≡ true
 is-entry FromOpen true = refl
@@ -140,3 +156,15 @@ unfolding wordAt
 outcome-back (Refused n) h = refl
 outcome-back (Ask p) h = packet-back p h
 outcome-back (Reported r) h = ap (λ (w : ℕ). Reported (record { number = r .number; step = r .step; transfers = w })) (low-same (r .transfers) h)
+
+-- and an outcome's bytes are eight
+packet-length : (p : Packet) → length (packetBytes p) ≡ 8
+packet-length Xres = refl
+packet-length LineReset = refl
+packet-length (Read request) = refl
+packet-length (Write request word parity) = refl
+
+pub outcome-length : (o : Outcome) → length (outcomeBytes o) ≡ 8
+outcome-length (Refused n) = refl
+outcome-length (Ask p) = packet-length p
+outcome-length (Reported r) = refl

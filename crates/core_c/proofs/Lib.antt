@@ -1,7 +1,12 @@
 pub mod Putting
+pub mod Refusing
 pub mod Called
 pub mod Spelled
 pub mod Backs
 pub mod Numbers
 pub mod Onward
+pub mod ReadWrite
+pub mod Starting
+pub mod Stepping
 pub mod Claims
+pub mod Examples

@@ -7,7 +7,11 @@ use native.Mathlib.Omega.{arith}
 use borrow.Author.Tests.{eqb-false}
 use lib.Dec.{eqb}
 use lib.ListN.{length}
-use Rattle.core_c.specs.Outcomes.{numberOf}
+use Rattle.core_c.proofs.Backs.{outcome-length}
+use Rattle.core_c.proofs.Putting.{put-found}
+use Rattle.core_c.specs.Calls.{putInto}
+use Rattle.core_c.specs.Claims.{Told}
+use Rattle.core_c.specs.Outcomes.{outcomeBytes, numberOf}
 use Rattle.flow.specs.Session.{running, reported, moveAt, stepOf}
 use Rattle.flow.specs.Session as Flow
 use Rattle.flow.specs.declared.Answer.{Answer}
@@ -38,6 +42,15 @@ pub is-refused : (o : Outcome) → ¬ (numberOf o ≡ 0) → o ≡ Refused (numb
 is-refused (Refused n) h = refl
 is-refused (Ask p) h = absurd (h refl)
 is-refused (Reported r) h = absurd (h refl)
+
+-- its outcome's bytes have it
+pub said : (o : Outcome) (outcome : List ℕ) → Told (numberOf o) outcome (putInto outcome (outcomeBytes o))
+said o outcome z n = put-found 8 outcome (outcomeBytes o) (outcome-length o) n ∙ ap outcomeBytes (is-refused o z)
+
+-- neither of two numbers is 0
+pub neither : (t : Bool) (m n : ℕ) → ¬ (m ≡ 0) → ¬ (n ≡ 0) → ¬ (cond t m n ≡ 0)
+neither true m n a b = a
+neither false m n a b = b
 
 -- what a step gives holds of every way that it can end
 module _ (P : Given → Type 0) (g : Geometry) (s : Session) (bytes : List ℕ) (a : Answer)

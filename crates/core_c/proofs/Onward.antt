@@ -1,17 +1,19 @@
 -- The bytes of a possible session hold a possible session. Assumes nothing.
 use mathlib.Core.Bool.{Bool, true, false, false≢true, _&&_, cond}
+use mathlib.Core.List.{List, _++_}
 use mathlib.Core.Path.{_≡_, refl, sym, ap, _∙_}
 use Prim.Native.Nat.{ℕ, _≤_}
 use native.Mathlib.Omega.{arith}
-use borrow.Author.Tests.{lt-ltb, ltb-true, le-leb, leb-true}
-use lib.Dec.{eqb, leb, ltb}
-use lib.ListN.{length}
-use Rattle.core_c.proofs.Backs.{Near, near, is-session}
-use Rattle.core_c.proofs.Called.{step-taken}
+use borrow.Author.Tests.{lt-ltb, ltb-true, le-leb, leb-true, leb-false}
+use lib.Dec.{leb, ltb}
+use lib.ListN.{length, length-append}
+use Rattle.core_c.proofs.Backs.{Near, near, session-length, is-session}
+use Rattle.core_c.proofs.Called.{step-under, step-room}
 use Rattle.core_c.proofs.Numbers.{not-thirteen}
-use Rattle.core_c.specs.Calls.{CallResult, wrongLength, stepInto, stepCall}
+use Rattle.core_c.proofs.Spelled.{session-front}
+use Rattle.core_c.specs.Calls.{CallResult, stepInto, stepCall}
 use Rattle.core_c.specs.Claims.{Twelve, Never13}
-use Rattle.core_c.specs.Sessions.{sessionBytes, sessionIn}
+use Rattle.core_c.specs.Sessions.{sessionBytes, sessionIn, isSession}
 use Rattle.flow.specs.declared.Entry.{Entry}
 use Rattle.image.specs.declared.Header.{Header}
 use Rattle.layout.proofs.Bytes.{low-less}
@@ -22,6 +24,7 @@ use Rattle.parts.specs.declared.Lookup.{Lookup}
 use Rattle.parts.specs.declared.Lookup.the-variants.{Found, Refused as NotFound}
 use Rattle.session.proofs.Possibility.{Parts, parts, whole}
 use Rattle.session.specs.Possible.{headerFits, progressFits, reportFits, possibleIn, possibleFor, possible}
+use Rattle.session.specs.Given.{stepWith}
 use Rattle.session.specs.declared.Progress.{Progress}
 use Rattle.session.specs.declared.Session.{Session}
 
@@ -72,13 +75,33 @@ near-possible s d k can = by (lookupOf (s .header .part) (s .header .macros)) re
         let found : lookupOf (d .header .part) (d .header .macros) ≡ Found g = ap (λ (h : Header). lookupOf (h .part) (h .macros)) (k .header) ∙ e in
         ap (λ (l : Lookup). possibleFor l d) found ∙ whole g d (near-parts g s d k (parts g s is))
 
--- the next step on a possible session's bytes
-pub next-step : (s : Session) → Twelve (s .header) → possible s ≡ true → Never13 (sessionBytes s)
-unfolding stepCall
-next-step s n can image a outcome = by (eqb (length (sessionBytes s)) 45 && eqb (length outcome) 8)
+-- the next step on bytes that begin with a possible session's
+pub next-step : (s : Session) (more : List ℕ) → Twelve (s .header) → possible s ≡ true → Never13 (sessionBytes s ++ more)
+next-step s more n can image a outcome = by (leb 8 (length outcome)) refl
   where
-    by : (t : Bool) → ¬ ((cond t (stepInto (sessionBytes s) image a) (wrongLength (sessionBytes s) outcome)) .number ≡ 13)
-    by true e =
-        not-thirteen (sessionIn (sessionBytes s)) image a (near-possible s (sessionIn (sessionBytes s)) (near s n) can)
-        (sym (ap (λ (x : CallResult). x .number) (step-taken (sessionBytes s) image a (is-session s n))) ∙ e)
-    by false e = omega (arith, e)
+    bs : List ℕ
+    bs = sessionBytes s ++ more
+
+    long : 45 ≤ length bs
+    long = omega (arith, length-append (sessionBytes s) more, session-length s n)
+
+    front : (sessionIn bs ≡ sessionIn (sessionBytes s)) × (isSession bs ≡ isSession (sessionBytes s))
+    front = session-front (sessionBytes s) more (session-length s n)
+
+    is : isSession bs ≡ true
+    is = front .1 ∙ is-session s n
+
+    still : possible (sessionIn bs) ≡ true
+    still = ap (λ (t : Session). possible t) (front .0) ∙ near-possible s (sessionIn (sessionBytes s)) (near s n) can
+
+    number-of : (x : CallResult) → stepCall bs image a outcome ≡ x → stepCall bs image a outcome .number ≡ x .number
+    number-of x e = ap (λ (y : CallResult). y .number) e
+
+    by : (t : Bool) → leb 8 (length outcome) ≡ t → ¬ ((stepCall bs image a outcome) .number ≡ 13)
+    by true e k =
+        not-thirteen (sessionIn bs) image a still
+        (sym (number-of (stepInto (stepWith (sessionIn bs) image a) bs outcome) (step-room bs image a outcome long is (leb-true 8 (length outcome) e))) ∙ k)
+    by false e k =
+        let twelve : stepCall bs image a outcome .number ≡ 12
+        = step-under bs image a outcome long is (leb-false 8 (length outcome) e) ∙ rw still in
+        omega arith

@@ -1,12 +1,12 @@
 -- Laws of bytes that spell numbers. Assumes nothing.
 use mathlib.Core.Bool.{Bool, true, false, false≢true, _&&_, cond}
 use mathlib.Core.List.{List, [], _∷_, _++_}
-use mathlib.Core.Path.{_≡_, refl, sym, ap, _∙_}
+use mathlib.Core.Path.{_≡_, refl, sym, ap, subst, _∙_}
 use Prim.Native.Nat.{ℕ, _+_, _*_, _/_, _%_, _≤_, _<_}
 use native.Mathlib.Omega.{arith}
 use borrow.Author.Tests.{eqb-true, eqb-false, leb-true}
 use lib.Dec.{eqb, leb}
-use lib.ListN.{length, getD}
+use lib.ListN.{length, getD, take}
 use Rattle.core_c.specs.Claims.{Bytes}
 use Rattle.core_c.specs.Records.{recordBytes, recordIn}
 use Rattle.core_c.specs.Sessions.{entryByte, entryIn, singles, progressBytes, progressIn, sessionBytes, sessionIn, isSession}
@@ -67,14 +67,24 @@ record-start bs n h =
     ∙ ap (λ (x : ℕ). row x ((getD bs 2 0 + 256 * getD bs 3 0) / 256) (spread 4 12 bs)) e
     ∙ ap (λ (y : ℕ). row (getD bs 2 0) y (spread 4 12 bs)) f
 
-pub record-whole : (bs : List ℕ) → length bs ≡ 17 → Bytes bs → recordBytes (recordIn bs) ≡ bs
-record-whole bs n h = record-start bs (omega arith) h ∙ spread-all 17 bs n
+pub record-whole : (bs : List ℕ) → 17 ≤ length bs → Bytes bs → recordBytes (recordIn bs) ≡ take 17 bs
+record-whole bs n h = record-start bs n h ∙ spread-part 0 17 bs n
+
+-- what follows a record or a session is not looked at
+pub record-front : (bs more : List ℕ) → length bs ≡ 17 → recordIn (bs ++ more) ≡ recordIn bs
+unfolding recordIn
+record-front bs more n = subst (λ (l : List ℕ). recordIn (l ++ more) ≡ recordIn l) (spread-all 17 bs n) refl
+
+pub session-front : (bs more : List ℕ) → length bs ≡ 45 → (sessionIn (bs ++ more) ≡ sessionIn bs) × (isSession (bs ++ more) ≡ isSession bs)
+unfolding sessionIn recordIn wordAt
+session-front bs more n =
+    subst (λ (l : List ℕ). (sessionIn (l ++ more) ≡ sessionIn l) × (isSession (l ++ more) ≡ isSession l)) (spread-all 45 bs n) (refl, refl)
 
 both : {a a′ b b′ : List ℕ} → a ≡ a′ → b ≡ b′ → a ++ b ≡ a′ ++ b′
 both {a} {a′} {b} {b′} e f = ap (λ (x : List ℕ). x ++ b) e ∙ ap (λ (y : List ℕ). a′ ++ y) f
 
 -- the bytes that a session has
-module _ (bs : List ℕ) (n : length bs ≡ 45) (h : Bytes bs) (is : isSession bs ≡ true) where
+module _ (bs : List ℕ) (n : 45 ≤ length bs) (h : Bytes bs) (is : isSession bs ≡ true) where
   first-two : (getD bs 17 0 ≤ 1) × (getD bs 18 0 ≤ 1)
   first-two = by (leb (getD bs 17 0) 1) (leb (getD bs 18 0) 1) refl refl is
     where
@@ -93,8 +103,8 @@ module _ (bs : List ℕ) (n : length bs ≡ 45) (h : Bytes bs) (is : isSession b
   progress-bytes =
       both (word-whole bs 21 h) (both (word-whole bs 25 h) (both (word-whole bs 29 h) (both (word-whole bs 33 h) (word-whole bs 37 h))))
 
-  pub session-whole : sessionBytes (sessionIn bs) ≡ bs
+  pub session-whole : sessionBytes (sessionIn bs) ≡ take 45 bs
   unfolding sessionBytes sessionIn
   session-whole =
       both (record-start bs (omega arith) h) (both single-bytes (both progress-bytes (word-whole bs 41 h)))
-      ∙ spread-all 45 bs n
+      ∙ spread-part 0 45 bs n

@@ -3,3 +3,4 @@ pub mod Sessions
 pub mod Outcomes
 pub mod Calls
 pub mod Claims
+pub mod Examples

@@ -49,7 +49,7 @@ pub(crate) fn record_in(bytes: &[u8]) -> Header
 
 // Whether bytes are ones that a session has.
 pub(crate) fn is_session(bytes: &[u8]) -> bool
-    requires { ⌜ length (now bytes) ≡ 45 ⌝ }
+    requires { ⌜ 45 ≤ length (now bytes) ⌝ }
     ensures { λ r. ⌜ r ≡ isSession (now (bytes .entry)) ⌝ }
 {
     if bytes[17] <= 1 {
@@ -83,7 +83,7 @@ fn progress_in(bytes: &[u8]) -> Progress
 
 // The session that bytes hold.
 pub(crate) fn session_in(bytes: &[u8]) -> Session
-    requires { ⌜ length (now bytes) ≡ 45 ⌝ }
+    requires { ⌜ 45 ≤ length (now bytes) ⌝ }
     ensures { λ r. ⌜ r ≡ sessionIn (now (bytes .entry)) ⌝ }
 {
     let h = record_in(bytes);

@@ -1,9 +1,10 @@
-// Records, sessions and outcomes put into a caller's bytes.
+// Records, sessions, outcomes and lengths put into a caller's bytes, where they fit.
 ghost use mathlib.Core.List.{[], _∷_, _++_};
 ghost use mathlib.Core.Path.{_≡_};
 ghost use Prim.Native.Nat.{_≤_};
 ghost use lib.ListN.{length};
 ghost use lib.Seq.{sets};
+ghost use Rattle.core_c.specs.Calls.{putInto};
 ghost use Rattle.core_c.specs.Outcomes.{eightBytes, packetBytes, outcomeBytes, numberOf};
 ghost use Rattle.core_c.specs.Records.{recordBytes};
 ghost use Rattle.core_c.specs.Sessions.{entryByte, singles, progressBytes, sessionBytes};
@@ -19,9 +20,11 @@ use session::Session;
 
 // Puts a length, the low byte first.
 pub(crate) fn put_length(bytes: &mut [u8], n: usize)
-    requires { ⌜ length (now bytes) ≡ 8 ⌝ }
-    ensures { λ _. ⌜ now (bytes .exit) ≡ lowFirst 8 n ⌝ }
+    ensures { λ _. ⌜ now (bytes .exit) ≡ putInto (now (bytes .entry)) (lowFirst 8 n) ⌝ }
 {
+    if bytes.len() < 8 {
+        return;
+    }
     let mut rest = n;
     let mut at: usize = 0;
     while at < 8 {
@@ -56,10 +59,9 @@ fn record_row(part: u8, macros: u8, low: u8, high: u8, m: [u8; 12], level: u8) -
     ]
 }
 
-// Puts a record at the start.
+// Puts a record; `text::fill` leaves bytes that are too few.
 pub(crate) fn put_record(bytes: &mut [u8], h: Header)
-    requires { ⌜ 17 ≤ length (now bytes) ⌝ }
-    ensures { λ _. ⌜ now (bytes .exit) ≡ sets (now (bytes .entry)) 0 (recordBytes h) ⌝ ∗ ⌜ length (recordBytes h) ≡ 17 ⌝ }
+    ensures { λ _. ⌜ now (bytes .exit) ≡ putInto (now (bytes .entry)) (recordBytes h) ⌝ ∗ ⌜ length (recordBytes h) ≡ 17 ⌝ }
 {
     let m = h.metadata;
     let sum = h.sum;
@@ -85,7 +87,7 @@ fn entry_byte(y: Entry) -> u8
 
 // Puts the single bytes of a session.
 fn put_singles(bytes: &mut [u8], s: Session)
-    requires { ⌜ length (now bytes) ≡ 45 ⌝ }
+    requires { ⌜ 45 ≤ length (now bytes) ⌝ }
     ensures { λ _. ⌜ now (bytes .exit) ≡ sets (now (bytes .entry)) 17 (singles s) ⌝ }
 {
     let y = s.entry;
@@ -97,7 +99,7 @@ fn put_singles(bytes: &mut [u8], s: Session)
 
 // Puts the words of a session's progress.
 fn put_progress(bytes: &mut [u8], p: Progress)
-    requires { ⌜ length (now bytes) ≡ 45 ⌝ }
+    requires { ⌜ 45 ≤ length (now bytes) ⌝ }
     ensures { λ _. ⌜ now (bytes .exit) ≡ sets (now (bytes .entry)) 21 (progressBytes p) ⌝ }
 {
     put_word(bytes, 21, p.at);
@@ -109,8 +111,8 @@ fn put_progress(bytes: &mut [u8], p: Progress)
 
 // Puts a session.
 pub(crate) fn put_session(bytes: &mut [u8], s: Session)
-    requires { ⌜ length (now bytes) ≡ 45 ⌝ }
-    ensures { λ _. ⌜ now (bytes .exit) ≡ sessionBytes s ⌝ }
+    requires { ⌜ 45 ≤ length (now bytes) ⌝ }
+    ensures { λ _. ⌜ now (bytes .exit) ≡ putInto (now (bytes .entry)) (sessionBytes s) ⌝ }
 {
     let h = s.header;
     let p = s.progress;
@@ -122,9 +124,11 @@ pub(crate) fn put_session(bytes: &mut [u8], s: Session)
 
 // Puts the eight bytes of an outcome.
 fn put_eight(bytes: &mut [u8], kind: u8, first: u8, second: u8, word: u32)
-    requires { ⌜ length (now bytes) ≡ 8 ⌝ }
-    ensures { λ _. ⌜ now (bytes .exit) ≡ eightBytes kind first second word ⌝ }
+    ensures { λ _. ⌜ now (bytes .exit) ≡ putInto (now (bytes .entry)) (eightBytes kind first second word) ⌝ }
 {
+    if bytes.len() < 8 {
+        return;
+    }
     bytes[0] = kind;
     bytes[1] = first;
     bytes[2] = second;
@@ -134,8 +138,7 @@ fn put_eight(bytes: &mut [u8], kind: u8, first: u8, second: u8, word: u32)
 
 // Puts a request.
 fn put_packet(bytes: &mut [u8], p: Packet)
-    requires { ⌜ length (now bytes) ≡ 8 ⌝ }
-    ensures { λ _. ⌜ now (bytes .exit) ≡ packetBytes p ⌝ }
+    ensures { λ _. ⌜ now (bytes .exit) ≡ putInto (now (bytes .entry)) (packetBytes p) ⌝ }
 {
     match p {
         Packet::Xres => put_eight(bytes, 1, 0, 0, 0),
@@ -147,8 +150,7 @@ fn put_packet(bytes: &mut [u8], p: Packet)
 
 // Puts an outcome.
 pub(crate) fn put_outcome(bytes: &mut [u8], o: Outcome)
-    requires { ⌜ length (now bytes) ≡ 8 ⌝ }
-    ensures { λ _. ⌜ now (bytes .exit) ≡ outcomeBytes o ⌝ }
+    ensures { λ _. ⌜ now (bytes .exit) ≡ putInto (now (bytes .entry)) (outcomeBytes o) ⌝ }
 {
     match o {
         Outcome::Refused(n) => put_eight(bytes, 0, n, 0, 0),

@@ -1,7 +1,11 @@
 // The calls for programs in other languages: records, sessions and outcomes stand in the caller's bytes (include/halzuqeen.h).
+ghost use mathlib.Core.Bool.{cond};
 ghost use mathlib.Core.Path.{_≡_};
+ghost use Prim.Native.Nat.{_≤_};
+ghost use lib.Dec.{leb};
 ghost use lib.ListN.{length};
-ghost use Rattle.core_c.specs.Calls.{answerIn, givenInto, stepInto, readCall, writeCall, startCall, stepCall};
+ghost use Rattle.core_c.specs.Calls.{inTable, answerIn, startInto, readCall, writeCall, startCall, stepCall};
+ghost use Rattle.session.specs.Given.{startRefused};
 
 mod decode;
 mod encode;
@@ -16,37 +20,61 @@ use encode::put_outcome;
 use encode::put_record;
 use encode::put_session;
 use flow::Answer;
-use session::Given;
+use parts::Lookup;
 use session::Outcome;
 
-// Puts what starting or a step gave: the session, the outcome, and the number to return.
-fn put_given(bytes: &mut [u8], outcome: &mut [u8], given: Given) -> u32
-    requires { ⌜ (length (now bytes) ≡ 45) × (length (now outcome) ≡ 8) ⌝ }
-    ensures { λ r. ⌜ r ≡ givenInto given .number ⌝ }
-    ensures { λ _. ⌜ now (bytes .exit) ≡ givenInto given .first ⌝ }
-    ensures { λ _. ⌜ now (outcome .exit) ≡ givenInto given .second ⌝ }
+// The number where an output is under size: 12, once 11 is past.
+fn under_size(part: u8, macros: u8) -> u8
+    ensures { λ r. ⌜ r ≡ cond (inTable part macros) 12 11 ⌝ }
 {
-    let s = given.session;
-    let o = given.outcome;
-    put_session(bytes, s);
-    put_outcome(outcome, o);
-    number_of(o)
+    let found = parts::find(part, macros);
+    match found {
+        Lookup::Refused(_) => 11,
+        Lookup::Found(_) => 12,
+    }
 }
 
-// A step on bytes of a session's length.
+// Refuses a start: the session of zeros and the refusal, each where it fits.
+fn refuse_start(bytes: &mut [u8], outcome: &mut [u8], n: u8) -> u32
+    ensures { λ r. ⌜ r ≡ startInto (startRefused n) (now (bytes .entry)) (now (outcome .entry)) .number ⌝ }
+    ensures { λ _. ⌜ now (bytes .exit) ≡ startInto (startRefused n) (now (bytes .entry)) (now (outcome .entry)) .first ⌝ }
+    ensures { λ _. ⌜ now (outcome .exit) ≡ startInto (startRefused n) (now (bytes .entry)) (now (outcome .entry)) .second ⌝ }
+{
+    text::clear(bytes, 45);
+    put_outcome(outcome, Outcome::Refused(n));
+    n as u32
+}
+
+// How much of an image to lend to a step: none of it where the outcome has no room, so that the step stops at 13 or at 12.
+fn lent_with(outcome: usize, image: usize) -> usize
+    ensures { λ r. ⌜ r ≡ cond (leb 8 outcome) image 0 ⌝ ∗ ⌜ r ≤ image ⌝ }
+{
+    if outcome < 8 { 0 } else { image }
+}
+
+// A step on bytes that are enough for a session.
 fn step_on(bytes: &mut [u8], image: &[u8], a: Answer, outcome: &mut [u8]) -> u32
-    requires { ⌜ (length (now bytes) ≡ 45) × (length (now outcome) ≡ 8) ⌝ }
-    ensures { λ r. ⌜ r ≡ stepInto (now (bytes .entry)) (now (image .entry)) a .number ⌝ }
-    ensures { λ _. ⌜ now (bytes .exit) ≡ stepInto (now (bytes .entry)) (now (image .entry)) a .first ⌝ }
-    ensures { λ _. ⌜ now (outcome .exit) ≡ stepInto (now (bytes .entry)) (now (image .entry)) a .second ⌝ }
+    requires { ⌜ 45 ≤ length (now bytes) ⌝ }
+    ensures { λ r. ⌜ r ≡ stepCall (now (bytes .entry)) (now (image .entry)) a (now (outcome .entry)) .number ⌝ }
+    ensures { λ _. ⌜ now (bytes .exit) ≡ stepCall (now (bytes .entry)) (now (image .entry)) a (now (outcome .entry)) .first ⌝ }
+    ensures { λ _. ⌜ now (outcome .exit) ≡ stepCall (now (bytes .entry)) (now (image .entry)) a (now (outcome .entry)) .second ⌝ }
 {
     if !is_session(bytes) {
         put_outcome(outcome, Outcome::Refused(13));
         return 13;
     }
     let s = session_in(bytes);
-    let given = session::step(s, image, a);
-    put_given(bytes, outcome, given)
+    let lent = lent_with(outcome.len(), image.len());
+    let given = session::step(s, &image[..lent], a);
+    let o = given.outcome;
+    put_outcome(outcome, o);
+    let n = number_of(o);
+    if n != 0 {
+        return n;
+    }
+    let t = given.session;
+    put_session(bytes, t);
+    0
 }
 
 // Takes the answer to the standing request; gives the next request or the report.
@@ -64,10 +92,8 @@ pub extern "C" fn halzuqeen_step(
     ensures { λ _. ⌜ now (session .exit) ≡ stepCall (now (session .entry)) (now (image .entry)) (answerIn «reset_done» ack word parity) (now (outcome .entry)) .first ⌝ }
     ensures { λ _. ⌜ now (outcome .exit) ≡ stepCall (now (session .entry)) (now (image .entry)) (answerIn «reset_done» ack word parity) (now (outcome .entry)) .second ⌝ }
 {
-    if session.len() != 45 {
-        return 12;
-    }
-    if outcome.len() != 8 {
+    if session.len() < 45 {
+        put_outcome(outcome, Outcome::Refused(12));
         return 12;
     }
     let a = answer_in(reset_done, ack, word, parity);
@@ -87,18 +113,22 @@ pub extern "C" fn halzuqeen_start(
     ensures { λ _. ⌜ now (session .exit) ≡ startCall (now (header .entry)) (now (image .entry)) leave (now (session .entry)) (now (outcome .entry)) .first ⌝ }
     ensures { λ _. ⌜ now (outcome .exit) ≡ startCall (now (header .entry)) (now (image .entry)) leave (now (session .entry)) (now (outcome .entry)) .second ⌝ }
 {
-    if header.len() != 17 {
-        return 12;
-    }
-    if session.len() != 45 {
-        return 12;
-    }
-    if outcome.len() != 8 {
-        return 12;
+    if header.len() < 17 {
+        return refuse_start(session, outcome, 12);
     }
     let h = record_in(header);
+    if session.len() < 45 {
+        return refuse_start(session, outcome, under_size(h.part, h.macros));
+    }
+    if outcome.len() < 8 {
+        return refuse_start(session, outcome, under_size(h.part, h.macros));
+    }
     let given = session::start(h, image, leave != 0);
-    put_given(session, outcome, given)
+    let s = given.session;
+    let o = given.outcome;
+    put_session(session, s);
+    put_outcome(outcome, o);
+    number_of(o)
 }
 
 // Reads a hex text: the image's bytes and its record.
@@ -114,8 +144,8 @@ pub extern "C" fn halzuqeen_read(
     ensures { λ _. ⌜ now (image .exit) ≡ readCall part macros (now (text .entry)) (now (image .entry)) (now (header .entry)) .first ⌝ }
     ensures { λ _. ⌜ now (header .exit) ≡ readCall part macros (now (text .entry)) (now (image .entry)) (now (header .entry)) .second ⌝ }
 {
-    if header.len() != 17 {
-        return 12;
+    if header.len() < 17 {
+        return under_size(part, macros) as u32;
     }
     let answer = hex::read(part, macros, text, image);
     let h = answer.header;
@@ -135,13 +165,14 @@ pub extern "C" fn halzuqeen_write(
     ensures { λ _. ⌜ now (text .exit) ≡ writeCall (now (header .entry)) (now (image .entry)) (now (text .entry)) (now (size .entry)) .first ⌝ }
     ensures { λ _. ⌜ now (size .exit) ≡ writeCall (now (header .entry)) (now (image .entry)) (now (text .entry)) (now (size .entry)) .second ⌝ }
 {
-    if header.len() != 17 {
-        return 12;
-    }
-    if size.len() != 8 {
+    if header.len() < 17 {
+        put_length(size, 0);
         return 12;
     }
     let h = record_in(header);
+    if size.len() < 8 {
+        return under_size(h.part, h.macros) as u32;
+    }
     let answer = hex_writer::write(h, image, text);
     put_length(size, answer.length);
     answer.number as u32

@@ -1,8 +1,9 @@
-//! The ABI's own edges: buffers of other sizes are 12 with nothing written, and impossible marks 13; the
-//! bench board's too.
+//! The ABI's own edges: buffers of other lengths (`lengths`), impossible marks (13), parts and M that a byte
+//! can name; the bench board's too, whose buffers of other sizes are 12 with nothing written.
+
+mod lengths;
 
 use super::outcome_bytes;
-use crate::hex::text_length;
 use crate::image::Header;
 use crate::indexed::{header_bytes, started};
 use crate::parts::{KILL, SIZES};
@@ -19,60 +20,7 @@ fn other_sizes(right: usize) -> impl Iterator<Item = usize> {
     (0..2 * right + 2).filter(move |&size| size != right)
 }
 
-fn read_and_write(rng: &mut Rng, part: u32, macros: u32) -> u64 {
-    let (header, image) = sample_image(rng, part, macros);
-    let (record, mut calls) = (header_bytes(&header), 0);
-    let mut text = vec![0; text_length(&header.sizes().expect("a part of the table"))];
-    assert_eq!(raw::write(&record, &image, &mut text, &mut [0; raw::LENGTH]), 0);
-    for size in other_sizes(raw::RECORD) {
-        let (mut buffer, mut other) = (vec![LEFT; image.len()], vec![LEFT; size]);
-        assert_eq!(raw::read(part as u8, macros as u8, &text, &mut buffer, &mut other), 12);
-        assert!(buffer.iter().chain(&other).all(|&b| b == LEFT));
-        let (mut written, mut length) = (vec![LEFT; text.len()], [LEFT; raw::LENGTH]);
-        assert_eq!(raw::write(&other, &image, &mut written, &mut length), 12);
-        assert!(written.iter().chain(&length).all(|&b| b == LEFT));
-        calls += 2;
-    }
-    for size in other_sizes(raw::LENGTH) {
-        let (mut written, mut length) = (vec![LEFT; text.len()], vec![LEFT; size]);
-        assert_eq!(raw::write(&record, &image, &mut written, &mut length), 12);
-        assert!(written.iter().chain(&length).all(|&b| b == LEFT));
-        calls += 1;
-    }
-    calls
-}
-
 const RESET_DONE: raw::Answer = raw::Answer { reset_done: 1, ack: 0, word: 0, parity: 0 };
-
-fn start_and_step(rng: &mut Rng, part: u32, macros: u32) -> u64 {
-    let (header, image) = sample_image(rng, part, macros);
-    buffers_of_other_sizes(&header, &image) + leaves(&header, &image) + impossible_marks(&header, &image)
-}
-
-fn buffers_of_other_sizes(header: &Header, image: &[u8]) -> u64 {
-    let (record, mut calls) = (header_bytes(header), 0);
-    let sizes = [raw::RECORD, raw::SESSION, raw::OUTCOME];
-    for (which, right) in sizes.into_iter().enumerate() {
-        for size in other_sizes(right) {
-            let mut given = sizes;
-            given[which] = size;
-            let mut lent = record.to_vec();
-            lent.resize(given[0], LEFT);
-            let (mut session, mut outcome) = (vec![LEFT; given[1]], vec![LEFT; given[2]]);
-            assert_eq!(raw::start(&lent, image, 1, &mut session, &mut outcome), 12);
-            assert!(session.iter().chain(&outcome).all(|&b| b == LEFT));
-            if which > 0 {
-                let mut session = started(header).to_vec();
-                session.resize(given[1], LEFT);
-                let before = session.clone();
-                assert_eq!(raw::step(&mut session, image, RESET_DONE, &mut outcome), 12);
-                assert!(session == before && outcome.iter().all(|&b| b == LEFT));
-            }
-            calls += 2;
-        }
-    }
-    calls
-}
 
 /// Any byte but 0 is leave for KILL.
 fn leaves(header: &Header, image: &[u8]) -> u64 {
@@ -171,7 +119,9 @@ pub fn edges() -> u64 {
     let mut rng = Rng(51);
     let mut calls = parts() + bench();
     for (part, macros) in SIZES {
-        calls += read_and_write(&mut rng, part, macros) + start_and_step(&mut rng, part, macros);
+        let (header, image) = sample_image(&mut rng, part, macros);
+        calls += leaves(&header, &image) + impossible_marks(&header, &image);
+        calls += lengths::lengths(&mut rng, part, macros);
     }
     calls
 }

@@ -1,25 +1,28 @@
--- 12, then reading. Assumes nothing.
-use Rattle.core_c.proofs.Called.{leaves, read-wrong, read-done}
+-- 11 or 12 for a record under size, or reading. Assumes nothing.
+use mathlib.Core.Path.{refl}
+use Rattle.core_c.proofs.Called.{leaves-as, read-under, read-done}
 use borrow.Author.Needs.{needs}
 use Rattle.core_c.proofs.halzuqeen_read.Statement.{statement}
 use Rattle.core_c.proofs.halzuqeen_read.Tie as tie
 
 returns : tie.Need-returns
 returns c =
-    let a = c .before .before .before .before .args in
-    leaves _ _ _ _ (read-wrong (a .part) (a .macros) (a .text .now) (a .image .now) (a .header .now) (c .if1 .taken))
+    let a = c .before .before .before .before .before .args in
+    leaves-as _ _ _ _ _ (read-under (a .part) (a .macros) (a .text .now) (a .image .now) (a .header .now) (c .before .if1 .taken)) (c .under-size .ensures, (refl, refl))
 
 returns-2 : tie.Need-returns-2
 returns-2 c =
-    let a = c .before .before .before .before .before .before .before .before .before .before .before .before .before .before .args in
+    let tested = c .before .before .before .before .before .before .before .before .before .before in
+    let a = tested .before .before .before .before .args in
     let r = c .before .before .before .before .before .before .before .before .read .ensures in
-    let p = c .before .before .before .put-record .ensures in
-    read-done (a .part) (a .macros) (a .text .now) (a .image .now) (a .header .now) _ _ _ (c .before .before .before .before .before .before .before .before .before .before .if1 .left) (r .0) (r .1) (p .0) (p .1)
+    read-done (a .part) (a .macros) (a .text .now) (a .image .now) (a .header .now) _ _ _ (tested .if1 .left) (r .0) (r .1) (c .before .before .before .put-record .ensures .0)
 
 pub halzuqeen-read-spec : {M : Type 1} → statement M
 halzuqeen-read-spec =
     tie.close
     (tie.spec
+    (λ c κs. search needs)
+    (λ c. search needs)
     returns
     (λ c κs. search needs)
     (λ c κs. search needs)

@@ -1,32 +1,44 @@
--- 12, then writing. Assumes nothing.
-use Rattle.core_c.proofs.Called.{leaves, write-wrong, write-wrong-size, write-done}
+-- 12 for a record under size, 11 or 12 for a length under size, or writing. Assumes nothing.
+use mathlib.Core.Path.{refl, ap, _∙_}
+use Rattle.core_c.proofs.Called.{elevenOr12, leaves-as, write-partless, write-under, write-done}
+use Rattle.image.specs.declared.Header.{Header}
 use borrow.Author.Needs.{needs}
 use Rattle.core_c.proofs.halzuqeen_write.Statement.{statement}
 use Rattle.core_c.proofs.halzuqeen_write.Tie as tie
 
 returns : tie.Need-returns
 returns c =
-    let a = c .before .before .before .before .before .args in
-    leaves _ _ _ _ (write-wrong (a .header .now) (a .image .now) (a .text .now) (a .size .now) (c .if1 .taken))
+    let tested = c .before .before .before .before in
+    let a = tested .before .before .before .before .before .args in
+    leaves-as _ _ _ _ _ (write-partless (a .header .now) (a .image .now) (a .text .now) (a .size .now) (tested .if1 .taken))
+    (refl, (refl, c .before .before .put-length .ensures))
 
 returns-2 : tie.Need-returns-2
 returns-2 c =
-    let a = c .before .before .before .before .before .before .args in
-    leaves _ _ _ _ (write-wrong-size (a .header .now) (a .image .now) (a .text .now) (a .size .now) (c .before .if1 .left) (c .if2 .taken))
+    let tested = c .before .before .before in
+    let a = tested .before .before .before .before .before .args in
+    leaves-as _ _ _ _ _ (write-under (a .header .now) (a .image .now) (a .text .now) (a .size .now) (tested .if1 .left) (c .before .if2 .taken))
+    (c .under-size .ensures ∙ ap (λ (h : Header). elevenOr12 (h .part) (h .macros)) (c .before .before .record-in .ensures), (refl, refl))
 
 returns-3 : tie.Need-returns-3
 returns-3 c =
-    let a = c .before .before .before .before .before .before .before .before .before .before .before .before .before .before .before .before .args in
-    let w = c .before .before .before .before .before .before .before .write .ensures in
-    write-done (a .header .now) (a .image .now) (a .text .now) (a .size .now) _ _ _ _ (c .before .before .before .before .before .before .before .before .before .before .before .if1 .left) (c .before .before .before .before .before .before .before .before .before .before .if2 .left) (c .before .before .before .before .before .before .before .before .before .record-in .ensures) (w .0) (w .1) (c .before .before .before .put-length .ensures)
+    let writing = c .before .before .before .before .before .before .before in
+    let tested = writing .before .before .before .before in
+    let a = tested .before .before .before .before .before .args in
+    let w = writing .write .ensures in
+    write-done (a .header .now) (a .image .now) (a .text .now) (a .size .now) (tested .if1 .left) _ _ _ _ (writing .before .before .if2 .left) (writing .before .before .before .record-in .ensures) (w .0) (w .1) (c .before .before .before .put-length2 .ensures)
 
 pub halzuqeen-write-spec : {M : Type 1} → statement M
 halzuqeen-write-spec =
     tie.close
     (tie.spec
-    returns
-    returns-2
     (λ c κs. search needs)
+    (λ c. search needs)
+    returns
+    (λ c κs. search needs)
+    (λ c κs. search needs)
+    (λ c. search needs)
+    returns-2
     (λ c κs. search needs)
     (λ c κs. search needs)
     (λ c. search needs)

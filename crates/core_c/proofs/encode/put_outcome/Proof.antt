@@ -16,6 +16,6 @@ put-outcome-spec =
     (λ c. search needs)
     (λ c. rw (c .before .before .before .before .before .o .given .1) (c .before .before .put-eight .ensures))
     (λ c. search needs)
-    (λ c. search needs)
+    (λ c. rw (c .before .before .before .before .before .o2 .given .1) (c .before .before .put-packet .ensures))
     (λ c. search needs)
     (λ c. rw (c .before .before .before .before .before .o3 .given .1) (c .before .before .put-eight2 .ensures)))

@@ -8,7 +8,7 @@ use Rattle.core_c.proofs.encode.put_record.Tie as tie
 returns : tie.Need-returns
 returns c =
     let a = c .before .before .before .before .before .before .before .before .args in
-    record-put (a .bytes .now) _ (a .h) _ (c .before .before .before .before .before .record-row .ensures) (omega arith) (c .before .before .before .before .before .before .before .before .pre) (c .before .before .fill .ensures)
+    record-put (a .bytes .now) _ (a .h) _ (c .before .before .before .before .before .record-row .ensures) (omega arith) (c .before .before .fill .ensures)
 
 pub put-record-spec : {M : Type 1} → statement M
 put-record-spec =
