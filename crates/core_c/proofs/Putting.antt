@@ -19,7 +19,7 @@ use Rattle.image.specs.Words.{lowFirst}
 use Rattle.layout.specs.Bytes.{wordPut}
 use Rattle.session.specs.declared.Progress.{Progress}
 use Rattle.session.specs.declared.Session.{Session}
-use Rattle.text.proofs.Storing.{stored, dst-short, sets-append}
+use Rattle.text.proofs.Storing.{stored, part-short, sets-append}
 use Rattle.text.specs.Storing.{storedAt}
 
 -- bytes that fit are stored from the start on, and others are not
@@ -81,7 +81,7 @@ record-put b row h out q n e = (e ∙ put (leb 17 (length b)) refl ∙ ap (putIn
         sym (stored b 0 row 0 17 (omega arith) (omega arith)) ∙ ap (sets b 0) (take-all 17 row (omega arith)) ∙ put-fits b row (omega arith)
     put false f =
         let none = leb-false 17 (length b) f in
-        sym (dst-short b 0 row 0 17 (omega arith) (omega arith)) ∙ put-under b row (omega arith)
+        sym (part-short b 0 row 0 17 (omega arith) (omega arith)) ∙ put-under b row (omega arith)
 
 -- five words, one behind the other
 module _ (b b₁ b₂ b₃ b₄ b₅ : List ℕ) (p : Progress) where

@@ -28,17 +28,16 @@ use Rattle.parts.specs.Sizes.{imageSize}
 use Rattle.parts.specs.declared.Geometry.{Geometry}
 use Rattle.parts.specs.declared.Lookup.{Lookup}
 use Rattle.parts.specs.declared.Lookup.the-variants.{Found}
-use Rattle.text.proofs.Placing.{placing-length, laid-header}
+use Rattle.text.proofs.Placing.{placing-length, laid, laid-in}
 use Rattle.text.specs.Lines.{linesOf}
 use Rattle.text.specs.Placing.{gathered, overall}
 use Rattle.text.specs.Reading.{Reading, Untouched, Cleared, Taken, answerOf}
-use Rattle.text.specs.Storing.{laid}
 
 -- ---- what is read has twelve metadata bytes
 
 header-size : (g : Geometry) (stream : List ℕ) → length stream ≡ overall (λ s. s .size) (sectionsOf g) → length (gathered InHeader (sectionsOf g) stream) ≡ 15
 unfolding laid
-header-size g stream all = ap length (sym (laid-header g stream all (replicate 15 0) refl)) ∙ simp length-sets
+header-size g stream all = ap length (sym (laid-in g stream all InHeader (replicate 15 0) refl)) ∙ simp length-sets
 
 twelve-of : (part macros : ℕ) (bs : List ℕ) → length bs ≡ 15 → Twelve (headerOf part macros bs)
 twelve-of part macros bs n = length-take-le 12 (drop 2 bs) (omega (arith, length-drop 2 bs))
