@@ -6,6 +6,7 @@ use native.Mathlib.Omega.{arith}
 use lib.ListN.{length}
 use Rattle.flow.specs.Plan.{Traffic, counting, trafficIn, isPoll, pollsIn, fromProtected, plan, loops, acquisitions}
 use Rattle.flow.specs.Sequence.{write, read, call, writes, listed, inTurn, imoCall, acquire, silicon, privileged, programRow, compareWords, verifyRow, lockStart, lockMacro, verifyMacro, program, opening, afterwards, sequence, key}
+use Rattle.flow.specs.Session.{bare, moveCount}
 use Rattle.flow.specs.Totals.{SequenceCounts}
 use Rattle.flow.specs.declared.Entry.{Entry}
 use Rattle.flow.specs.declared.Entry.the-variants.{FromOpen, FromProtected}
@@ -194,8 +195,32 @@ module _ (i : Image) (f : Facts (i .geometry)) where
       (joined (count-acquire (i .geometry) f) (joined (count-silicon (i .geometry) Reopened refl) count-program))))
       (omega (arith, plan-form FromProtected)) (omega arith) refl refl
 
+-- a list's moves are its requests
+length-traffic : (ms : List Move) → length ms ≡ total (trafficIn ms)
+unfolding trafficIn
+length-traffic [] = refl
+length-traffic (m ∷ ms) = ap suc (length-traffic ms) ∙ sym (one-more (m .request) (trafficIn ms))
+
+-- the plan's reads and writes, and each acquisition's XRES and line reset
+moves-planned : (i : Image) → Facts (i .geometry) → (y : Entry) → length (sequence i y) ≡ plan (i .geometry) y + 2 * acquisitions y
+moves-planned i f y =
+    let t = sequence-totals i f y in
+    omega (arith, length-traffic (sequence i y), t .transfers, t .xresets, t .lineResets)
+
+pub planned : (g : Geometry) → Facts g → (y : Entry) → moveCount g y ≡ plan g y + 2 * acquisitions y
+planned g f y = moves-planned (bare g) f y
+
 -- the same, for the parts of the table
 pub sequence-counts : SequenceCounts
 sequence-counts part macros g e h bytes y =
-    let t = sequence-totals (imageOf g h bytes) (facts part macros g e) y in
-    record { transfers = t .transfers; polls = t .polls; xresets = t .xresets; lineResets = t .lineResets }
+    let i = imageOf g h bytes in
+    let f = facts part macros g e in
+    let t = sequence-totals i f y in
+    record {
+      transfers = t .transfers;
+      polls = t .polls;
+      xresets = t .xresets;
+      lineResets = t .lineResets;
+      moves = moves-planned i f y;
+      counted = planned g f y ∙ sym (moves-planned i f y);
+    }

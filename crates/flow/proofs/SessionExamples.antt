@@ -48,5 +48,7 @@ session-examples = record {
   fault = rw (move-examples .setup) (unfold verdict heard in refl);
   silence = rw (move-examples .setup) (unfold verdict heard in refl);
   wrongParity = rw (move-examples .poll) (unfold verdict heard ones in refl);
+  faultAt5 = rw (move-examples .row) (unfold verdict heard in refl);
+  statusAt5 = rw (move-examples .row, right 0xF0000000);
   stays = λ number step transfers a. refl;
 }

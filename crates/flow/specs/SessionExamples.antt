@@ -67,5 +67,8 @@ pub record SessionExamples : Type 0 where
   pub fault : after (standing 3 0 0 0) (answer 4 0 0) ≡ reported 28 1 41
   pub silence : after (standing 3 0 0 0) (answer 0 0 0) ≡ reported 29 1 41
   pub wrongParity : after (standing 13 0 0 0) (answer 1 0 1) ≡ reported 30 1 41
+  -- 'the flow step then running': here 5, the last move of row 0
+  pub faultAt5 : after (standing 122 0 0 0) (answer 4 0 0) ≡ reported 28 5 41
+  pub statusAt5 : after (standing 122 0 0 0) (okayWith 0xF0000000) ≡ reported 19 5 41
   -- the report stays
   pub stays : (number step transfers : ℕ) (a : Answer) → after (reported number step transfers) a ≡ reported number step transfers

@@ -1,9 +1,11 @@
 -- The counts of the sequence are document 01's. Assumes nothing.
 use mathlib.Core.List.{List}
 use mathlib.Core.Path.{_≡_}
-use Prim.Native.Nat.{ℕ}
+use Prim.Native.Nat.{ℕ, _+_, _*_}
+use lib.ListN.{length}
 use Rattle.flow.specs.Plan.{trafficIn, pollsIn, plan, loops, acquisitions}
 use Rattle.flow.specs.Sequence.{sequence}
+use Rattle.flow.specs.Session.{moveCount}
 use Rattle.flow.specs.declared.Entry.{Entry}
 use Rattle.image.specs.Image.{Image, imageOf}
 use Rattle.image.specs.declared.Header.{Header}
@@ -17,6 +19,9 @@ pub record SequenceCounted (i : Image) (y : Entry) : Type 0 where
   pub polls : pollsIn (sequence i y) ≡ loops (i .geometry) y
   pub xresets : trafficIn (sequence i y) .xresets ≡ acquisitions y
   pub lineResets : trafficIn (sequence i y) .lineResets ≡ acquisitions y
+  -- its moves, within which 13 holds a session, are these and no more
+  pub moves : length (sequence i y) ≡ plan (i .geometry) y + 2 * acquisitions y
+  pub counted : moveCount (i .geometry) y ≡ length (sequence i y)
 
 -- for every part and M that the table offers, whatever the header and the bytes
 abbrev pub SequenceCounts : Type 0

@@ -7,6 +7,7 @@ use native.Mathlib.Numerals.{add-one}
 use native.Mathlib.Omega.{arith}
 use borrow.Author.Tests.{ltb-true}
 use lib.Dec.{ltb}
+use Rattle.flow.proofs.Counting.{planned}
 use Rattle.flow.proofs.Table.{facts}
 use Rattle.flow.specs.Monitor.{isReset, isAttempt}
 use Rattle.flow.specs.Packets.{verdict}
@@ -31,7 +32,6 @@ use Rattle.session.specs.declared.Progress.{Progress}
 use Rattle.session.specs.declared.Session.{Session}
 use Rattle.session.proofs.Closed.{Within}
 use Rattle.session.proofs.Nexts.{stand-heard}
-use Rattle.session.proofs.Places.{planned}
 use Rattle.session.proofs.Possibility.{parts, stands-of}
 
 -- ---- bounds of the table

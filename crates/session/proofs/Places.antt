@@ -1,18 +1,15 @@
--- Where moves stand in the sequence: its length, its last move. Assumes nothing.
+-- Where moves stand in the sequence: its last move, and that each other has a next. Assumes nothing.
 use mathlib.Core.Bool.{Bool, true, false}
 use mathlib.Core.List.{List, [], _∷_, _++_, append-assoc}
 use mathlib.Core.Path.{_≡_, refl, sym, ap, _∙_}
-use Prim.Native.Nat.{ℕ, suc, _+_, _*_, _<_}
+use Prim.Native.Nat.{ℕ, suc, _+_, _<_}
 use native.Mathlib.Omega.{arith}
 use borrow.Author.Tests.{ltb-true, ltb-false}
 use lib.Dec.{ltb}
 use lib.ListN.{length, getD, length-append}
 use lib.Seq.{getD-at}
-use Rattle.flow.proofs.Counting.{total, one-more, sequence-totals}
-use Rattle.flow.proofs.Table.{Facts}
-use Rattle.flow.specs.Plan.{trafficIn, plan, acquisitions}
 use Rattle.flow.specs.Sequence.{move, read, call, listed, inTurn, privileged, programRow, verifyRow, lockMacro, verifyMacro, acquire, silicon, program, opening, afterwards, sequence, endMove, key}
-use Rattle.flow.specs.Session.{moveAt}
+use Rattle.flow.specs.Session.{moveAt, moveCount}
 use Rattle.flow.specs.declared.Entry.{Entry}
 use Rattle.flow.specs.declared.Entry.the-variants.{FromOpen, FromProtected}
 use Rattle.flow.specs.declared.Move.{Move}
@@ -20,18 +17,8 @@ use Rattle.flow.specs.declared.Purpose.the-variants.{Sent, Keep, Reopened, Stor
 use Rattle.flow.specs.declared.Request.the-variants.{ReadDrw, WriteTar}
 use Rattle.image.specs.Image.{Image}
 use Rattle.moves.proofs.Counts.{counted, opening-counted, count-open, count-reopen}
-use Rattle.flow.specs.Session.{bare, moveCount}
 use Rattle.parts.specs.Sizes.{macrosOf, rowsOf, sysargOf, levelAt}
 use Rattle.parts.specs.declared.Geometry.{Geometry}
-
--- ---- the length
-
-length-traffic : (ms : List Move) → length ms ≡ total (trafficIn ms)
-unfolding trafficIn
-length-traffic [] = refl
-length-traffic (m ∷ ms) = ap suc (length-traffic ms) ∙ sym (one-more (m .request) (trafficIn ms))
-
--- ---- the last move
 
 pub record Ends (m : Move) (ms : List Move) : Type 0 where
   pub front : List Move
@@ -70,13 +57,6 @@ ends-sequence i FromProtected =
     (after (acquire (i .geometry)) (after (silicon (i .geometry) Reopened) (ends-program i))))
 
 -- ---- places
-
--- the plan's reads and writes, and each acquisition's XRES and line reset
-pub planned : (g : Geometry) → Facts g → (y : Entry) → moveCount g y ≡ plan g y + 2 * acquisitions y
-planned g f y =
-    let i = bare g in
-    let t = sequence-totals i f y in
-    omega (arith, length-traffic (sequence i y), t .transfers, t .xresets, t .lineResets)
 
 module _ (i : Image) where
   -- steps 1 and 2 are not all, whatever the entry
