@@ -1,4 +1,4 @@
-//! What docs/PROMISES.md names is in the tree: files, names, lines and must-fail edits.
+//! What docs/PROMISES.md names is in the tree: files, names, lines, must-fail edits, and the reading list for demand 3.
 
 use std::collections::BTreeSet;
 use std::fs;
@@ -135,5 +135,116 @@ fn names_are_there() {
             let file = last == "stdout" || root().join("crates").join(last).exists();
             assert!(file, "no {name} in the crates");
         }
+    }
+}
+
+/// The rows of the table that follows a heading, cell by cell, without the two lines of its head.
+fn table<'a>(page: &'a str, heading: &str) -> Vec<Vec<&'a str>> {
+    let after = page.split(heading).nth(1).unwrap_or_else(|| panic!("no '{heading}'"));
+    let rows = after.lines().skip_while(|l| !l.starts_with('|')).take_while(|l| l.starts_with('|'));
+    rows.skip(2).map(|l| l.trim_matches('|').split('|').map(str::trim).collect()).collect()
+}
+
+/// The first errors of 'Ruled out by name' are those of the gate's log, if this tree has been through the gate.
+#[test]
+fn first_errors_are_as_said() {
+    let page = promises();
+    let rows = table(&page, "## Ruled out by name");
+    assert!(rows.len() >= 14, "{} rows", rows.len());
+    let log = fs::read_to_string(root().join("target/ci.log")).unwrap_or_default();
+    for row in rows {
+        let (edit, file) = (quoted(row[1])[0], quoted(row[3])[0]);
+        let (of, name) = edit.split_once('/').unwrap();
+        let gate = root().join(format!("crates/{of}/must-fail/{name}.edit"));
+        assert!(gate.exists(), "{edit} is outside the gate");
+        assert!(root().join("crates").join(file).exists(), "{edit}: no {file}");
+        let Some(line) = log.lines().find(|l| l.contains(&format!("must-fail {edit}:"))) else {
+            assert!(log.is_empty(), "{edit} is not in the gate's log");
+            continue;
+        };
+        let at = file.strip_prefix(&format!("{of}/")).unwrap();
+        assert!(line.contains(&format!("(first at {at}:")), "{edit}: {line}");
+    }
+}
+
+/// The files of `specs/` that a file imports, and the types of its own or other crates, as (crate, name).
+fn imports(file: &str) -> (Vec<String>, Vec<(String, String)>) {
+    let (mut files, mut types) = (Vec::new(), Vec::new());
+    for line in text(format!("crates/{file}")).lines() {
+        let Some(module) = line.strip_prefix("use Rattle·") else { continue };
+        let of = module.split(['.', '·']).next().unwrap().to_owned();
+        let mut path =
+            module.split(".specs.").nth(1).unwrap_or_else(|| panic!("{file}: {line}")).split(['.', ' ']);
+        let name = path.next().unwrap();
+        if name == "declared" {
+            types.push((of, path.next().unwrap().to_owned()));
+        } else {
+            files.push(format!("{of}/specs/{name}.antt"));
+        }
+    }
+    (files, types)
+}
+
+/// How many lines a crate declares these types in, their comments included.
+fn declared(of: &str, types: &BTreeSet<(String, String)>) -> usize {
+    let source = text(format!("crates/{of}/src/lib.rt"));
+    let mut names: BTreeSet<&str> = types.iter().filter(|t| t.0 == of).map(|t| t.1.as_str()).collect();
+    let mut lines = 0;
+    for block in source.split("\n\n") {
+        let head = block.lines().find_map(|l| l.strip_prefix("pub struct ").or(l.strip_prefix("pub enum ")));
+        if head.is_some_and(|h| names.remove(h.split(' ').next().unwrap())) {
+            lines += block.lines().filter(|l| !l.trim().is_empty()).count();
+        }
+    }
+    assert!(names.is_empty(), "{of} declares no {names:?}");
+    lines
+}
+
+/// The reading list for demand 3 is what its claim imports, each file after its imports, with its lines and their sum.
+#[test]
+fn reading_list_is_whole() {
+    let page = promises();
+    let mut rows = table(&page, "**For demand 3**");
+    let sum = rows.pop().unwrap();
+    let files: Vec<&str> = rows.iter().map(|r| quoted(r[0])[0]).collect();
+    let mut types = BTreeSet::new();
+    for (n, file) in files.iter().enumerate().filter(|(_, f)| f.ends_with(".antt")) {
+        let (needs, uses) = imports(file);
+        for need in needs {
+            assert!(files[..n].contains(&need.as_str()), "{file} stands before {need}");
+        }
+        types.extend(uses);
+    }
+    assert_eq!(files.last(), Some(&"session/specs/Claim.antt"));
+    for (of, name) in &types {
+        assert!(files.contains(&format!("{of}/src/lib.rt").as_str()), "no row for {of}'s {name}");
+    }
+    let mut total = 0;
+    for (row, file) in rows.iter().zip(&files) {
+        let of = file.split('/').next().unwrap();
+        let lines = if file.ends_with(".rt") {
+            declared(of, &types)
+        } else {
+            let source = text(format!("crates/{file}"));
+            source.lines().filter(|l| !l.trim().is_empty() && !l.starts_with("use ")).count()
+        };
+        assert_eq!(row[2], lines.to_string(), "{file}");
+        total += lines;
+    }
+    assert_eq!(sum[2], total.to_string(), "the sum");
+}
+
+/// No file of the reading list could be left out: the claim needs each of them.
+#[test]
+fn reading_list_is_needed() {
+    let page = promises();
+    let mut needed = BTreeSet::from(["session/specs/Claim.antt".to_owned()]);
+    let mut left: Vec<String> = needed.iter().cloned().collect();
+    while let Some(file) = left.pop() {
+        let fresh = imports(&file).0.into_iter().filter(|f| needed.insert(f.clone())).collect::<Vec<_>>();
+        left.extend(fresh);
+    }
+    for row in table(&page, "**For demand 3**").iter().filter(|r| r[0].contains(".antt")) {
+        assert!(needed.contains(quoted(row[0])[0]), "{} is not needed", row[0]);
     }
 }

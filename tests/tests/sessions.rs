@@ -6,7 +6,7 @@ use reference::cross::random_run;
 use reference::flow::Report;
 use reference::image::{header_for, Header};
 use reference::parts::{Sizes, IDCODE, KILL, OPEN, PROTECTED, SIZES};
-use reference::play::{play, RandomLists, Played};
+use reference::play::{play, Played, RandomLists};
 use reference::rng::Rng;
 use reference::session::{start, Outcome, Session};
 use reference::texts::sample_image;
