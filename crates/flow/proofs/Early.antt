@@ -5,16 +5,16 @@ use mathlib.Core.Path.{_≡_, refl, sym, ap, _∙_}
 use Prim.Native.Nat.{ℕ, zero, suc, _+_, _-_, _≤_, _<_}
 use native.Mathlib.Omega.{arith}
 use borrow.Author.Tests.{ltb-true, ltb-false}
-use lib.Dec.{eqb, ltb, lit≤}
+use lib.Dec.{eqb, ltb}
 use Rattle.flow.specs.Claim.{EarlySpared}
-use Rattle.flow.specs.Exchange.{Met, meet}
-use Rattle.flow.specs.Judge.{Judged, go, pollAgain, enter, report, goIf, polled, free, testBitSet, succeeded, idsFit, levelIn, entryBy, rowIn, macroLocks, levelShown, sumsFit, judge}
+use Rattle.flow.specs.Exchange.{meet}
+use Rattle.flow.specs.Judge.{Judged, go, pollAgain, enter, report, goIf, polled, free, testBitSet, succeeded, idsFit, levelIn, rowIn, macroLocks, levelShown, sumsFit, judge}
 use Rattle.flow.specs.Monitor.{isAttempt, isReset}
 use Rattle.flow.specs.Packets.{Verdict, okay, again, broken, verdict, packetOf}
 use Rattle.flow.specs.Plan.{Traffic, counting}
-use Rattle.flow.specs.Run.{Run, served, advanceBy, advance, runAfter, started}
+use Rattle.flow.specs.Run.{Run, advanceBy, advance, runAfter, started}
 use Rattle.flow.specs.Session.{SessionState, running, reported, moveAt, judgedTo, tryAgain, waitAgain, heardBy, act, stepOf}
-use Rattle.flow.specs.Target.{Target, Memory, idle}
+use Rattle.flow.specs.Target.{Target, Memory}
 use Rattle.flow.specs.declared.Answer.{Answer}
 use Rattle.flow.specs.declared.Entry.{Entry}
 use Rattle.flow.specs.declared.Entry.the-variants.{FromProtected}
@@ -23,8 +23,8 @@ use Rattle.flow.specs.declared.Purpose.{Purpose}
 use Rattle.flow.specs.declared.Purpose.the-variants.{Sent, Idcode, TestBit, Poll, Status, Keep, EntryLevel, Reopened, FlashWord, LockWord, StoredLevel, LastSum}
 use Rattle.flow.specs.declared.Request.{Request}
 use Rattle.flow.specs.declared.Request.the-variants.{Xres, LineReset, ReadIdcode, ReadDrw, WriteTar, WriteDrw, WriteSetup}
-use Rattle.flow.proofs.EarlyMoves.{Later, start, early-move, late-move, first-xres}
-use Rattle.flow.proofs.Moves.{Reports, proper-at}
+use Rattle.flow.proofs.EarlyMoves.{start, early-move, late-move, first-xres}
+use Rattle.flow.proofs.Moves.{proper-at}
 use Rattle.flow.proofs.Untouched.{Untouched, meet-untouched}
 use Rattle.image.specs.Image.{Image}
 use Rattle.image.specs.Words.{sameWord}

@@ -2,7 +2,6 @@
 use mathlib.Core.Path.{_≡_, refl}
 use Prim.Native.Nat.{ℕ}
 use borrow.Author.Tests.{eq-eqb}
-use Rattle.flow.specs.Examples.{partOne}
 use Rattle.flow.specs.Map.{search, regions, lockRegions}
 use Rattle.flow.specs.Mishaps.{okayWith, WordMishaps, LineMishaps}
 use Rattle.flow.specs.Monitor.{noticeRead, noticed, watch}

@@ -1,6 +1,6 @@
 -- A target of another part is left as it was. Assumes nothing.
 use mathlib.Core.Bool.{false}
-use mathlib.Core.Path.{_≡_, refl, ap}
+use mathlib.Core.Path.{_≡_, refl}
 use Prim.Native.Nat.{ℕ, zero, suc}
 use Rattle.flow.specs.Claim.{OtherPartSpared}
 use Rattle.flow.specs.Plan.{plan, mostTraffic}

@@ -2,8 +2,8 @@
 use mathlib.Core.Bool.{Bool, true, false, _&&_, not}
 use mathlib.Core.Path.{_≡_, refl, _∙_}
 use Prim.Native.Nat.{ℕ, zero, suc, _%_}
-use Rattle.flow.specs.Calls.{finish, effectOf, afterFailure, dropped, reset}
-use Rattle.flow.specs.Exchange.{decode, tick, fetch, begin, isCall, store, carry, killed, barred, carriedOut, Met, met, transferred, meetOn, meet}
+use Rattle.flow.specs.Calls.{finish, dropped, reset}
+use Rattle.flow.specs.Exchange.{decode, tick, fetch, begin, isCall, store, carry, killed, barred, carriedOut, met, transferred, meetOn, meet}
 use Rattle.flow.specs.Map.{place}
 use Rattle.flow.specs.Packets.{packetOf}
 use Rattle.flow.specs.Target.{Memory, Residue, CallOutcome, Running, idle, busy, Target, Lists, nextEvent}

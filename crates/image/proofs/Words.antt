@@ -1,7 +1,7 @@
 -- Laws of words and sums. Assumes nothing.
 use mathlib.Core.Bool.{true, false}
 use mathlib.Core.List.{List, [], _∷_}
-use mathlib.Core.Path.{_≡_, refl, ap, sym, _∙_}
+use mathlib.Core.Path.{_≡_, ap, sym, _∙_}
 use Prim.Native.Nat.{ℕ, suc, _+_, _-_, _%_, _≤_, _<_}
 use native.Mathlib.Nat.{le-refl, add-assoc, add-zero, mod-add-mod, mod-eq-of-lt}
 use native.Mathlib.Numerals.{add-one}

@@ -1,5 +1,4 @@
 -- By the look-up. Assumes nothing.
-use mathlib.Core.Path.{sym, ap, _∙_}
 use borrow.Author.Needs.{needs}
 use Rattle.core_c.proofs.under_size.Statement.{statement}
 use Rattle.core_c.proofs.under_size.Tie as tie
