@@ -40,7 +40,7 @@ sum-of-spec =
     (tie.spec
     Inv-loop
     μ-loop
-    (λ c. (omega arith, lit< tt, rw zero-add))
+    (λ c. (omega arith, lit< tt, ap (λ (t : ℕ). t % 268435456) (zero-add _)))
     (λ c. omega arith)
     (λ c. omega (arith, c .shared-slice-known .given (c .before .before .loop .place)))
     (λ c. omega (arith, c .shared-slice-known .given (c .before .before .loop .place)))

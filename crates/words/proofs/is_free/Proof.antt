@@ -1,4 +1,5 @@
 -- Bit 31, then bit 28. Assumes nothing.
+use Prim.Native.Nat.{_/_, _%_}
 use borrow.Author.Tests.{eq-eqb, ne-eqb}
 use Rattle.flow.specs.Judge.{free}
 use Rattle.words.proofs.is_free.Statement.{statement}
@@ -6,7 +7,7 @@ use Rattle.words.proofs.is_free.Tie as tie
 
 returns : tie.Need-returns
 unfolding free
-returns c = simp (eq-eqb _ _ (c .if1 .taken))
+returns c = simp (eq-eqb (c .before .args .w / 2147483648 % 2) 0 (c .if1 .taken))
 
 returns-2 : tie.Need-returns-2
 unfolding free

@@ -1,5 +1,6 @@
 -- 0 and 1 are exchanged. Assumes nothing.
-use borrow.Author.Tests.{ne-eqb}
+use Prim.Native.Nat.{_/_, _%_}
+use borrow.Author.Tests.{eq-eqb, ne-eqb}
 use Rattle.flow.specs.Judge.{levelShown}
 use borrow.Author.Needs.{needs}
 use Rattle.words.proofs.level_shown.Statement.{statement}
@@ -10,7 +11,7 @@ cast-n c = search needs
 
 returns : tie.Need-returns
 unfolding levelShown
-returns c = simp (c .match .keys1)
+returns c = simp (eq-eqb (c .before .args .w / 16777216 % 16) 0 (c .match .keys1))
 
 returns-2 : tie.Need-returns-2
 unfolding levelShown
