@@ -8,7 +8,7 @@ use lib.Dec.{leb}
 use lib.ListN.{length, drop, length-drop}
 use lib.Seq.{length-take-le}
 use Rattle.core_c.proofs.Spelled.{sum-same, entry-same}
-use Rattle.core_c.specs.Claims.{Twelve, InWords, packetWord, outcomeWord}
+use Rattle.core_c.specs.Claims.{Twelve, InWords, outcomeWord}
 use Rattle.core_c.specs.Outcomes.{packetBytes, outcomeBytes, outcomeIn}
 use Rattle.core_c.specs.Records.{recordBytes, recordIn}
 use Rattle.core_c.specs.Sessions.{entryByte, sessionBytes, sessionIn, isSession}
@@ -19,6 +19,7 @@ use Rattle.image.specs.Words.{wordAt}
 use Rattle.image.specs.declared.Header.{Header}
 use Rattle.layout.proofs.Bytes.{low32, low-same, flag-same}
 use Rattle.layout.specs.Bytes.{flagByte, Word}
+use Rattle.flow.specs.Packets.{wordIn}
 use Rattle.flow.specs.declared.Packet.{Packet}
 use Rattle.flow.specs.declared.Packet.the-variants.{Xres, LineReset, Read, Write}
 use Rattle.session.specs.declared.Outcome.{Outcome}
@@ -144,7 +145,7 @@ is-with s m = is-entry (s .entry) (s .finished)
 pub is-session : (s : Session) → Twelve (s .header) → isSession (sessionBytes s) ≡ true
 is-session s n = twelve-of (λ (t : Session). isSession (sessionBytes t) ≡ true) s n (is-with s)
 
-packet-back : (p : Packet) → Word (packetWord p) → outcomeIn (packetBytes p) ≡ Ask p
+packet-back : (p : Packet) → Word (wordIn p) → outcomeIn (packetBytes p) ≡ Ask p
 unfolding wordAt
 packet-back Xres h = refl
 packet-back LineReset h = refl

@@ -9,9 +9,8 @@ use Rattle.core_c.specs.Calls.{CallResult, inTable, yes, readCall, write
 use Rattle.core_c.specs.Outcomes.{outcomeBytes, outcomeIn, numberOf}
 use Rattle.core_c.specs.Records.{recordBytes, recordIn}
 use Rattle.core_c.specs.Sessions.{sessionBytes, sessionIn, isSession}
+use Rattle.flow.specs.Packets.{wordIn}
 use Rattle.flow.specs.declared.Answer.{Answer}
-use Rattle.flow.specs.declared.Packet.{Packet}
-use Rattle.flow.specs.declared.Packet.the-variants.{Xres, LineReset, Read, Write}
 use Rattle.hex.specs.Texts.{hexReading}
 use Rattle.hex.specs.Written.{textLength}
 use Rattle.hex_writer.specs.Writing.{writeOf, textAfter}
@@ -48,15 +47,9 @@ pub record InWords (s : Session) : Type 0 where
   pub transfers : Word (s .transfers)
 
 -- the word of an outcome, where it has one
-abbrev pub packetWord : Packet → ℕ
-packetWord Xres = 0
-packetWord LineReset = 0
-packetWord (Read request) = 0
-packetWord (Write request word parity) = word
-
 abbrev pub outcomeWord : Outcome → ℕ
 outcomeWord (Refused n) = 0
-outcomeWord (Ask p) = packetWord p
+outcomeWord (Ask p) = wordIn p
 outcomeWord (Reported r) = r .transfers
 
 -- ---- what a call leaves in an output of fixed size
