@@ -3,12 +3,12 @@ use mathlib.Core.Bool.{Bool, true, false, _&&_, cond}
 use mathlib.Core.List.{List}
 use Prim.Native.Nat.{ℕ, suc, _+_, _*_, _-_, _/_, _%_}
 use lib.Dec.{eqb, ltb}
+use Rattle.flow.specs.Sequence.{lockStart}
 use Rattle.flow.specs.declared.Entry.{Entry}
 use Rattle.flow.specs.declared.Entry.the-variants.{FromOpen, FromProtected}
 use Rattle.flow.specs.declared.Purpose.{Purpose}
 use Rattle.flow.specs.declared.Purpose.the-variants.{Sent, Idcode, TestBit, Poll, Status, Keep, EntryLevel, Reopened, FlashWord, LockWord, StoredLevel, LastSum}
 use Rattle.image.specs.Checks.{metadataAt}
-use Rattle.flow.specs.Sequence.{lockStart}
 use Rattle.image.specs.Image.{Image}
 use Rattle.image.specs.Words.{sameWord, partOf}
 use Rattle.parts.specs.Parts.{lowFits}

@@ -88,14 +88,14 @@ programRow i r =
     let g = i .geometry in
     listed g 5 4 (latchList (r / rowsPerMacro g) (rowBytes g) (i .flash) (r * rowBytes g)) ++ listed g 5 6 ((key 6 + r * 0x10000) ∷ [])
 
--- n words read from an address on, each compared as u says of its offset
+-- word j from an address on, read and compared as u says of its offset; then n of them
 abbrev pub compareWord : (step address : ℕ) → (ℕ → Purpose) → (j : ℕ) → List Move
 compareWord s a u j = read s (a + 4 * j) (u (4 * j))
 
 abbrev pub compareWords : (step address : ℕ) → (ℕ → Purpose) → (n : ℕ) → List Move
 compareWords s a u n = inTurn (compareWord s a u) 0 n
 
--- '6. Read every flash word from address 0, comparing each as read.'
+-- '6. Read every flash word from address 0, comparing each as read.': row by row, a row's words from row × L on
 unfoldable pub verifyRow : Geometry → (row : ℕ) → List Move
 verifyRow g r = compareWords 6 (r * rowBytes g) (FlashWord r) (rowBytes g / 4)
 

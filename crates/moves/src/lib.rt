@@ -3,11 +3,11 @@ ghost use mathlib.Core.Path.{_≡_};
 ghost use Prim.Native.Nat.{_+_, _*_, _/_, _<_, _≤_};
 ghost use lib.ListN.{length, getD};
 ghost use Rattle.flow.specs.Sequence.{program, afterwards, sequence, endMove};
+ghost use Rattle.flow.specs.Session.{moveCount};
 ghost use Rattle.flow.specs.declared.Entry.the-variants.{FromOpen, FromProtected};
 ghost use Rattle.image.specs.Image.{imageOf};
 ghost use Rattle.moves.specs.Ended.{Ended};
 ghost use Rattle.moves.specs.Handled.{sizesHandled, addressesHandled, Handled};
-ghost use Rattle.flow.specs.Session.{moveCount};
 ghost use Rattle.moves.specs.Moves.{moveOf, openingCount, programCount};
 ghost use Rattle.parts.specs.Sizes.{imageSize};
 

@@ -2,10 +2,10 @@
 use mathlib.Core.Bool.{Bool, false, _&&_, _||_, cond}
 use Prim.Native.Nat.{ℕ}
 use lib.Dec.{eqb, leb, ltb}
+use Rattle.flow.specs.Session.{moveCount}
 use Rattle.flow.specs.declared.Entry.{Entry}
 use Rattle.image.specs.Checks.{versionFits, imageIdFits, levelFits}
 use Rattle.image.specs.declared.Header.{Header}
-use Rattle.flow.specs.Session.{moveCount}
 use Rattle.parts.specs.Parts.{lookupOf}
 use Rattle.parts.specs.declared.Geometry.{Geometry}
 use Rattle.parts.specs.declared.Lookup.{Lookup}
