@@ -1,15 +1,13 @@
 -- Laws of words and sums. Assumes nothing.
-use mathlib.Core.Bool.{true, false}
 use mathlib.Core.List.{List, [], _∷_}
 use mathlib.Core.Path.{_≡_, ap, sym, _∙_}
 use Prim.Native.Nat.{ℕ, suc, _+_, _-_, _%_, _≤_, _<_}
 use native.Mathlib.Nat.{le-refl, add-assoc, add-zero, mod-add-mod, mod-eq-of-lt}
 use native.Mathlib.Numerals.{add-one}
 use native.Mathlib.Omega.{arith}
-use lib.Dec.{eqb}
 use lib.ListN.{length, getD, take, drop, length-drop, drop-of-length-le, List·getD-eq-default}
 use lib.Seq.{drop-cons, getD-take, getD-drop, take-all, take-nil}
-use Rattle.image.specs.Words.{total, allZero, wordAt, partOf, wordsAt}
+use Rattle.image.specs.Words.{total, wordAt, partOf, wordsAt}
 
 -- past the end every byte, and so the word, is 0
 pub word-none : (bytes : List ℕ) (o : ℕ) → length bytes ≤ o → wordAt bytes o ≡ 0
@@ -46,15 +44,6 @@ part-rest l from n h =
 pub part-inside : (l : List ℕ) (from n : ℕ) → take (from + n - from) (drop from l) ≡ partOf l from n
 part-inside l from n = let e : from + n - from ≡ n = omega arith in ap (λ (x : ℕ). take x (drop from l)) e
 
--- one byte of a sum, and none
-pub total-turn : (bytes : List ℕ) (at : ℕ) → at < length bytes → total (drop at bytes) ≡ getD bytes at 0 + total (drop (at + 1) bytes)
-unfolding total
-total-turn bytes at h = rw (add-one, drop-cons bytes at 0 h)
-
-pub total-end : (bytes : List ℕ) (at : ℕ) → length bytes ≤ at → total (drop at bytes) ≡ 0
-unfolding total
-total-end bytes at h = rw (drop-of-length-le bytes h)
-
 -- one word of a row, and none
 pub words-turn : (bytes : List ℕ) (o n : ℕ) → 0 < n → wordsAt bytes o n ≡ wordAt bytes o ∷ wordsAt bytes (o + 4) (n - 1)
 unfolding wordsAt
@@ -72,6 +61,7 @@ carry-in s b t m = rw (mod-add-mod, add-assoc)
 pub carried : (s t m : ℕ) → s < m → t ≡ 0 → s ≡ (s + t) % m
 carried s t m h e = rw (e, add-zero, mod-eq-of-lt h)
 
+-- one more term of a sum, and none
 pub total-cons : {ws rest : List ℕ} {w : ℕ} → ws ≡ w ∷ rest → total ws ≡ w + total rest
 unfolding total
 total-cons e = rw e
@@ -80,15 +70,13 @@ pub total-none : {ws : List ℕ} → ws ≡ [] → total ws ≡ 0
 unfolding total
 total-none e = rw e
 
--- a word decides 'all zero', or the rest does
-pub zero-stop : {ws rest : List ℕ} {w : ℕ} → ws ≡ w ∷ rest → eqb w 0 ≡ false → allZero ws ≡ false
-unfolding allZero
-zero-stop e t = rw e (simp t)
+-- one byte more
+pub drop-turn : (bytes : List ℕ) (at : ℕ) → at < length bytes → drop at bytes ≡ getD bytes at 0 ∷ drop (at + 1) bytes
+drop-turn bytes at h = rw add-one (drop-cons bytes at 0 h)
 
-pub zero-next : {ws rest : List ℕ} {w : ℕ} → ws ≡ w ∷ rest → eqb w 0 ≡ true → allZero ws ≡ allZero rest
-unfolding allZero
-zero-next e t = rw e (simp t)
+-- one byte of a sum, and none
+pub total-turn : (bytes : List ℕ) (at : ℕ) → at < length bytes → total (drop at bytes) ≡ getD bytes at 0 + total (drop (at + 1) bytes)
+total-turn bytes at h = total-cons (drop-turn bytes at h)
 
-pub zero-none : {ws : List ℕ} → ws ≡ [] → allZero ws ≡ true
-unfolding allZero
-zero-none e = rw e
+pub total-end : (bytes : List ℕ) (at : ℕ) → length bytes ≤ at → total (drop at bytes) ≡ 0
+total-end bytes at h = total-none (drop-of-length-le bytes h)

@@ -3,3 +3,6 @@ pub mod Image
 pub mod Refusals
 pub mod Checks
 pub mod Sections
+pub mod Zeros
+pub mod Claims
+pub mod Examples

@@ -8,6 +8,7 @@ ghost use Rattle.image.specs.Checks.{versionFits, imageIdFits, levelFits
 ghost use Rattle.image.specs.Refusals.{firstRefusal};
 ghost use Rattle.image.specs.Sections.{sectionsOf, noSection, headerBytes, headerOf};
 ghost use Rattle.image.specs.Words.{total, wordAt, sameWord, partOf};
+ghost use Rattle.image.specs.Zeros.{zeroRow};
 ghost use Rattle.parts.specs.Sizes.{rowBytes, rowsOf, flashSize};
 
 mod bytes;
@@ -19,7 +20,6 @@ use bytes::word_past;
 use parts::Geometry;
 use parts::Level;
 use parts::Lookup;
-use rows::all_zero;
 use rows::some_cancels;
 use rows::words_sum;
 
@@ -45,6 +45,12 @@ pub struct Section {
     pub size: usize,
     pub location: Location,
     pub offset: usize,
+}
+
+// Whether a row is all zero, and how many bytes told.
+pub struct ZeroRow {
+    pub all: bool,
+    pub read: usize,
 }
 
 // The word at an offset; bytes past the end count as 0.
@@ -96,14 +102,36 @@ pub fn sum_of(bytes: &[u8]) -> u16
     sum as u16
 }
 
-// Whether a row's words add to 0 modulo 2^32 without all being 0 (number 10).
+// The test whether a row is all zero: it stops at the first byte that isn't (document 02, Three).
+pub fn zero_row(row: &[u8]) -> ZeroRow
+    ensures { λ r. ⌜ r ≡ zeroRow (now (row .entry)) ⌝ }
+{
+    let mut at: usize = 0;
+    while at < row.len() {
+        if row[at] != 0 {
+            return ZeroRow {
+                all: false,
+                read: at + 1,
+            };
+        }
+        at += 1;
+    }
+    ZeroRow {
+        all: true,
+        read: at,
+    }
+}
+
+// Whether a row's words add to 0 modulo 2^32 without all being 0 (number 10). A blank row is settled without its sum.
 pub fn row_cancels(row: &[u8]) -> bool
     ensures { λ r. ⌜ r ≡ cancels (now (row .entry)) ⌝ }
 {
-    if words_sum(row) == 0 {
-        return !all_zero(row);
+    let whole = 4 * (row.len() / 4);
+    let z = zero_row(&row[..whole]);
+    if z.all {
+        return false;
     }
-    false
+    words_sum(row) == 0
 }
 
 // Whether the metadata's version is 2.

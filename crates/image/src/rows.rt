@@ -3,7 +3,7 @@ ghost use mathlib.Core.Path.{_≡_};
 ghost use Prim.Native.Nat.{_*_, _%_, _≤_};
 ghost use lib.ListN.{length};
 ghost use Rattle.image.specs.Checks.{rowWords, someCancels};
-ghost use Rattle.image.specs.Words.{total, allZero};
+ghost use Rattle.image.specs.Words.{total};
 use crate::row_cancels;
 use crate::word_at;
 
@@ -20,22 +20,6 @@ pub(crate) fn words_sum(row: &[u8]) -> u32
         left -= 1;
     }
     sum
-}
-
-// Whether all words of a row are 0.
-pub(crate) fn all_zero(row: &[u8]) -> bool
-    ensures { λ r. ⌜ r ≡ allZero (rowWords (now (row .entry))) ⌝ }
-{
-    let mut at: usize = 0;
-    let mut left = row.len() / 4;
-    while 0 < left {
-        if word_at(row, at) != 0 {
-            return false;
-        }
-        at += 4;
-        left -= 1;
-    }
-    true
 }
 
 // Whether one of the first n rows cancels.

@@ -1,16 +1,36 @@
--- The two tests of `cancels`. Assumes nothing.
+-- The two ways of `cancels`: a blank row, and the sum of a filled one. Assumes nothing.
+use mathlib.Core.Bool.{Bool}
+use mathlib.Core.Path.{_≡_, ap, sym, _∙_}
+use native.Mathlib.Omega.{arith}
 use borrow.Author.Needs.{needs}
-use borrow.Author.Tests.{eq-eqb, ne-eqb}
-use Rattle.image.specs.Checks.{cancels}
+use lib.ListN.{length-take}
+use Rattle.image.specs.declared.ZeroRow.{ZeroRow}
+use Rattle.image.proofs.Zeros.{cancels-blank, cancels-filled}
 use Rattle.image.proofs.row_cancels.Statement.{statement}
 use Rattle.image.proofs.row_cancels.Tie as tie
 
+abbrev all : ZeroRow → Bool
+all z = z .all
+
+returns : tie.Need-returns
+returns c =
+    let z = c .before in
+    let row = z .before .before .before .args .row .now in
+    sym (cancels-blank row (sym (ap all (z .zero-row .ensures)) ∙ c .if1 .taken))
+
+returns-2 : tie.Need-returns-2
+returns-2 c =
+    let z = c .before .before in
+    let row = z .before .before .before .args .row .now in
+    rw (c .words-sum .ensures) (sym (cancels-filled row (sym (ap all (z .zero-row .ensures)) ∙ c .before .if1 .left)))
+
 pub row-cancels-spec : {M : Type 1} → statement M
-unfolding cancels
 row-cancels-spec =
     tie.close
     (tie.spec
+    (λ c. omega arith)
+    (λ c. simp length-take (omega arith))
     (λ c κs. search needs)
+    returns
     (λ c κs. search needs)
-    (λ c. simp (← c .before .before .words-sum .ensures, eq-eqb _ _ (c .before .if1 .taken), ← c .all-zero .ensures))
-    (λ c. simp (← c .before .words-sum .ensures, ne-eqb _ _ (c .if1 .left))))
+    returns-2)
