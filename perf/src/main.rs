@@ -8,8 +8,8 @@ mod tools;
 
 use halzuqeen::{raw, Answer, Outcome, Record, Session};
 use reference::board::{Board, Lists};
-use reference::image::Header;
-use reference::parts::OPEN;
+use reference::image::{header_for, Header};
+use reference::parts::{Sizes, OPEN};
 use reference::rng::Rng;
 use reference::{hex, play, session, texts, wire};
 use std::hint::black_box;
@@ -38,14 +38,17 @@ fn job() -> Job {
         answer
     });
     assert_eq!((report.number, report.transfers), (0, 190_741));
-    let record = Record {
+    Job { header, record: record_of(&header), image, text, answers }
+}
+
+fn record_of(header: &Header) -> Record {
+    Record {
         part: header.part as u8,
         macros: header.macros as u8,
         sum: header.sum,
         metadata: header.metadata,
         level: header.level,
-    };
-    Job { header, record, image, text, answers }
+    }
 }
 
 fn heading(what: &str, to: &str) {
@@ -83,6 +86,35 @@ fn writing(job: &Job) {
     assert!(texts.iter().all(|text| *text == job.text));
     heading("writing, ns per text byte", "ratio to the best Rust (median, least)");
     three(&times, length);
+}
+
+/// Images of one kind of rows, on which the test whether a row is all zero (number 10) shows: blank ones, filled from
+/// the first byte on, thin ones with the last byte alone. Starting is the checks of the image and little else.
+fn rows(what: &str, byte: fn(usize) -> u8) {
+    let sizes = Sizes::of(3, 2).expect("a part of the table");
+    let mut image = vec![0; sizes.image()];
+    for row in image[..sizes.flash()].chunks_exact_mut(sizes.row_bytes()) {
+        row.iter_mut().enumerate().for_each(|(place, to)| *to = byte(place));
+    }
+    let header = header_for(3, 2, 0, 0, OPEN, &image);
+    let record = record_of(&header);
+    let (mut text, mut a, mut b) = (vec![0; hex::text_length(&sizes)], image.clone(), image.clone());
+    assert_eq!(hex::write(&header, &image, &mut text), (0, text.len()));
+    let times = time(
+        ROUNDS,
+        &mut [
+            &mut || assert_eq!(halzuqeen::read(3, 2, black_box(&text), &mut a), Ok(record)),
+            &mut || assert_eq!(best::read(3, 2, black_box(&text), &mut b), (0, header)),
+            &mut || assert!(halzuqeen::start(&record, black_box(&image), false).is_ok()),
+            &mut || assert!(started(session::start(&header, black_box(&image), false).1)),
+        ],
+    );
+    heading(&format!("{what} rows, reading, ns/byte"), "ratio to the best Rust");
+    line("this core", times[0], text.len(), Some(times[1]));
+    line("best Rust, table-driven", times[1], text.len(), None);
+    heading(&format!("{what} rows, starting, ns/byte"), "ratio to the independent Rust");
+    line("this core", times[2], image.len(), Some(times[3]));
+    line("independent Rust", times[3], image.len(), None);
 }
 
 fn three(times: &[Time], count: usize) {
@@ -167,6 +199,9 @@ fn main() -> std::io::Result<()> {
     );
     reading(&job);
     writing(&job);
+    rows("blank", |_| 0);
+    rows("filled", |place| 1 + place as u8);
+    rows("thin", |place| (place == 127).into());
     stepping(&job);
     heading("tools, ns per text byte", "(read and written again, start-up taken off)");
     tools::tools(&job.text)?;

@@ -1,10 +1,12 @@
-//! Holds another core to this one: damaged and random texts, written texts, whole sessions request by
-//! request. Implement `Core` for the core in question and call `texts` and `sessions`.
+//! Holds another core to this one: rows filled at every place, damaged and random texts, written texts, whole
+//! sessions request by request. Implement `Core` for the core in question and call `rows`, `texts` and `sessions`.
 
+mod rows;
 mod runs;
 mod steps;
 mod texts;
 
+pub use rows::rows;
 pub use runs::{random_run, Run, Tampered};
 pub use steps::{one_session, sessions, Tally};
 pub use texts::{damage, texts, TextTally};
@@ -63,6 +65,13 @@ mod tests {
         assert!((0..=12).all(|number| tally.read.contains_key(&number)), "{tally:?}");
         assert!((6..=12).chain([0]).all(|number| tally.written.contains_key(&number)), "{tally:?}");
         assert!((6..=12).chain([0, 15]).all(|number| tally.started.contains_key(&number)), "{tally:?}");
+    }
+
+    #[test]
+    fn rows_reach_0_and_10() {
+        let counts = rows(&Reference);
+        println!("{counts:?}");
+        assert!([0, 10].iter().all(|number| counts[number] > 800));
     }
 
     #[test]

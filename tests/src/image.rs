@@ -48,10 +48,20 @@ pub fn word(bytes: &[u8]) -> u32 {
     u32::from_le_bytes([bytes[0], bytes[1], bytes[2], bytes[3]])
 }
 
+/// Document 02, Three, the test whether a row is all zero: "it stops at the first byte that isn't zero, and says
+/// how many bytes it read: that byte's place in the row plus one, or L where all are zero".
+pub fn zero_row(row: &[u8]) -> (bool, usize) {
+    match row.iter().position(|&byte| byte != 0) {
+        Some(place) => (false, place + 1),
+        None => (true, row.len()),
+    }
+}
+
 /// "a row whose 32-bit words add to 0 mod 2^32 without all being 0"; "An all-zero row is taken."
 pub fn row_is_lost(row: &[u8]) -> bool {
-    let sum = row.chunks_exact(4).map(word).fold(0, u32::wrapping_add);
-    sum == 0 && row.iter().any(|&b| b != 0)
+    let words = row.chunks_exact(4);
+    let (all, _) = zero_row(&row[..row.len() - words.remainder().len()]);
+    !all && words.map(word).fold(0, u32::wrapping_add) == 0
 }
 
 /// 6 to 8, of the record alone.
@@ -134,6 +144,26 @@ mod tests {
         row[..4].fill(0xFF);
         row[4] = 1;
         assert!(row_is_lost(&row));
+    }
+
+    /// Every place of the first byte that isn't zero, whatever follows it.
+    #[test]
+    fn zero_rows() {
+        assert_eq!(zero_row(&[]), (true, 0));
+        assert_eq!(zero_row(&[0; 64]), (true, 64));
+        for length in [1, 5, 64, 128] {
+            for place in 0..length {
+                let mut row = vec![0; length];
+                row[place] = 1;
+                assert_eq!(zero_row(&row), (false, place + 1));
+                row[place..].fill(0xFF);
+                assert_eq!(zero_row(&row), (false, place + 1));
+            }
+        }
+        // A byte past the whole words is read, but is none of the words that 10 is about.
+        assert_eq!(zero_row(&[0, 0, 0, 0, 1]), (false, 5));
+        assert!(!row_is_lost(&[0, 0, 0, 0, 1]));
+        assert!(row_is_lost(&[1, 0, 0, 0, 0xFF, 0xFF, 0xFF, 0xFF, 1]));
     }
 
     #[test]

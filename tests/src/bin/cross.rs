@@ -1,7 +1,7 @@
 //! The cross-checks: the proved core's static library held to this crate. `cross [--long] [SEED]`.
 //! The same seed is the same run; any difference ends it with a panic.
 
-use reference::cross::{sessions, texts, Counts, Tally, TextTally};
+use reference::cross::{rows, sessions, texts, Counts, Tally, TextTally};
 use reference::linked::{boards, edges, forged, tools, Boards, Forged, Linked, ENDS};
 use std::time::Instant;
 use std::{env, thread};
@@ -125,6 +125,9 @@ fn main() {
     println!("edges of the C ABI: {} calls as said", edges());
     let (read, equal) = tools();
     println!("texts by other tools: {read} read as said, {equal} equal to what the writer writes");
+    let counts = rows(&Linked);
+    println!("rows: {} filled at every place, alike and as made", counts.values().sum::<u64>());
+    show("rows", &counts, [0, 10]);
     check_forged(seed, sizes);
     check_texts(seed, sizes);
     check_sessions(seed, sizes);
