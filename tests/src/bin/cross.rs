@@ -126,7 +126,10 @@ fn main() {
     let (read, equal) = tools();
     println!("texts by other tools: {read} read as said, {equal} equal to what the writer writes");
     let counts = rows(&Linked);
-    println!("rows: {} filled at every place, alike and as made", counts.values().sum::<u64>());
+    println!(
+        "rows: {} images, blank or filled from each place on, alike and as made",
+        counts.values().sum::<u64>()
+    );
     show("rows", &counts, [0, 10]);
     check_forged(seed, sizes);
     check_texts(seed, sizes);
