@@ -16,6 +16,6 @@ zero-examples = record {
   none = refl;
   one = refl;
   five = refl;
-  fiveKept = refl;
-  nineLost = refl;
+  fiveTaken = refl;
+  nineCancels = refl;
 }

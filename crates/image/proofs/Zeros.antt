@@ -77,11 +77,11 @@ four-turn row o n h =
     (word-zero (getD row o 0) (getD row (suc o) 0) (getD row (suc (suc o)) 0) (getD row (suc (suc (suc o))) 0)
     (allZero (take (4 * n) (drop (suc (suc (suc (suc o)))) row))))
 
--- of whole words, the bytes tell what the words tell
-pub bytes-tell : (row : List ℕ) (o n : ℕ) → o + 4 * n ≤ length row → allZero (take (4 * n) (drop o row)) ≡ allZero (wordsAt row o n)
+-- the bytes of whole words are all 0 exactly where the words are
+pub bytes-zero : (row : List ℕ) (o n : ℕ) → o + 4 * n ≤ length row → allZero (take (4 * n) (drop o row)) ≡ allZero (wordsAt row o n)
 unfolding allZero wordsAt
-bytes-tell row o zero h = refl
-bytes-tell row o (suc n) h = four-turn row o n (omega arith) ∙ ap (λ rest. eqb (wordAt row o) 0 && rest) (bytes-tell row (o + 4) n (omega arith))
+bytes-zero row o zero h = refl
+bytes-zero row o (suc n) h = four-turn row o n (omega arith) ∙ ap (λ rest. eqb (wordAt row o) 0 && rest) (bytes-zero row (o + 4) n (omega arith))
 
 -- the two ways of number 10's test, by the bytes of a row's whole words
 module _ (row : List ℕ) where
@@ -91,13 +91,13 @@ module _ (row : List ℕ) where
   abbrev adds : Bool
   adds = eqb (total (rowWords row) % 4294967296) 0
 
-  pub whole-tell : allZero Whole ≡ allZero (rowWords row)
-  whole-tell = bytes-tell row 0 (length row / 4) (omega arith)
+  pub whole-zero : allZero Whole ≡ allZero (rowWords row)
+  whole-zero = bytes-zero row 0 (length row / 4) (omega arith)
 
   pub cancels-blank : allZero Whole ≡ true → cancels row ≡ false
   unfolding cancels
-  cancels-blank t = ap (λ (z : Bool). adds && not z) (sym whole-tell ∙ t) ∙ and-false adds
+  cancels-blank t = ap (λ (z : Bool). adds && not z) (sym whole-zero ∙ t) ∙ and-false adds
 
   pub cancels-filled : allZero Whole ≡ false → cancels row ≡ adds
   unfolding cancels
-  cancels-filled t = ap (λ (z : Bool). adds && not z) (sym whole-tell ∙ t) ∙ and-true adds
+  cancels-filled t = ap (λ (z : Bool). adds && not z) (sym whole-zero ∙ t) ∙ and-true adds

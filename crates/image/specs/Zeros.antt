@@ -1,4 +1,4 @@
--- Whether a row is all zero, and how many bytes tell: document 02, Three. Assumes nothing.
+-- Whether a row is all zero, and how many of its bytes are read to say so: document 02, Three. Assumes nothing.
 use mathlib.Core.Bool.{cond}
 use mathlib.Core.List.{List, [], _∷_}
 use Prim.Native.Nat.{ℕ, _+_}

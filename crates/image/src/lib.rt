@@ -47,7 +47,7 @@ pub struct Section {
     pub offset: usize,
 }
 
-// Whether a row is all zero, and how many bytes told.
+// Whether a row is all zero, and how many of its bytes were read to say so.
 pub struct ZeroRow {
     pub all: bool,
     pub read: usize,
