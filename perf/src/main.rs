@@ -90,11 +90,12 @@ fn writing(job: &Job) {
 
 /// Images of one kind of rows, on which the test whether a row is all zero (number 10) shows: blank ones, filled from
 /// the first byte on, thin ones with the last byte alone. Starting is the checks of the image and little else.
-fn rows(what: &str, byte: fn(usize) -> u8) {
+fn rows(what: &str, byte: fn(place: usize, length: usize) -> u8) {
     let sizes = Sizes::of(3, 2).expect("a part of the table");
     let mut image = vec![0; sizes.image()];
-    for row in image[..sizes.flash()].chunks_exact_mut(sizes.row_bytes()) {
-        row.iter_mut().enumerate().for_each(|(place, to)| *to = byte(place));
+    let length = sizes.row_bytes();
+    for row in image[..sizes.flash()].chunks_exact_mut(length) {
+        row.iter_mut().enumerate().for_each(|(place, to)| *to = byte(place, length));
     }
     let header = header_for(3, 2, 0, 0, OPEN, &image);
     let record = record_of(&header);
@@ -199,9 +200,9 @@ fn main() -> std::io::Result<()> {
     );
     reading(&job);
     writing(&job);
-    rows("blank", |_| 0);
-    rows("filled", |place| 1 + place as u8);
-    rows("thin", |place| (place == 127).into());
+    rows("blank", |_, _| 0);
+    rows("filled", |place, _| 1 + place as u8);
+    rows("thin", |place, length| (place + 1 == length).into());
     stepping(&job);
     heading("tools, ns per text byte", "(read and written again, start-up taken off)");
     tools::tools(&job.text)?;

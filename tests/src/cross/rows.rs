@@ -6,19 +6,14 @@ use crate::image::header_for;
 use crate::parts::{Sizes, OPEN, SIZES};
 use crate::session::{self, Outcome};
 
-fn number(outcome: Outcome) -> u8 {
-    match outcome {
-        Outcome::Refused(number) => number,
-        _ => 0,
-    }
-}
-
-/// Starts on the image with both cores, which must give this number.
+/// Starts on the image with both cores, which must give the same; counts by the number, which must be this one.
 fn due<C: Core>(core: &C, sizes: &Sizes, image: &[u8], expected: u8, counts: &mut Counts) {
     let header = header_for(sizes.part.number, sizes.macros as u32, 0, 0, OPEN, image);
-    assert_eq!(number(session::start(&header, image, false).1), expected);
-    assert_eq!(number(core.start(&header, image, false).1), expected);
-    *counts.entry(expected).or_default() += 1;
+    let outcome = session::start(&header, image, false).1;
+    assert_eq!(core.start(&header, image, false).1, outcome);
+    let number = if let Outcome::Refused(number) = outcome { number } else { 0 };
+    assert_eq!(number, expected);
+    *counts.entry(number).or_default() += 1;
 }
 
 /// Gives how often 0 (the row is taken) and 10 came.
@@ -31,7 +26,7 @@ pub fn rows<C: Core>(core: &C) -> Counts {
         due(core, &sizes, &image, 0, &mut counts);
         for start in [0, sizes.flash() - length] {
             for place in 0..length {
-                let byte = 1 + (place % 255) as u8;
+                let byte = 1 + place as u8;
                 let last = start + length - 4;
                 let opposite = (u32::from(byte) << (8 * (place % 4))).wrapping_neg();
                 image[start + place] = byte;
