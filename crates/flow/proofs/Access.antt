@@ -21,7 +21,7 @@ use Rattle.flow.specs.declared.Place.the-variants.{InFlash, InLocks, InP
 use Rattle.flow.specs.declared.Purpose.{Purpose}
 use Rattle.flow.specs.declared.Request.the-variants.{ReadDrw, WriteTar, WriteDrw}
 use Rattle.flow.proofs.Hearing.{aTar, aDrw, aRead}
-use Rattle.flow.proofs.Reaches.{Allowance, withTransfer, withMoves, Env, sync, Frame, Stood, Stands, Reaches}
+use Rattle.flow.proofs.Reaches.{Allowance, withTransfer, withMoves, Env, sync, Frame, Lasting, Stood, Stands, Reaches}
 use Rattle.flow.proofs.Transfer.{transfer}
 use Rattle.image.specs.Image.{Image}
 use Rattle.parts.specs.declared.Geometry.{Geometry}
@@ -85,20 +85,6 @@ barred-write g w b pc h a = rw h (by (eqb (b .effect) 2) (a .free))
     by true e = e
     by false e = refl
 
-begin-memory : (y : Bool) (w : ℕ) (o : CallOutcome) (b : Target) → (begin y w o b) .memory ≡ b .memory
-begin-memory true w o b = refl
-begin-memory false w o b = refl
-
-store-memory : (w : ℕ) (o : CallOutcome) (pc : Place) (b : Target) → (store w o pc b) .memory ≡ b .memory
-store-memory w o (InFlash a) b = refl
-store-memory w o (InLocks a) b = refl
-store-memory w o (InParams k) b = refl
-store-memory w o AtLevel b = refl
-store-memory w o AtSysreq b = begin-memory (isCall w) w o b
-store-memory w o AtSysarg b = refl
-store-memory w o AtTestMode b = refl
-store-memory w o Elsewhere b = refl
-
 -- a write elsewhere than SYSREQ starts nothing
 quiet-store : (y : Bool) (pc : Place) (p a : ℕ) (t : Watch) (d : Delays) → isSysreq pc ≡ false → noticeStore y pc p a t d ≡ watching noWaits p a t d
 quiet-store false pc p a t d h = refl
@@ -137,40 +123,41 @@ module _ {i : Image} (f : Frame i) where
   }
 
   module _ (s a w : ℕ) {y : Entry} {n : ℕ} {ms : List Move} {κ : Allowance} {e : Env} {p c k : ℕ} {b : Target} {t : Watch} where
-    write-any : Stands f y n (write s a w) ms κ e → (pc : Place) → place (i .geometry) a ≡ pc → Admits (b .effect) pc → f .Safe (b .memory)
+    write-any : Stands f y n (write s a w) ms κ e → (pc : Place) → place (i .geometry) a ≡ pc → Admits (b .effect) pc → Lasting (f .Safe) b
+        → Lasting (f .Safe) (store w (nextOutcome (e .lists .calls)) pc (setTar a b))
         → (next : (e′ : Env) → e′ .lists .calls ≡ cond (isCall w && isSysreq pc) (rest (e .lists .calls)) (e .lists .calls) → Stood f y (suc (suc n)) ms κ e′
         → Reaches f (written w pc y (suc (suc n)) p c k (store w (nextOutcome (e .lists .calls)) pc (setTar a b)) (aimed a t) e′))
         → Reaches f (sync y n p c k b t e)
     unfolding write withMoves carry judge noticed
-    write-any st pc hp ok safe next =
+    write-any st pc hp ok safe safe′ next =
         transfer f aTar st (ok .not-killed) (barred-tar (i .geometry) a b) safe (λ o. safe) λ o₁ e₁ h₁ st₁.
-        transfer f aDrw st₁ (ok .not-killed) (barred-write (i .geometry) w (setTar a b) pc hp ok) safe (λ o. rw (store-memory w (nextOutcome (e₁ .lists .calls)) (place (i .geometry) a) (setTar a b)) safe) λ o₂ e₂ h₂ st₂.
+        transfer f aDrw st₁ (ok .not-killed) (barred-write (i .geometry) w (setTar a b) pc hp ok) safe (λ o. rw (hp, h₁) safe′) λ o₂ e₂ h₂ st₂.
         rw (hp, h₁) (next e₂ (rw (hp, h₁) at h₂) st₂)
 
     -- a Write elsewhere than SYSREQ
-    pub write-reaches : Stands f y n (write s a w) ms κ e → (pc : Place) → place (i .geometry) a ≡ pc → Admits (b .effect) pc → f .Safe (b .memory) → isSysreq pc ≡ false
+    pub write-reaches : Stands f y n (write s a w) ms κ e → (pc : Place) → place (i .geometry) a ≡ pc → Admits (b .effect) pc → Lasting (f .Safe) b → Lasting (f .Safe) (store w (nextOutcome (e .lists .calls)) pc (setTar a b)) → isSysreq pc ≡ false
         → (next : (e′ : Env) → e′ .lists .calls ≡ e .lists .calls → Stood f y (suc (suc n)) ms κ e′
         → Reaches f (sync y (suc (suc n)) p c k (store w (nextOutcome (e .lists .calls)) pc (setTar a b)) (aimed a t) e′))
         → Reaches f (sync y n p c k b t e)
-    write-reaches st pc hp ok safe hs next =
-        write-any st pc hp ok safe λ e′ h st′.
+    write-reaches st pc hp ok safe safe′ hs next =
+        write-any st pc hp ok safe safe′ λ e′ h st′.
         rw (quiet-store (isCall w) pc p c (aimed a t) (e′ .delays) hs) (next e′ ((rw hs at h) ∙ same-calls (isCall w) (e .lists .calls)) st′)
 
   -- the Write of SYSREQ that starts a call
   pub call-reaches : (s a w : ℕ) {y : Entry} {n : ℕ} {ms : List Move} {κ : Allowance} {e : Env} {c k : ℕ} {b : Target} {t : Watch}
-      → Stands f y n (write s a w) ms κ e → place (i .geometry) a ≡ AtSysreq → Admits (b .effect) AtSysreq → f .Safe (b .memory) → isCall w ≡ true
+      → Stands f y n (write s a w) ms κ e → place (i .geometry) a ≡ AtSysreq → Admits (b .effect) AtSysreq → Lasting (f .Safe) b → Lasting (f .Safe) (begin true w (nextOutcome (e .lists .calls)) (setTar a b)) → isCall w ≡ true
       → (next : (e′ : Env) → e′ .lists .calls ≡ rest (e .lists .calls) → Stood f y (suc (suc n)) ms κ e′
       → Reaches f (sync y (suc (suc n)) 0 c k (begin true w (nextOutcome (e .lists .calls)) (setTar a b)) (record { tar = a; counts = false; polling = true; due = true }) e′))
       → Reaches f (sync y n 0 c k b t e)
-  call-reaches s a w st hp ok safe hc next = write-any s a w st AtSysreq hp ok safe λ e′ h st′. rw hc (next e′ (rw hc at h) st′)
+  call-reaches s a w st hp ok safe safe′ hc next = write-any s a w st AtSysreq hp ok safe (rw hc safe′) λ e′ h st′. rw hc (next e′ (rw hc at h) st′)
 
   module _ (s a : ℕ) (u : Purpose) {y : Entry} {n : ℕ} {ms : List Move} {κ : Allowance} {e : Env} {p c k : ℕ} {b : Target} {t : Watch} where
     -- any Read: the target after the first DRW read, and after the second
-    pub read-any : Stood f y n (read s a u ++ ms) (withTransfer (withTransfer (withTransfer κ))) e → (pc : Place) → place (i .geometry) a ≡ pc → Admits (b .effect) pc → f .Safe (b .memory)
+    pub read-any : Stood f y n (read s a u ++ ms) (withTransfer (withTransfer (withTransfer κ))) e → (pc : Place) → place (i .geometry) a ≡ pc → Admits (b .effect) pc → Lasting (f .Safe) b
         → (b₁ : ℕ → Target) (b₂ : ℕ → ℕ → Target)
         → ((o : ℕ) → fetch (i .geometry) o pc (setTar a b) ≡ b₁ o) → ((o o′ : ℕ) → fetch (i .geometry) o′ pc (b₁ o) ≡ b₂ o o′)
         → ((o : ℕ) → (b₁ o) .tar ≡ a) → ((o : ℕ) → (b₁ o) .effect ≡ b .effect)
-        → ((o : ℕ) → f .Safe ((b₁ o) .memory)) → ((o o′ : ℕ) → f .Safe ((b₂ o o′) .memory))
+        → ((o : ℕ) → Lasting (f .Safe) (b₁ o)) → ((o o′ : ℕ) → Lasting (f .Safe) (b₂ o o′))
         → (next : (o o′ : ℕ) (e′ : Env) → e′ .lists .calls ≡ e .lists .calls → Stood f y (suc (suc (suc n))) ms κ e′
         → Reaches f (readRun s u y (suc (suc n)) p c k ((b₁ o) .posted) pc (b₂ o o′) (aimed a t) e′))
         → Reaches f (sync y n p c k b t e)
@@ -188,7 +175,7 @@ module _ {i : Image} (f : Frame i) where
         there o = ap (place (i .geometry)) (ht o) ∙ hp
 
     -- a Read of a place that nothing moves; v o is the word there, whatever is posted
-    pub read-still : Stood f y n (read s a u ++ ms) (withTransfer (withTransfer (withTransfer κ))) e → (pc : Place) → place (i .geometry) a ≡ pc → Admits (b .effect) pc → f .Safe (b .memory)
+    pub read-still : Stood f y n (read s a u ++ ms) (withTransfer (withTransfer (withTransfer κ))) e → (pc : Place) → place (i .geometry) a ≡ pc → Admits (b .effect) pc → Lasting (f .Safe) b
         → (v : ℕ → ℕ) → ((o z : ℕ) → fetch (i .geometry) o pc (aim a z b) ≡ aim a (v o) b)
         → (next : (o o′ : ℕ) (e′ : Env) → e′ .lists .calls ≡ e .lists .calls → Stood f y (suc (suc (suc n))) ms κ e′
         → Reaches f (readRun s u y (suc (suc n)) p c k (v o) pc (aim a (v o′) b) (aimed a t) e′))

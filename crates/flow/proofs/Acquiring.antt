@@ -30,7 +30,7 @@ use Rattle.flow.proofs.Legs.{Core, core, Leg}
 use Rattle.flow.proofs.Phases.{call15, same-core}
 use Rattle.flow.proofs.Places.{place-sysreq, place-sysarg, place-test}
 use Rattle.flow.proofs.Polling.{idleAt, poll-idle}
-use Rattle.flow.proofs.Reaches.{Allowance, withTransfer, withRead, withRequest, withMoves, Env, sync, rightSilicon, Frame, Stood, Stands, less-room, Reaches}
+use Rattle.flow.proofs.Reaches.{Allowance, withTransfer, withRead, withRequest, withMoves, Env, sync, rightSilicon, Frame, Lasting, at-rest, Stood, Stands, less-room, Reaches}
 use Rattle.flow.proofs.Table.{Facts}
 use Rattle.flow.proofs.Transfer.{transfer}
 use Rattle.image.specs.Image.{Image}
@@ -79,7 +79,7 @@ module _ {i : Image} (f : Frame i) (fx : Facts (i .geometry)) (y : Entry) (m : M
   imo-leg zero = record { along = λ n x k later κ e b p st next. next k b p n x e st }
   imo-leg (suc z) = record {
     along = λ n x k later κ e b p st next.
-        calling f fx 1 0x15 (key 0x15) (call15 .command) st (rw (p .effect) answering) (stays b (p .fresh .memory))
+        calling f fx 1 0x15 (key 0x15) (call15 .command) st (rw (p .effect) answering) (p .fresh .quiet) (stays b (p .fresh .memory))
         (λ y r. rw (still-15 (i .geometry) y r _) (stays b (p .fresh .memory))) (call15 .ready _ _) (call15 .good _ _) λ b′ ret n′ e′ st′.
         next k b′ (subst (Acquired f m k) (sym (same-core ret (ret .memory ∙ effect-15 _ _ _ _ _) (p .fresh .quiet))) p) n′ _ e′ st′;
   }
@@ -105,13 +105,14 @@ module _ {i : Image} (f : Frame i) (fx : Facts (i .geometry)) (y : Entry) (m : M
         let answers : Answering (b .memory .stored) = rw (p .memory) answering in
         let not-killed = (admits (b .memory .stored) AtSysreq refl answers) .not-killed in
         let sf = stays b (p .memory) in
+        let lasting : Lasting (f .Safe) (setReset b) = record { now = sf; cut = λ r. sf } in
         xres-reaches f st sf (p .quiet) λ st₁.
-        attempts f 29 1 0 k (setReset b) (idleAt x) refl (thirty (withMoves setup κ) st₁) not-killed sf (p .silicon) λ id e₂ st₂.
-        transfer f aCtrl st₂ not-killed (barred-off (i .geometry) (WriteSetup CtrlStat 0x54000000) (setReset b) refl) sf (λ o. sf) λ _ e₃ _ st₃.
-        transfer f aSelect st₃ not-killed (barred-off (i .geometry) (WriteSetup Select 0) (setReset b) refl) sf (λ o. sf) λ _ e₄ _ st₄.
-        transfer f aCsw st₄ not-killed (barred-off (i .geometry) (WriteSetup Csw 2) (setReset b) refl) sf (λ o. sf) λ _ e₅ _ st₅.
-        write-reaches f 1 TEST-MODE 0x80000000 st₅ AtTestMode (place-test (i .geometry) fx) (admits (b .memory .stored) AtTestMode refl answers) sf refl λ e₆ _ st₆.
-        read-still f 1 TEST-MODE TestBit st₆ AtTestMode (place-test (i .geometry) fx) (admits (b .memory .stored) AtTestMode refl answers) sf (λ o. 0x80000000) (λ o z. refl) λ _ _ e₇ _ st₇.
+        attempts f 29 1 0 k (setReset b) (idleAt x) refl (thirty (withMoves setup κ) st₁) not-killed lasting (p .silicon) λ id e₂ st₂.
+        transfer f aCtrl st₂ not-killed (barred-off (i .geometry) (WriteSetup CtrlStat 0x54000000) (setReset b) refl) lasting (λ o. lasting) λ _ e₃ _ st₃.
+        transfer f aSelect st₃ not-killed (barred-off (i .geometry) (WriteSetup Select 0) (setReset b) refl) lasting (λ o. lasting) λ _ e₄ _ st₄.
+        transfer f aCsw st₄ not-killed (barred-off (i .geometry) (WriteSetup Csw 2) (setReset b) refl) lasting (λ o. lasting) λ _ e₅ _ st₅.
+        write-reaches f 1 TEST-MODE 0x80000000 st₅ AtTestMode (place-test (i .geometry) fx) (admits (b .memory .stored) AtTestMode refl answers) lasting lasting refl λ e₆ _ st₆.
+        read-still f 1 TEST-MODE TestBit st₆ AtTestMode (place-test (i .geometry) fx) (admits (b .memory .stored) AtTestMode refl answers) lasting (λ o. 0x80000000) (λ o z. refl) λ _ _ e₇ _ st₇.
         poll-idle f (place-sysreq (i .geometry) fx) 1 _ (one-poll (withMoves (imoCall (i .geometry) (imoOf (i .geometry))) κ) st₇) (admits (b .memory .stored) AtSysreq refl answers) sf refl free-zero λ e₈ _ st₈.
         (imo-leg (imoOf (i .geometry))) .along _ _ k later κ e₈ _
         (record { fresh = record { silicon = p .silicon; memory = p .memory; room = p .room; quiet = refl }; effect = ap (λ (z : Memory). z .stored) (p .memory); idcode = id }) st₈ next;
@@ -175,14 +176,14 @@ module _ {i : Image} (f : Frame i) (fx : Facts (i .geometry)) (m : Memory) (answ
       let sf : f .Safe (b .memory) = rw (p .fresh .memory) safe in
       let ready : free (sysreqAfter 0 (b .silicon) (b .effect)) ≡ true = rw (p .fresh .silicon, p .effect) (free-0 (f .silicon) (m .stored) hb hl) in
       let good : succeeded (sysargAfter 0 (b .silicon) (b .memory)) ≡ true = rw (p .fresh .silicon, p .fresh .memory) (good-0 (f .silicon) m hb) in
-      calling f fx 2 0 (key 0) command0 st (rw (p .effect) answering) sf (λ y r. rw (still-0 (i .geometry) y r _) sf) ready good λ b₁ ret n₁ e₁ st₁.
+      calling f fx 2 0 (key 0) command0 st (rw (p .effect) answering) (p .fresh .quiet) sf (λ y r. rw (still-0 (i .geometry) y r _) sf) ready good λ b₁ ret n₁ e₁ st₁.
       let same : core b₁ ≡ core b = same-core ret (ret .memory ∙ effect-0 _ _ _ _ _) (p .fresh .quiet) in
       let answers : Answering (b₁ .effect) = rw (ret .effect, p .effect) answering in
       let sf₁ : f .Safe (b₁ .memory) = rw (ret .memory, effect-0) sf in
       let arg : b₁ .sysarg ≡ sysargAfter 0 (f .silicon) m = ret .sysarg ∙ rw (p .fresh .silicon, p .fresh .memory) in
       let req : b₁ .sysreq ≡ sysreqAfter 0 (f .silicon) (m .stored) = ret .sysreq ∙ rw (p .fresh .silicon, p .effect) in
-      read-still f 2 (sysargOf (i .geometry)) Keep st₁ AtSysarg (place-sysarg (i .geometry) fx) (admits (b₁ .effect) AtSysarg refl answers) sf₁
+      read-still f 2 (sysargOf (i .geometry)) Keep st₁ AtSysarg (place-sysarg (i .geometry) fx) (admits (b₁ .effect) AtSysarg refl answers) (at-rest (f .Safe) b₁ (ret .ended) sf₁)
       (λ o. sysargAfter 0 (f .silicon) m) (λ o z. rw arg) λ _ _ e₂ _ st₂.
-      read-still f 2 (sysreqOf (i .geometry)) u st₂ AtSysreq (place-sysreq (i .geometry) fx) (admits (b₁ .effect) AtSysreq refl answers) sf₁
+      read-still f 2 (sysreqOf (i .geometry)) u st₂ AtSysreq (place-sysreq (i .geometry) fx) (admits (b₁ .effect) AtSysreq refl answers) (at-rest (f .Safe) b₁ (ret .ended) sf₁)
       (λ o. sysreqAfter 0 (f .silicon) (m .stored)) (λ o z. rw (ret .ended, req)) λ _ _ e₃ _ st₃.
       next _ same _ e₃ st₃

@@ -26,7 +26,7 @@ use Rattle.flow.specs.declared.Request.the-variants.{Xres, LineReset, Re
 use Rattle.flow.specs.declared.Silicon.{Silicon}
 use Rattle.flow.specs.declared.TransferOutcome.the-variants.{Clean}
 use Rattle.flow.proofs.Hearing.{attempt, meets, listsAfter, Heard, heardOkay, heardWait, heardError, heardErrorDone, hears}
-use Rattle.flow.proofs.Reaches.{Allowance, Env, sync, Frame, Stood, at-move, at-next, Reaches, stop, steps, clear}
+use Rattle.flow.proofs.Reaches.{Allowance, Env, sync, Frame, Lasting, at-rest, Stood, at-move, at-next, Reaches, stop, steps, clear}
 use Rattle.flow.proofs.Transfer.{more, passed, calm-event, calm-rest}
 use Rattle.image.specs.Image.{Image}
 use Rattle.parts.specs.declared.Geometry.{Geometry}
@@ -51,7 +51,7 @@ module _ {i : Image} (f : Frame i) where
       → (Stood f y (suc n) ms κ (reset-by Xres e) → Reaches f (sync y (suc n) 0 0 k (setReset b) t (reset-by Xres e)))
       → Reaches f (sync y n 0 0 k b t e)
   xres-reaches {s} {u} {y} {n} {k} {ms} {κ} {e} {b} {t} st safe quiet next =
-      steps f (sync y n 0 0 k b t e) (sync y (suc n) 0 0 k (setReset b) t (reset-by Xres e)) refl safe
+      steps f (sync y n 0 0 k b t e) (sync y (suc n) 0 0 k (setReset b) t (reset-by Xres e)) refl (at-rest (f .Safe) b quiet safe)
       (rw (at-move st) (record { transfers = omega (arith, st .room); xresets = omega (arith, st .xres); lineResets = omega (arith, st .lines) })) (clear noWaits 0 0 t (e .delays))
       arrives
       (next (record { at = at-next st; accounted = st .accounted; room = st .room; xres = omega (arith, st .xres); lines = st .lines; calm = λ still. let c = st .calm still in record { line = c .line; calls = c .calls; none = c .none } }))
@@ -60,7 +60,7 @@ module _ {i : Image} (f : Frame i) where
       arrives = unfold advance stepOf watch meet decode reset in rw (at-move st, quiet)
 
   line-reaches : {s : ℕ} {u : Purpose} {y : Entry} {n a k : ℕ} {ms : List Move} {κ : Allowance} {e : Env} {b : Target} {t : Watch}
-      → Stood f y n (move s LineReset u ∷ ms) (record { due = κ .due; room = κ .room; xres = κ .xres; lines = suc (κ .lines) }) e → f .Safe (b .memory)
+      → Stood f y n (move s LineReset u ∷ ms) (record { due = κ .due; room = κ .room; xres = κ .xres; lines = suc (κ .lines) }) e → Lasting (f .Safe) b
       → (Stood f y (suc n) ms κ (reset-by LineReset e) → Reaches f (sync y (suc n) 0 a k b t (reset-by LineReset e)))
       → Reaches f (sync y n 0 a k b t e)
   line-reaches {s} {u} {y} {n} {a} {k} {ms} {κ} {e} {b} {t} st safe next =
@@ -99,7 +99,7 @@ module _ {i : Image} (f : Frame i) where
 
   -- one attempt: `onMiss` is where a failed one leads to
   attempt-once : (m s : ℕ) {y : Entry} {n : ℕ} {ms : List Move} {κ : Allowance} {e : Env} (a k : ℕ) (b : Target) (t : Watch)
-      → Stood f y n (move s LineReset Sent ∷ move s ReadIdcode Idcode ∷ ms) (trying m κ) e → killed b ≡ false → f .Safe (b .memory) → b .silicon ≡ f .silicon
+      → Stood f y n (move s LineReset Sent ∷ move s ReadIdcode Idcode ∷ ms) (trying m κ) e → killed b ≡ false → Lasting (f .Safe) b → b .silicon ≡ f .silicon
       → (onMiss : (f .Still → ⊥) → (l : Lists) → Stood f y (suc n) (move s ReadIdcode Idcode ∷ ms) (afterLine m κ) (reset-by LineReset e)
       → Reaches f (tried s y (suc n) a k b t l again (reset-by LineReset e)))
       → (next : eqb (f .silicon .idcode) 0x0BB11477 ≡ true → (e′ : Env) → Stood f y (suc (suc n)) ms κ e′ → Reaches f (sync y (suc (suc n)) 0 0 k b t e′))
@@ -152,7 +152,7 @@ module _ {i : Image} (f : Frame i) where
 
   -- the attempts; after this one m more are allowed
   pub attempts : (m s : ℕ) {y : Entry} {n : ℕ} {ms : List Move} {κ : Allowance} {e : Env} (a k : ℕ) (b : Target) (t : Watch)
-      → a + suc m ≡ 30 → Stood f y n (move s LineReset Sent ∷ move s ReadIdcode Idcode ∷ ms) (trying m κ) e → killed b ≡ false → f .Safe (b .memory) → b .silicon ≡ f .silicon
+      → a + suc m ≡ 30 → Stood f y n (move s LineReset Sent ∷ move s ReadIdcode Idcode ∷ ms) (trying m κ) e → killed b ≡ false → Lasting (f .Safe) b → b .silicon ≡ f .silicon
       → (next : eqb (f .silicon .idcode) 0x0BB11477 ≡ true → (e′ : Env) → Stood f y (suc (suc n)) ms κ e′ → Reaches f (sync y (suc (suc n)) 0 0 k b t e′))
       → Reaches f (sync y n 0 a k b t e)
   attempts zero s a k b t count st not-killed safe own next =

@@ -5,7 +5,7 @@ use mathlib.Core.Path.{_≡_, refl}
 use Prim.Native.Nat.{ℕ, _+_, _*_, _/_, _%_}
 use native.Mathlib.Omega.{arith}
 use lib.Dec.{eqb, lit≤}
-use Rattle.flow.specs.Calls.{finish, effectOf, sysargAfter, sysreqAfter, failedArg, listAt}
+use Rattle.flow.specs.Calls.{finish, afterFailure, effectOf, sysargAfter, sysreqAfter, failedArg, listAt}
 use Rattle.flow.specs.Terms.{CalmCalls, callsEnd, calmCall}
 use Rattle.flow.specs.Exchange.{isCall}
 use Rattle.flow.specs.Judge.{free, succeeded, judge}
@@ -19,7 +19,7 @@ use Rattle.flow.specs.declared.Purpose.the-variants.{Status}
 use Rattle.flow.proofs.Access.{aim, Answering, admits, write-reaches, call-reaches, read-still}
 use Rattle.flow.proofs.Places.{place-sysreq, place-sysarg}
 use Rattle.flow.proofs.Polling.{idleAt, during, looping, loopAt, poll-busy}
-use Rattle.flow.proofs.Reaches.{Allowance, withTransfer, withMoves, Env, sync, Frame, Stood, Stands, less-room, Reaches, stop}
+use Rattle.flow.proofs.Reaches.{Allowance, withTransfer, withMoves, Env, sync, Frame, at-rest, Stood, Stands, less-room, Reaches, stop}
 use Rattle.flow.proofs.Table.{Facts}
 use Rattle.image.specs.Image.{Image}
 use Rattle.parts.specs.Sizes.{sysreqOf, sysargOf}
@@ -92,17 +92,22 @@ module _ {i : Image} (f : Frame i) (fx : Facts (i .geometry)) where
       → Reaches f (sync y n 0 0 k (aim x z (during (busy q s₀ r₀ c) b)) (loopAt x v true) e)
   unfolding finish judge noticeRead
   call-tail true r₀ q c s b x z st answering safe safes idles wins ready good next =
-      poll-busy f (place-sysreq (i .geometry) fx) true r₀ c b (admits (b .effect) AtSysreq refl answering) safe (safes true r₀) ready q 9999 s 0 x z refl st idles λ e₁ h₁ st₁.
-      read-still f s (sysargOf (i .geometry)) Status st₁ AtSysarg (place-sysarg (i .geometry) fx) (admits (b .effect) AtSysarg refl answering) (safes true r₀)
+      poll-busy f (place-sysreq (i .geometry) fx) true r₀ c b (admits (b .effect) AtSysreq refl answering) safe (safes false) (safes true r₀) ready q 9999 s 0 x z refl st idles λ e₁ h₁ st₁.
+      read-still f s (sysargOf (i .geometry)) Status st₁ AtSysarg (place-sysarg (i .geometry) fx) (admits (b .effect) AtSysarg refl answering) (record { now = safes true r₀; cut = λ r. safes true r₀ })
       (λ o. sysargAfter c (b .silicon) (b .memory)) (λ o z. refl) λ o o′ e₂ h₂ st₂.
       rw (good, status-is (sysargAfter c (b .silicon) (b .memory)), good) (
       next _ (record { silicon = refl; effect = refl; params = refl; memory = refl; sysarg = refl; sysreq = refl; ended = refl }) _ e₂ st₂)
   call-tail false r₀ q c s b x z st answering safe safes idles wins ready good next =
-      poll-busy f (place-sysreq (i .geometry) fx) false r₀ c b (admits (b .effect) AtSysreq refl answering) safe (safes false r₀) free-zero q 9999 s 0 x z refl st idles λ e₁ h₁ st₁.
-      read-still f s (sysargOf (i .geometry)) Status st₁ AtSysarg (place-sysarg (i .geometry) fx) (admits (b .effect) AtSysarg refl answering) (safes false r₀)
+      poll-busy f (place-sysreq (i .geometry) fx) false r₀ c b (admits (b .effect) AtSysreq refl answering) safe (safes false) (safes false r₀) free-zero q 9999 s 0 x z refl st idles λ e₁ h₁ st₁.
+      read-still f s (sysargOf (i .geometry)) Status st₁ AtSysarg (place-sysarg (i .geometry) fx) (admits (b .effect) AtSysarg refl answering) (record { now = safes false r₀; cut = λ r. safes false r₀ })
       (λ o. failedArg (r₀ .sysarg)) (λ o z. refl) λ o o′ e₂ h₂ st₂.
       rw (failed (r₀ .sysarg), status-is (failedArg (r₀ .sysarg)), failed (r₀ .sysarg)) (
-      stop (f .caught 19 s _ _ _ (lit≤ tt) (λ still. let no′ : false ≡ true = wins still in let z : _≡_ {A = ℕ} 0 1 = cc in omega arith) (safes false r₀)))
+      stop (f .caught 19 s _ _ _ (lit≤ tt) (λ still. let no′ : false ≡ true = wins still in let z : _≡_ {A = ℕ} 0 1 = cc in omega arith) (record { now = safes false r₀; cut = λ r. safes false r₀ })))
+
+  -- what a cut would leave once the call is asked for
+  cut-asked : (c w : ℕ) (b : Target) → ((y : Bool) (r : Residue) → f .Safe ((finish (i .geometry) y r c (asked c w b)) .memory)) → (r : Residue) → f .Safe (afterFailure c w r (b .memory))
+  unfolding finish
+  cut-asked c w b safes r = safes false r
 
   -- what a call may cost
   call-allowance : (s c w : ℕ) {y : Entry} {n : ℕ} (ms : List Move) (κ : Allowance) {e : Env} → Stands f y n (call (i .geometry) s c w) ms κ e
@@ -112,15 +117,15 @@ module _ {i : Image} (f : Frame i) (fx : Facts (i .geometry)) where
 
   pub calling : (s c w : ℕ) {y : Entry} {n : ℕ} {ms : List Move} {κ : Allowance} {e : Env} {k : ℕ} {b : Target} {t : Watch}
       → Command c → Stands f y n (call (i .geometry) s c w) ms κ e
-      → Answering (b .effect) → f .Safe (b .memory) → ((y : Bool) (r : Residue) → f .Safe ((finish (i .geometry) y r c (asked c w b)) .memory))
+      → Answering (b .effect) → b .running ≡ idle → f .Safe (b .memory) → ((y : Bool) (r : Residue) → f .Safe ((finish (i .geometry) y r c (asked c w b)) .memory))
       → free (sysreqAfter c (b .silicon) (b .effect)) ≡ true → succeeded (sysargAfter c (b .silicon) (b .memory)) ≡ true
       → (next : (b′ : Target) → Returned (i .geometry) c w b b′ → (n′ : ℕ) (e′ : Env) → Stood f y n′ ms κ e′
       → Reaches f (sync y n′ 0 0 k b′ (idleAt (sysargOf (i .geometry))) e′))
       → Reaches f (sync y n 0 0 k b t e)
   unfolding call write read withMoves
-  calling s c w {ms = ms} {κ = κ} {b = b} cmd st answering safe safes ready good next =
-      write-reaches f s (sysargOf (i .geometry)) w (call-allowance s c w ms κ st) AtSysarg (place-sysarg (i .geometry) fx) (admits (b .effect) AtSysarg refl answering) safe refl λ e₁ h₁ st₁.
-      call-reaches f s (sysreqOf (i .geometry)) (0x80000000 + c) st₁ (place-sysreq (i .geometry) fx) (admits (b .effect) AtSysreq refl answering) safe (cmd .started) λ e₂ h₂ st₂.
+  calling s c w {ms = ms} {κ = κ} {b = b} cmd st answering quiet safe safes ready good next =
+      write-reaches f s (sysargOf (i .geometry)) w (call-allowance s c w ms κ st) AtSysarg (place-sysarg (i .geometry) fx) (admits (b .effect) AtSysarg refl answering) (at-rest (f .Safe) b quiet safe) (record { now = safe; cut = λ r. rw quiet safe }) refl λ e₁ h₁ st₁.
+      call-reaches f s (sysreqOf (i .geometry)) (0x80000000 + c) st₁ (place-sysreq (i .geometry) fx) (admits (b .effect) AtSysreq refl answering) (record { now = safe; cut = λ r. rw quiet safe }) (record { now = safe; cut = λ r. rw (cmd .number) (cut-asked c w b safes r) }) (cmd .started) λ e₂ h₂ st₂.
       rw (cmd .number) (
       call-tail ((nextOutcome (e₁ .lists .calls)) .succeeds) ((nextOutcome (e₁ .lists .calls)) .residue) ((nextOutcome (e₁ .lists .calls)) .busyReads) c s (asked c w b) (sysreqOf (i .geometry)) (b .posted)
       st₂ answering safe safes (λ still. calm-idle ((st₁ .calm still) .calls)) (λ still. calm-success ((st₁ .calm still) .calls)) ready good

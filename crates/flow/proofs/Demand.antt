@@ -1,13 +1,14 @@
 -- Demand 3 on the definitions. Assumes nothing.
 use mathlib.Core.Bool.{true, false, false≢true, _&&_}
+use mathlib.Core.List.{List}
 use mathlib.Core.Logic.{_⊎_, inl, inr, _↔_}
-use mathlib.Core.Path.{_≡_, refl, ap, sym, _∙_}
+use mathlib.Core.Path.{_≡_, refl, ap, sym, subst, _∙_}
 use Prim.Native.Nat.{ℕ, zero, suc, _+_, _≤_}
 use native.Mathlib.Omega.{arith}
 use lib.Dec.{eqb}
 use borrow.Author.Tests.{eq-eqb, eqb-true}
 use Rattle.flow.specs.Claim.{RunDemand3, RunDemand3Holds}
-use Rattle.flow.specs.Terms.{RightPart, NoError, Calm, entryOf}
+use Rattle.flow.specs.Terms.{Passes, Startable, RightPart, NoError, Calm, entryOf}
 use Rattle.flow.specs.Monitor.{Monitor, linkError}
 use Rattle.flow.specs.Plan.{Traffic, plan, mostTraffic}
 use Rattle.flow.specs.Run.{Run, advanceBy, advance, runAfter, started, handedOutBy, handedOut}
@@ -16,13 +17,15 @@ use Rattle.flow.specs.Target.{Target, Lists}
 use Rattle.flow.specs.declared.Silicon.{Silicon}
 use Rattle.flow.proofs.Counting.{total, one-more}
 use Rattle.flow.proofs.Entering.{Goes, byOpen, byProtected, start-reaches}
-use Rattle.flow.proofs.Frames.{Sound, Why, mishap, otherId, otherPart, Stopped, Finished, frame, start-stands}
+use Rattle.flow.proofs.Frames.{Sound, not-virgin, Why, mishap, otherId, otherPart, Stopped, Finished, frame, start-stands}
 use Rattle.flow.proofs.Passing.{table-facts, valid}
-use Rattle.flow.proofs.Phases.{Level}
-use Rattle.flow.proofs.Reaches.{rightSilicon, RightIds, Frame, Bounded, going, Reaches, here, stop, step}
+use Rattle.flow.proofs.Phases.{Level, isOpen, isProtected}
+use Rattle.flow.proofs.Reaches.{rightSilicon, RightIds, Frame, Lasting, Bounded, going, Reaches, here, stop, step}
 use Rattle.parts.proofs.Table.{both}
 use Rattle.image.specs.Checks.{metadataAt}
 use Rattle.image.specs.Image.{Image, imageOf}
+use Rattle.image.specs.declared.Header.{Header}
+use Rattle.parts.specs.declared.Geometry.{Geometry}
 use Rattle.parts.specs.Parts.{lowFits}
 
 -- ---- the right part, as tests and as a record
@@ -83,7 +86,7 @@ module _ (i : Image) (lv : Level (i .header .level)) (b : Target) (l : Lists) wh
 
   -- on the way, done, or stopped for a reason
   data Fair (r : Run) : Type 0 where
-    onWay : going (r .session) ≡ true → Sound (r .target .memory) → NoError (r .monitor) → Fair r
+    onWay : going (r .session) ≡ true → Lasting Sound (r .target) → NoError (r .monitor) → Fair r
     done : Finished i b l r → Fair r
     ended : Stopped i (b .silicon) l r → Fair r
 
@@ -167,7 +170,7 @@ module _ (i : Image) (lv : Level (i .header .level)) (b : Target) (l : Lists) wh
   same-sent : (x t h x′ t′ h′ : ℕ) → reported x t h ≡ reported x′ t′ h′ → h ≡ h′
   same-sent x t h x′ t′ h′ e = cc
 
-  sound-of : {r : Run} → Fair r → Sound (r .target .memory)
+  sound-of : {r : Run} → Fair r → Lasting Sound (r .target)
   sound-of (onWay g safe clean) = safe
   sound-of (done d) = d .sound
   sound-of (ended s) = s .sound
@@ -216,7 +219,7 @@ module _ (i : Image) (lv : Level (i .header .level)) (b : Target) (l : Lists) wh
       → (total (mostTraffic (i .geometry) (entryOf b)) ≤ n → going (r .session) ≡ false) → RunDemand3 i b l n r
   unfolding frame
   claim n r f most late = record {
-    neverVirgin = sound-of f;
+    neverVirgin = not-virgin ((sound-of f) .now);
     transfers = most .transfers;
     xresets = most .xresets;
     lineResets = most .lineResets;
@@ -244,20 +247,38 @@ goes b (inl e) = rw e (byOpen refl)
 goes b (inr e) = rw e (byProtected refl)
 
 level-sound : (b : Target) → (b .memory .stored ≡ 1) ⊎ (b .memory .stored ≡ 2) → Sound (b .memory)
-level-sound b (inl e) = λ h. omega arith
-level-sound b (inr e) = λ h. omega arith
+level-sound b (inl e) = subst Level (sym e) isOpen
+level-sound b (inr e) = subst Level (sym e) isProtected
+
+-- from the start on, for an image that passes and a target that may start
+module _ (g : Geometry) (h : Header) (bytes : List ℕ) (p : Passes g h bytes) (b : Target) (s : Startable g b) (l : Lists) where
+  abbrev i : Image
+  i = imageOf g h bytes
+
+  abbrev lv : Level (h .level)
+  lv = (valid g h bytes p) .level
+
+  way : Reaches (frame i lv b l) (started b l)
+  unfolding frame
+  way =
+      start-reaches (frame i lv b l) (table-facts g h bytes p) (valid g h bytes p) (record { high = s .high; low = s .low; revision = s .revision; family = s .family }) (b .memory)
+      (record { flash = s .flash; locks = s .locks; latch = s .latch }) (level-sound b (s .level)) (goes b (s .level))
+      (record { silicon = refl; memory = refl; room = s .params; quiet = s .quiet }) (start-stands i (table-facts g h bytes p) (frame i lv b l) b l refl refl (λ c. c))
+
+  fair-after : (n : ℕ) → Fair i lv b l (runAfter i n (started b l))
+  fair-after n = fair i lv b l n (started b l) way
 
 -- demand 3 of every image that passes, every target that may start, both free lists, every number of steps
 pub run-demand3-holds : RunDemand3Holds
 unfolding frame
 run-demand3-holds g h bytes p b s l n =
     let i = imageOf g h bytes in
-    let fx = table-facts g h bytes p in
-    let v = valid g h bytes p in
-    let lv = v .level in
-    let way : Reaches (frame i lv b l) (started b l) =
-    start-reaches (frame i lv b l) fx v (record { high = s .high; low = s .low; revision = s .revision; family = s .family }) (b .memory)
-    (record { flash = s .flash; locks = s .locks; latch = s .latch }) (level-sound b (s .level)) (goes b (s .level))
-    (record { silicon = refl; memory = refl; room = s .params; quiet = s .quiet }) (start-stands i fx (frame i lv b l) b l refl refl (λ c. c)) in
-    claim i lv b l n (runAfter i n (started b l)) (fair i lv b l n (started b l) way) (bounded i lv b l n (started b l) way (λ e. absurd (false≢true (sym e))))
-    (λ late. comes i lv b l n (started b l) way (omega arith))
+    let lv = (valid g h bytes p) .level in
+    let w = way g h bytes p b s l in
+    claim i lv b l n (runAfter i n (started b l)) (fair-after g h bytes p b s l n) (bounded i lv b l n (started b l) w (λ e. absurd (false≢true (sym e))))
+    (λ late. comes i lv b l n (started b l) w (omega arith))
+
+-- at every step the stored level is OPEN, PROTECTED or KILL, and so is what a cut would leave
+pub run-sound : (g : Geometry) (h : Header) (bytes : List ℕ) → Passes g h bytes → (b : Target) → Startable g b → (l : Lists) (n : ℕ)
+    → Lasting Sound ((runAfter (imageOf g h bytes) n (started b l)) .target)
+run-sound g h bytes p b s l n = sound-of (imageOf g h bytes) ((valid g h bytes p) .level) b l (fair-after g h bytes p b s l n)

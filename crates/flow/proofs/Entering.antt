@@ -28,7 +28,7 @@ use Rattle.flow.proofs.Listing.{ListReturned, listing}
 use Rattle.flow.proofs.Lists.{total-zero}
 use Rattle.flow.proofs.Phases.{Valid, Sized, callA, callD, steady-A}
 use Rattle.flow.proofs.Polling.{idleAt}
-use Rattle.flow.proofs.Reaches.{withMoves, Env, sync, rightSilicon, RightIds, Frame, Stood, Stands, split, Reaches, stop}
+use Rattle.flow.proofs.Reaches.{withMoves, Env, sync, rightSilicon, RightIds, Frame, at-rest, Stood, Stands, split, Reaches, stop}
 use Rattle.flow.proofs.Table.{Facts}
 use Rattle.image.specs.Image.{Image}
 use Rattle.parts.specs.Sizes.{sysargOf, sysreqOf}
@@ -98,7 +98,7 @@ module _ {i : Image} (f : Frame i) (fx : Facts (i .geometry)) (v : Valid i) (hb 
   unfolding afterwards
   open-reaches {b = b} right one p st =
       listing f fx 3 0x0A (key 0x0A ∷ []) (callA .command) (split (listed (i .geometry) 3 0x0A (key 0x0A ∷ [])) (program i) [] nothing st) (omega arith)
-      (p .fresh .room) (p .effect ∙ one) (rw (p .fresh .memory) safe)
+      (p .fresh .room) (p .effect ∙ one) (p .fresh .quiet) (rw (p .fresh .memory) safe)
       (λ y r b′ _ hm _. f .safeOpen right _ (steady-A (i .geometry) y r b′ ∙ ap (λ (z : Memory). z .stored) (hm ∙ p .fresh .memory) ∙ one)) (callA .ready _ _) (callA .good _ _) λ b₁ r₁ n₁ e₁ st₁.
       program-reaches f fx v (blank b₁ r₁) st₁
     where
@@ -119,7 +119,7 @@ module _ {i : Image} (f : Frame i) (fx : Facts (i .geometry)) (v : Valid i) (hb 
   unfolding afterwards silicon read withMoves judge
   protected-reaches {b = b} right two p st =
       calling f fx 3 0x0D reopenWord (callD .command) (split (call (i .geometry) 3 0x0D reopenWord) (acquire (i .geometry) ++ (silicon (i .geometry) Reopened ++ program i)) [] nothing st)
-      (inr (p .effect ∙ two)) (rw (p .fresh .memory) safe) (λ y r. safe-reopen f right y r _ (p .effect ∙ two) refl (rw (p .fresh .memory) safe)) (callD .ready _ _) (callD .good _ _) λ b₁ ret n₁ e₁ st₁.
+      (inr (p .effect ∙ two)) (p .fresh .quiet) (rw (p .fresh .memory) safe) (λ y r. safe-reopen f right y r _ (p .effect ∙ two) refl (rw (p .fresh .memory) safe)) (callD .ready _ _) (callD .good _ _) λ b₁ ret n₁ e₁ st₁.
       (acquire-leg f fx FromProtected (zeroed 1 m) (inl refl) (f .safeOpen right _ refl)) .along _ _ _ _ _ _ _ (fresh b₁ ret)
       (split (acquire (i .geometry)) (silicon (i .geometry) Reopened ++ program i) [] nothing st₁) λ k₂ b₂ a₂ n₂ x₂ e₂ st₂.
       silicon-reaches f fx (zeroed 1 m) (inl refl) (f .safeOpen right _ refl) hb (omega arith) Reopened a₂
@@ -153,7 +153,7 @@ module _ {i : Image} (f : Frame i) (fx : Facts (i .geometry)) (v : Valid i) (hb 
         traffic = e .traffic;
       })
   unfolding sequence
-  decided goes false h k {b = b} p st = stop (f .wrongPart 2 noWaits 0 0 b _ _ _ _ (rw (p .fresh .memory) safe) h)
+  decided goes false h k {b = b} p st = stop (f .wrongPart 2 noWaits 0 0 b _ _ _ _ (at-rest (f .Safe) b (p .fresh .quiet) (rw (p .fresh .memory) safe)) h)
   decided (byOpen one) true h k p st =
       rw (eq-eqb (m .stored) 1 one) (
       open-reaches (record { idcode = p .idcode; silicon = h }) one (again p)

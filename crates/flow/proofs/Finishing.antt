@@ -28,7 +28,7 @@ use Rattle.flow.proofs.Phases.{Valid, Opened, Sized, Wrote, Locked, lev
 use Rattle.flow.proofs.Places.{place-sysarg}
 use Rattle.flow.proofs.Polling.{idleAt}
 use Rattle.flow.proofs.Programming.{rows-leg}
-use Rattle.flow.proofs.Reaches.{Allowance, withTransfer, withMoves, Env, sync, HoldsImage, Frame, Stood, Stands, split, Reaches, here}
+use Rattle.flow.proofs.Reaches.{Allowance, withTransfer, withMoves, Env, sync, HoldsImage, Frame, at-rest, Stood, Stands, split, Reaches, here}
 use Rattle.flow.proofs.Table.{Facts}
 use Rattle.flow.proofs.Verifying.{flash-leg, locks-leg, level-leg}
 use Rattle.image.specs.Image.{Image}
@@ -103,10 +103,10 @@ module _ {i : Image} (f : Frame i) (fx : Facts (i .geometry)) (v : Valid i) wher
       → Reaches f (sync y n 0 0 k b (idleAt x) e)
   unfolding noticeRead
   sum-reaches s u {b = b} p safe st next =
-      calling f fx s 0x0B sumWord commandB st (inl (p .effect)) safe (λ y r. rw (still-B (i .geometry) y r _) safe) (free-B _ _) (good-B _ _) λ b₁ ret n₁ e₁ st₁.
+      calling f fx s 0x0B sumWord commandB st (inl (p .effect)) (p .quiet) safe (λ y r. rw (still-B (i .geometry) y r _) safe) (free-B _ _) (good-B _ _) λ b₁ ret n₁ e₁ st₁.
       let arg : b₁ .sysarg ≡ sysargAfter 0x0B (f .silicon) (b .memory) = ret .sysarg ∙ rw (p .silicon) in
       read-still f s (sysargOf (i .geometry)) u st₁ AtSysarg (place-sysarg (i .geometry) fx) (admits-open (b₁ .effect) AtSysarg (ret .effect ∙ p .effect))
-      (rw (ret .memory, effect-B) safe) (λ o. sysargAfter 0x0B (f .silicon) (b .memory)) (λ o z. rw arg) λ _ _ e₂ _ st₂.
+      (at-rest (f .Safe) b₁ (ret .ended) (rw (ret .memory, effect-B) safe)) (λ o. sysargAfter 0x0B (f .silicon) (b .memory)) (λ o z. rw arg) λ _ _ e₂ _ st₂.
       next _ (same-core ret (ret .memory ∙ effect-B _ _ _ _ _) (p .quiet)) _ e₂ st₂
 
   -- step 4
@@ -162,7 +162,7 @@ module _ {i : Image} (f : Frame i) (fx : Facts (i .geometry)) (v : Valid i) wher
       sum-reaches 9 LastSum {κ = nothing} (p .opened) (level-safe f (p .opened .right) (macrosOf (i .geometry)) (b .memory) (p .level))
       (split (call (i .geometry) 9 0x0B sumWord) (read 9 (sysargOf (i .geometry)) LastSum) [] nothing st) λ b′ same n′ e′ st′.
       rw (sums-fit i (f .silicon) (b .memory) k (p .kept) (p .flash) (v .sum)) (
-      here (f .finished b′ (e′ .lists) (idleAt (sysargOf (i .geometry))) (e′ .delays) (e′ .traffic) (p .opened .right) (holds-image b′ same) (omega (arith, st′ .accounted)) (λ still. (st′ .calm still) .none)))
+      here (f .finished b′ (e′ .lists) (idleAt (sysargOf (i .geometry))) (e′ .delays) (e′ .traffic) (p .opened .right) (ap (λ (c : Core). c .running) same ∙ p .opened .quiet) (holds-image b′ same) (omega (arith, st′ .accounted)) (λ still. (st′ .calm still) .none)))
     where
       holds-image : (b′ : Target) → core b′ ≡ core b → HoldsImage i (b′ .memory)
       holds-image b′ same =

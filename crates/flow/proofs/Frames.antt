@@ -1,7 +1,7 @@
 -- The frame of demand 3, and where a started session stands in it. Assumes nothing.
 use mathlib.Core.Bool.{false}
 use mathlib.Core.List.{List, [], _∷_}
-use mathlib.Core.Path.{_≡_, refl, sym, _∙_}
+use mathlib.Core.Path.{_≡_, refl, sym, subst, _∙_}
 use Prim.Native.Nat.{ℕ, suc, _+_, _*_, _≤_}
 use native.Mathlib.Omega.{arith}
 use lib.Dec.{eqb}
@@ -22,7 +22,7 @@ use Rattle.flow.specs.declared.Silicon.{Silicon}
 use Rattle.flow.proofs.Counting.{sequence-totals}
 use Rattle.flow.proofs.Finishing.{nothing}
 use Rattle.flow.proofs.Phases.{Level, isOpen, isProtected, isKill}
-use Rattle.flow.proofs.Reaches.{Allowance, withRead, withRequest, withMoves, with-moves-append, Env, rightSilicon, RightIds, HoldsImage, Frame, Stands, clear}
+use Rattle.flow.proofs.Reaches.{Allowance, withRead, withRequest, withMoves, with-moves-append, Env, rightSilicon, RightIds, HoldsImage, Frame, Lasting, at-rest, Stands, clear}
 use Rattle.flow.proofs.Table.{Facts}
 use Rattle.image.specs.Image.{Image}
 
@@ -70,14 +70,14 @@ costs (m ∷ ms) κ = one-cost m ms κ (withMoves ms κ) (costs ms κ)
 
 -- ---- the frame
 
--- the stored level is not VIRGIN
+-- the stored level is OPEN, PROTECTED or KILL
 abbrev pub Sound : Memory → Type 0
-Sound m = m .stored ≡ 0 → ⊥
+Sound m = Level (m .stored)
 
-pub level-sound : {l : ℕ} → Level l → l ≡ 0 → ⊥
-level-sound isOpen e = omega arith
-level-sound isProtected e = omega arith
-level-sound isKill e = omega arith
+pub not-virgin : {l : ℕ} → Level l → l ≡ 0 → ⊥
+not-virgin isOpen e = omega arith
+not-virgin isProtected e = omega arith
+not-virgin isKill e = omega arith
 
 -- why a session ends with a number
 pub data Why (i : Image) (x : Silicon) (l : Lists) : ℕ → Monitor → Type 0 where
@@ -90,7 +90,7 @@ pub record Stopped (i : Image) (x : Silicon) (l : Lists) (r : Run) : Type 0 wher
   pub step : ℕ
   pub is : r .session ≡ reported number step (r .traffic .transfers)
   pub why : Why i x l number (r .monitor)
-  pub sound : Sound (r .target .memory)
+  pub sound : Lasting Sound (r .target)
 
 pub record Finished (i : Image) (b : Target) (l : Lists) (r : Run) : Type 0 where
   pub is : r .session ≡ reported 0 9 (r .traffic .transfers)
@@ -99,7 +99,7 @@ pub record Finished (i : Image) (b : Target) (l : Lists) (r : Run) : Type 0 wher
   pub holds-image : HoldsImage i (r .target .memory)
   pub count : r .traffic .transfers ≡ plan (i .geometry) (entryOf b) + delaysIn (r .monitor)
   pub calm : Calm l → delaysIn (r .monitor) ≡ 0
-  pub sound : Sound (r .target .memory)
+  pub sound : Lasting Sound (r .target)
 
 unfoldable pub frame : (i : Image) → Level (i .header .level) → Target → Lists → Frame i
 frame i lv b l = record {
@@ -110,11 +110,11 @@ frame i lv b l = record {
   planned = plan (i .geometry) (entryOf b);
   most = mostTraffic (i .geometry) (entryOf b);
   silicon = b .silicon;
-  safeSame = λ right m m′ e s h. s (sym e ∙ h);
-  safeOpen = λ right m e h. omega arith;
-  safeImage = λ right m e h. level-sound lv (sym e ∙ h);
+  safeSame = λ right m m′ e s. subst Level (sym e) s;
+  safeOpen = λ right m e. subst Level (sym e) isOpen;
+  safeImage = λ right m e. subst Level (sym e) lv;
   caught = λ n s b l t some bad safe. record { number = n; step = s; is = refl; why = mishap n some bad; sound = safe };
-  finished = λ b l w d t right holds-image count calm. record { is = refl; right = right; clean = clear noWaits 0 0 w d; holds-image = holds-image; count = count; calm = calm; sound = λ h. level-sound lv (sym (holds-image .level) ∙ h) };
+  finished = λ b l w d t right quiet holds-image count calm. record { is = refl; right = right; clean = clear noWaits 0 0 w d; holds-image = holds-image; count = count; calm = calm; sound = at-rest Sound b quiet (subst Level (sym (holds-image .level)) lv) };
   wrongId = λ s w p a b l x d t safe h. record { number = 16; step = s; is = refl; why = otherId (clear w p a x d) h; sound = safe };
   wrongPart = λ s w p a b l x d t safe h. record { number = 20; step = s; is = refl; why = otherPart (clear w p a x d) h; sound = safe };
 }

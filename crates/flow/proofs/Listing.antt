@@ -18,7 +18,7 @@ use Rattle.flow.proofs.Calling.{Command, calling}
 use Rattle.flow.proofs.Lists.{lay-next, length-lay}
 use Rattle.flow.proofs.Places.{place-params}
 use Rattle.flow.proofs.Polling.{idleAt}
-use Rattle.flow.proofs.Reaches.{Allowance, withMoves, Env, sync, Frame, Stood, Stands, split, Reaches}
+use Rattle.flow.proofs.Reaches.{Allowance, withMoves, Env, sync, Frame, at-rest, Stood, Stands, split, Reaches}
 use Rattle.flow.proofs.Table.{Facts}
 use Rattle.image.specs.Image.{Image}
 use Rattle.parts.specs.Sizes.{rowBytes, sysargOf, PARAMS}
@@ -41,22 +41,23 @@ record Filled (ws : List ℕ) (b b′ : Target) : Type 0 where
   pub memory : b′ .memory ≡ b .memory
   pub params : b′ .params ≡ ws ++ behind
   pub room : length (b′ .params) ≡ length (b .params)
+  pub quiet : b′ .running ≡ idle
 
 module _ {i : Image} (f : Frame i) (fx : Facts (i .geometry)) where
   -- the first word goes behind those of `pre`
   writes-from : (ws pre tl : List ℕ) (s a j : ℕ) {y : Entry} {n : ℕ} {ms : List Move} {κ : Allowance} {e : Env} {k : ℕ} (b : Target) {x : ℕ}
       → b .params ≡ pre ++ tl → length pre ≡ j → a ≡ PARAMS + 4 * j → j + length ws ≤ 2 + rowBytes (i .geometry) / 4 → j + length ws ≤ length (b .params)
-      → Stands f y n (writes s a ws) ms κ e → b .effect ≡ 1 → f .Safe (b .memory)
+      → Stands f y n (writes s a ws) ms κ e → b .effect ≡ 1 → b .running ≡ idle → f .Safe (b .memory)
       → (next : (b′ : Target) → Filled (pre ++ ws) b b′ → (n′ x′ : ℕ) (e′ : Env) → Stood f y n′ ms κ e′ → Reaches f (sync y n′ 0 0 k b′ (idleAt x′) e′))
       → Reaches f (sync y n 0 0 k b (idleAt x) e)
   unfolding writes write withMoves
-  writes-from [] pre tl s a j {n = n} {e = e} b {x} hp hl ha fits room st he safe next =
-      next b (record { behind = tl; silicon = refl; effect = refl; memory = refl; params = rw (append-nil pre) hp; room = refl }) n x e st
-  writes-from (w ∷ ws) pre tl s a j b hp hl ha fits room st he safe next =
-      write-reaches f s a w st (InParams j) (place-params (i .geometry) fx a j ha (omega arith)) (admits-open (b .effect) (InParams j) he) safe refl λ e₁ h₁ st₁.
+  writes-from [] pre tl s a j {n = n} {e = e} b {x} hp hl ha fits room st he quiet safe next =
+      next b (record { behind = tl; silicon = refl; effect = refl; memory = refl; params = rw (append-nil pre) hp; room = refl; quiet = quiet }) n x e st
+  writes-from (w ∷ ws) pre tl s a j b hp hl ha fits room st he quiet safe next =
+      write-reaches f s a w st (InParams j) (place-params (i .geometry) fx a j ha (omega arith)) (admits-open (b .effect) (InParams j) he) (at-rest (f .Safe) b quiet safe) (record { now = safe; cut = λ r. rw quiet safe }) refl λ e₁ h₁ st₁.
       writes-from ws (pre ++ (w ∷ [])) (drop 1 tl) s (a + 4) (suc j) _
       (rw (hp, ← hl) (lay-next pre tl w some)) (rw (length-append pre (w ∷ [])) (omega arith)) (omega arith) (omega arith)
-      (rw (length-lay (b .params) (w ∷ []) j) (omega arith)) st₁ he safe λ b′ d n′ x′ e′ st′.
+      (rw (length-lay (b .params) (w ∷ []) j) (omega arith)) st₁ he quiet safe λ b′ d n′ x′ e′ st′.
       next b′ (record {
         behind = d .behind;
         silicon = d .silicon;
@@ -64,6 +65,7 @@ module _ {i : Image} (f : Frame i) (fx : Facts (i .geometry)) where
         memory = d .memory;
         params = d .params ∙ ap (λ (l : List ℕ). l ++ d .behind) (append-assoc pre (w ∷ []) ws);
         room = d .room ∙ length-lay (b .params) (w ∷ []) j;
+        quiet = d .quiet;
       }) n′ x′ e′ st′
     where
       some : 1 ≤ length tl
@@ -71,17 +73,17 @@ module _ {i : Image} (f : Frame i) (fx : Facts (i .geometry)) where
 
   pub listing : (s c : ℕ) (ws : List ℕ) {y : Entry} {n : ℕ} {ms : List Move} {κ : Allowance} {e : Env} {k : ℕ} {b : Target} {x : ℕ}
       → Command c → Stands f y n (listed (i .geometry) s c ws) ms κ e
-      → length ws ≤ 2 + rowBytes (i .geometry) / 4 → 2 + rowBytes (i .geometry) / 4 ≤ length (b .params) → b .effect ≡ 1 → f .Safe (b .memory)
+      → length ws ≤ 2 + rowBytes (i .geometry) / 4 → 2 + rowBytes (i .geometry) / 4 ≤ length (b .params) → b .effect ≡ 1 → b .running ≡ idle → f .Safe (b .memory)
       → ((y : Bool) (r : Residue) (b′ : Target) → b′ .effect ≡ b .effect → b′ .memory ≡ b .memory → b′ .sysarg ≡ PARAMS → f .Safe ((finish (i .geometry) y r c b′) .memory))
       → free (sysreqAfter c (b .silicon) (b .effect)) ≡ true → succeeded (sysargAfter c (b .silicon) (b .memory)) ≡ true
       → (next : (b′ : Target) → ListReturned (i .geometry) c ws b b′ → (n′ : ℕ) (e′ : Env) → Stood f y n′ ms κ e′
       → Reaches f (sync y n′ 0 0 k b′ (idleAt (sysargOf (i .geometry))) e′))
       → Reaches f (sync y n 0 0 k b (idleAt x) e)
   unfolding listed
-  listing s c ws {ms = ms} {κ = κ} {b = b} cmd st fits room he safe safes ready good next =
+  listing s c ws {ms = ms} {κ = κ} {b = b} cmd st fits room he quiet safe safes ready good next =
       writes-from ws [] (b .params) s PARAMS 0 b refl refl (omega arith) (omega arith) (omega arith)
-      (split (writes s PARAMS ws) (call (i .geometry) s c PARAMS) ms κ st) he safe λ b₁ d n₁ x₁ e₁ st₁.
-      calling f fx s c PARAMS cmd st₁ (inl (d .effect ∙ he)) (rw (d .memory) safe) (λ y r. safes y r _ (d .effect) (d .memory) refl)
+      (split (writes s PARAMS ws) (call (i .geometry) s c PARAMS) ms κ st) he quiet safe λ b₁ d n₁ x₁ e₁ st₁.
+      calling f fx s c PARAMS cmd st₁ (inl (d .effect ∙ he)) (d .quiet) (rw (d .memory) safe) (λ y r. safes y r _ (d .effect) (d .memory) refl)
       (rw (d .silicon, d .effect) ready) (rw (d .silicon, d .memory) good) λ b₂ ret n₂ e₂ st₂.
       next b₂ (record {
         behind = d .behind;

@@ -145,10 +145,10 @@ module _ {i : Image} (f : Frame i) (fx : Facts (i .geometry)) (v : Valid i) (m :
   macro-leg y = record {
     along = λ n x k later κ e b w st next.
         listing f fx 7 4 lockList (call4 .command) (split (listed (i .geometry) 7 4 lockList) (call (i .geometry) 7 0x0D (lockWord (i .header .level) m)) later κ st)
-        (omega (arith, length-words (i .protection) (lockStart (i .geometry) m) (locksIn (i .geometry) m / 4), fx .lockFit m)) (w .opened .room) (w .opened .effect)
+        (omega (arith, length-words (i .protection) (lockStart (i .geometry) m) (locksIn (i .geometry) m / 4), fx .lockFit m)) (w .opened .room) (w .opened .effect) (w .opened .quiet)
         (level-safe f (w .opened .right) m (b .memory) (w .level)) (λ y r b′ he hm _. level-safe f (w .opened .right) m _ (steady-4 (i .geometry) y r b′ ∙ ap (λ (x : Memory). x .stored) hm ∙ w .level))
         (call4 .ready _ _) (call4 .good _ _) λ b₁ r₁ n₁ e₁ st₁.
-        calling f fx 7 0x0D (lockWord (i .header .level) m) (callD .command) st₁ (inl (r₁ .effect ∙ w .opened .effect))
+        calling f fx 7 0x0D (lockWord (i .header .level) m) (callD .command) st₁ (inl (r₁ .effect ∙ w .opened .effect)) (r₁ .ended)
         (level-safe f (w .opened .right) m (b₁ .memory) (stored-4 b b₁ (w .level) r₁))
         (λ y r. safe-D f y r (i .header .level) m _ (level-small (v .level)) (r₁ .effect ∙ w .opened .effect) refl (f .safeImage (w .opened .right))
         (λ x hx. level-safe f (w .opened .right) m x (hx ∙ stored-4 b b₁ (w .level) r₁))) (callD .ready _ _) (callD .good _ _) λ b₂ r₂ n₂ e₂ st₂.

@@ -6,7 +6,7 @@ use Prim.Native.Nat.{ℕ, zero, suc, _+_, _*_, _-_, _/_, _%_}
 use native.Mathlib.Omega.{arith}
 use lib.Dec.{eqb, lit≤}
 use borrow.Author.Tests.{lt-ltb, le-ltb, eq-eqb, ne-eqb, eqb-true, eqb-false}
-use Rattle.flow.specs.Calls.{finish}
+use Rattle.flow.specs.Calls.{finish, afterFailure}
 use Rattle.flow.specs.Exchange.{fetch}
 use Rattle.flow.specs.Judge.{free, judge}
 use Rattle.flow.specs.Map.{place}
@@ -18,7 +18,7 @@ use Rattle.flow.specs.declared.Move.{Move}
 use Rattle.flow.specs.declared.Place.the-variants.{AtSysreq}
 use Rattle.flow.specs.declared.Purpose.the-variants.{Poll}
 use Rattle.flow.proofs.Access.{aim, Admits, read-any, read-still}
-use Rattle.flow.proofs.Reaches.{Allowance, withTransfer, Env, sync, Frame, Stood, less-room, Reaches, stop}
+use Rattle.flow.proofs.Reaches.{Allowance, withTransfer, Env, sync, Frame, Lasting, at-rest, Stood, less-room, Reaches, stop}
 use Rattle.image.specs.Image.{Image}
 use Rattle.parts.specs.Sizes.{sysreqOf}
 use Rattle.parts.specs.declared.Geometry.{Geometry}
@@ -120,13 +120,21 @@ module _ {i : Image} (f : Frame i) (hp : place (i .geometry) (sysreqOf (i .geome
       → Reaches f (sync y n p a k b (loopAt x c d) e)
   unfolding judge noticeRead
   poll-idle s b st ok safe rest ready next =
-      read-still f s (sysreqOf (i .geometry)) Poll st AtSysreq hp ok safe (λ o. b .sysreq) (λ o z. rw rest) λ o o′ e′ h st′.
+      read-still f s (sysreqOf (i .geometry)) Poll st AtSysreq hp ok (at-rest (f .Safe) b rest safe) (λ o. b .sysreq) (λ o z. rw rest) λ o o′ e′ h st′.
       rw (ready, polls-agree (b .sysreq), ready) (next e′ h st′)
 
   module _ (s₀ : Bool) (r₀ : Residue) (c₀ : ℕ) (b : Target) (ok : Admits (b .effect) AtSysreq) (safe : f .Safe (b .memory))
+      (fails : (r : Residue) → f .Safe (afterFailure c₀ (b .sysarg) r (b .memory)))
       (safe′ : f .Safe ((finish (i .geometry) s₀ r₀ c₀ b) .memory)) (ready : free ((finish (i .geometry) s₀ r₀ c₀ b) .sysreq) ≡ true) where
     abbrev over : Target
     over = finish (i .geometry) s₀ r₀ c₀ b
+
+    -- under way, and once it is over
+    going : Lasting (f .Safe) (during (busy 0 s₀ r₀ c₀) b)
+    going = record { now = safe; cut = fails }
+
+    gone : Lasting (f .Safe) over
+    gone = at-rest (f .Safe) over (finish-idle (i .geometry) s₀ r₀ c₀ b) safe′
 
     -- back to the first transfer of the Read
     back : {y : Entry} {n n′ : ℕ} {ms later : List Move} (κ : Allowance) {κ₀ : Allowance} {e e′ : Env} (m : ℕ) → Stood f y n ms κ₀ e → Stood f y n′ later (left (suc m) κ) e′ → (f .Still → ⊥)
@@ -148,37 +156,37 @@ module _ {i : Image} (f : Frame i) (hp : place (i .geometry) (sysreqOf (i .geome
         → Reaches f (sync y n p a k (aim x z (during (busy q s₀ r₀ c₀) b)) (loopAt x c d) e)
     unfolding judge noticeRead
     poll-busy zero m s {κ = κ} p x z count st calm next =
-        read-any f s (sysreqOf (i .geometry)) Poll (this-poll κ m st) AtSysreq hp ok safe
+        read-any f s (sysreqOf (i .geometry)) Poll (this-poll κ m st) AtSysreq hp ok going
         (λ o. aim (sysreqOf (i .geometry)) (over .sysreq) over) (λ o o′. aim (sysreqOf (i .geometry)) (over .sysreq) over)
         (λ o. fetch-last (i .geometry) s₀ r₀ c₀ (sysreqOf (i .geometry)) z o b) (λ o o′. fetch-ended (i .geometry) s₀ r₀ c₀ (sysreqOf (i .geometry)) (over .sysreq) o′ b)
-        (λ o. refl) (λ o. finish-effect (i .geometry) s₀ r₀ c₀ b) (λ o. safe′) (λ o o′. safe′) λ o o′ e′ h st′.
+        (λ o. refl) (λ o. finish-effect (i .geometry) s₀ r₀ c₀ b) (λ o. gone) (λ o o′. gone) λ o o′ e′ h st′.
         rw (ready, polls-agree (over .sysreq), ready) (next e′ h (last-poll κ m st′))
     poll-busy (suc zero) zero s {κ = κ} p x z count st calm next =
-        read-any f s (sysreqOf (i .geometry)) Poll (this-poll κ 0 st) AtSysreq hp ok safe
+        read-any f s (sysreqOf (i .geometry)) Poll (this-poll κ 0 st) AtSysreq hp ok going
         (λ o. aim (sysreqOf (i .geometry)) (busyWord o) (during (busy 0 s₀ r₀ c₀) b)) (λ o o′. aim (sysreqOf (i .geometry)) (over .sysreq) over)
         (λ o. refl) (λ o o′. fetch-last (i .geometry) s₀ r₀ c₀ (sysreqOf (i .geometry)) (busyWord o) o′ b)
-        (λ o. refl) (λ o. refl) (λ o. safe) (λ o o′. safe′) λ o o′ e′ h st′.
-        rw (busy-word o, polls-agree (busyWord o), busy-word o, le-ltb (suc p) 10000 (omega arith)) (stop (f .caught 18 s _ _ _ (lit≤ tt) (λ still. let e = calm still in omega arith) safe′))
+        (λ o. refl) (λ o. refl) (λ o. going) (λ o o′. gone) λ o o′ e′ h st′.
+        rw (busy-word o, polls-agree (busyWord o), busy-word o, le-ltb (suc p) 10000 (omega arith)) (stop (f .caught 18 s _ _ _ (lit≤ tt) (λ still. let e = calm still in omega arith) gone))
     poll-busy (suc zero) (suc m) s {n = n} {κ = κ} p x z count st calm next =
         let again : suc (suc n) - 2 ≡ n = omega arith in
-        read-any f s (sysreqOf (i .geometry)) Poll (this-poll κ (suc m) st) AtSysreq hp ok safe
+        read-any f s (sysreqOf (i .geometry)) Poll (this-poll κ (suc m) st) AtSysreq hp ok going
         (λ o. aim (sysreqOf (i .geometry)) (busyWord o) (during (busy 0 s₀ r₀ c₀) b)) (λ o o′. aim (sysreqOf (i .geometry)) (over .sysreq) over)
         (λ o. refl) (λ o o′. fetch-last (i .geometry) s₀ r₀ c₀ (sysreqOf (i .geometry)) (busyWord o) o′ b)
-        (λ o. refl) (λ o. refl) (λ o. safe) (λ o o′. safe′) λ o o′ e′ h st′.
+        (λ o. refl) (λ o. refl) (λ o. going) (λ o o′. gone) λ o o′ e′ h st′.
         rw (busy-word o, polls-agree (busyWord o), busy-word o, lt-ltb (suc p) 10000 (omega arith), again) (
         poll-idle s (aim (sysreqOf (i .geometry)) (over .sysreq) over) (this-poll κ m (back κ m st st′ (λ still. let e = calm still in omega arith)))
         (rw (finish-effect (i .geometry) s₀ r₀ c₀ b) ok) safe′ (finish-idle (i .geometry) s₀ r₀ c₀ b) ready λ e″ h″ st″.
         next e″ (h″ ∙ h) (last-poll κ m st″))
     poll-busy (suc (suc q)) zero s {κ = κ} p x z count st calm next =
-        read-any f s (sysreqOf (i .geometry)) Poll (this-poll κ 0 st) AtSysreq hp ok safe
+        read-any f s (sysreqOf (i .geometry)) Poll (this-poll κ 0 st) AtSysreq hp ok going
         (λ o. aim (sysreqOf (i .geometry)) (busyWord o) (during (busy (suc q) s₀ r₀ c₀) b)) (λ o o′. aim (sysreqOf (i .geometry)) (busyWord o′) (during (busy q s₀ r₀ c₀) b))
-        (λ o. refl) (λ o o′. refl) (λ o. refl) (λ o. refl) (λ o. safe) (λ o o′. safe) λ o o′ e′ h st′.
-        rw (busy-word o, polls-agree (busyWord o), busy-word o, le-ltb (suc p) 10000 (omega arith)) (stop (f .caught 18 s _ _ _ (lit≤ tt) (λ still. let e = calm still in omega arith) safe))
+        (λ o. refl) (λ o o′. refl) (λ o. refl) (λ o. refl) (λ o. going) (λ o o′. going) λ o o′ e′ h st′.
+        rw (busy-word o, polls-agree (busyWord o), busy-word o, le-ltb (suc p) 10000 (omega arith)) (stop (f .caught 18 s _ _ _ (lit≤ tt) (λ still. let e = calm still in omega arith) going))
     poll-busy (suc (suc q)) (suc m) s {n = n} {κ = κ} p x z count st calm next =
         let again : suc (suc n) - 2 ≡ n = omega arith in
-        read-any f s (sysreqOf (i .geometry)) Poll (this-poll κ (suc m) st) AtSysreq hp ok safe
+        read-any f s (sysreqOf (i .geometry)) Poll (this-poll κ (suc m) st) AtSysreq hp ok going
         (λ o. aim (sysreqOf (i .geometry)) (busyWord o) (during (busy (suc q) s₀ r₀ c₀) b)) (λ o o′. aim (sysreqOf (i .geometry)) (busyWord o′) (during (busy q s₀ r₀ c₀) b))
-        (λ o. refl) (λ o o′. refl) (λ o. refl) (λ o. refl) (λ o. safe) (λ o o′. safe) λ o o′ e′ h st′.
+        (λ o. refl) (λ o o′. refl) (λ o. refl) (λ o. refl) (λ o. going) (λ o o′. going) λ o o′ e′ h st′.
         rw (busy-word o, polls-agree (busyWord o), busy-word o, lt-ltb (suc p) 10000 (omega arith), again) (
         poll-busy q m s (suc p) (sysreqOf (i .geometry)) (busyWord o′) (omega arith) (back κ m st st′ (λ still. let e = calm still in omega arith))
         (λ still. let e = calm still in absurd (omega arith)) λ e″ h″ st″.

@@ -103,10 +103,10 @@ module _ {i : Image} (f : Frame i) (fx : Facts (i .geometry)) (v : Valid i) (r :
   row-leg y = record {
     along = λ n x k later κ e b w st next.
         listing f fx 5 4 rowList (call4 .command) (split (listed (i .geometry) 5 4 rowList) (listed (i .geometry) 5 6 ((key 6 + r * 0x10000) ∷ [])) later κ st)
-        (omega (arith, length-words (i .flash) (r * rowBytes (i .geometry)) (rowBytes (i .geometry) / 4))) (w .opened .room) (w .opened .effect)
+        (omega (arith, length-words (i .flash) (r * rowBytes (i .geometry)) (rowBytes (i .geometry) / 4))) (w .opened .room) (w .opened .effect) (w .opened .quiet)
         (f .safeOpen (w .opened .right) (b .memory) (w .level)) (λ y r b′ he hm _. f .safeOpen (w .opened .right) _ (steady-4 (i .geometry) y r b′ ∙ ap (λ (x : Memory). x .stored) hm ∙ w .level))
         (call4 .ready _ _) (call4 .good _ _) λ b₁ r₁ n₁ e₁ st₁.
-        listing f fx 5 6 ((key 6 + r * 0x10000) ∷ []) (call6 .command) st₁ (omega arith) (rw (r₁ .room) (w .opened .room)) (r₁ .effect ∙ w .opened .effect)
+        listing f fx 5 6 ((key 6 + r * 0x10000) ∷ []) (call6 .command) st₁ (omega arith) (rw (r₁ .room) (w .opened .room)) (r₁ .effect ∙ w .opened .effect) (r₁ .ended)
         (f .safeOpen (w .opened .right) _ (stored-4 b b₁ (w .level) r₁)) (λ y r b′ he hm _. f .safeOpen (w .opened .right) _ (steady-6 (i .geometry) y r b′ ∙ ap (λ (x : Memory). x .stored) hm ∙ stored-4 b b₁ (w .level) r₁))
         (call6 .ready _ _) (call6 .good _ _) λ b₂ r₂ n₂ e₂ st₂.
         next k b₂ (wrote k b b₁ b₂ w r₁ r₂) n₂ _ e₂ st₂;

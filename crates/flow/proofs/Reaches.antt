@@ -13,7 +13,8 @@ use Rattle.flow.specs.Plan.{Traffic}
 use Rattle.flow.specs.Run.{Run, advance, handedOut}
 use Rattle.flow.specs.Sequence.{sequence, endMove}
 use Rattle.flow.specs.Session.{SessionState, running, reported, moveAt}
-use Rattle.flow.specs.Target.{Target, Memory, Lists}
+use Rattle.flow.specs.Cuts.{cutMemory}
+use Rattle.flow.specs.Target.{Target, Memory, Residue, idle, Lists}
 use Rattle.flow.specs.declared.Entry.{Entry}
 use Rattle.flow.specs.declared.Move.{Move}
 use Rattle.flow.specs.declared.Purpose.{Purpose}
@@ -108,6 +109,13 @@ pub record HoldsImage (i : Image) (m : Memory) : Type 0 where
   pub locks : m .locks ≡ i .protection
   pub level : m .stored ≡ i .header .level
 
+-- S holds now, and whatever a cut would leave
+abbrev pub Lasting : (Memory → Type 0) → Target → Type 0
+Lasting S b = record { now : S (b .memory); cut : (r : Residue) → S (cutMemory b r) }
+
+pub at-rest : (S : Memory → Type 0) (b : Target) → b .running ≡ idle → S (b .memory) → Lasting S b
+at-rest S b quiet safe = record { now = safe; cut = λ r. rw quiet safe }
+
 -- what a run is held to: Safe of the memory at each step, Stop where it ends early, Goal where it is to come; Still says that the
 -- lists were calm at the start
 pub record Frame (i : Image) : Type 1 where
@@ -123,14 +131,14 @@ pub record Frame (i : Image) : Type 1 where
   pub safeOpen : RightIds i silicon → (m : Memory) → m .stored ≡ 1 → Safe m
   pub safeImage : RightIds i silicon → (m : Memory) → m .stored ≡ i .header .level → Safe m
   -- a mishap is a reason to stop, with its number, if the lists were not calm
-  pub caught : (n s : ℕ) (b : Target) (l : Lists) (t : Traffic) → 1 ≤ n → (Still → ⊥) → Safe (b .memory) → Stop (ended n s b l (linkError n) t)
+  pub caught : (n s : ℕ) (b : Target) (l : Lists) (t : Traffic) → 1 ≤ n → (Still → ⊥) → Lasting Safe b → Stop (ended n s b l (linkError n) t)
   -- done
-  pub finished : (b : Target) (l : Lists) (w : Watch) (d : Delays) (t : Traffic) → RightIds i silicon → HoldsImage i (b .memory)
+  pub finished : (b : Target) (l : Lists) (w : Watch) (d : Delays) (t : Traffic) → RightIds i silicon → b .running ≡ idle → HoldsImage i (b .memory)
       → t .transfers ≡ planned + delayed d → (Still → delayed d ≡ 0) → Goal (ended 0 9 b l (watching noWaits 0 0 w d) t)
   -- another part
-  pub wrongId : (s : ℕ) (w : Waits) (p a : ℕ) (b : Target) (l : Lists) (x : Watch) (d : Delays) (t : Traffic) → Safe (b .memory)
+  pub wrongId : (s : ℕ) (w : Waits) (p a : ℕ) (b : Target) (l : Lists) (x : Watch) (d : Delays) (t : Traffic) → Lasting Safe b
       → eqb (silicon .idcode) 0x0BB11477 ≡ false → Stop (ended 16 s b l (watching w p a x d) t)
-  pub wrongPart : (s : ℕ) (w : Waits) (p a : ℕ) (b : Target) (l : Lists) (x : Watch) (d : Delays) (t : Traffic) → Safe (b .memory)
+  pub wrongPart : (s : ℕ) (w : Waits) (p a : ℕ) (b : Target) (l : Lists) (x : Watch) (d : Delays) (t : Traffic) → Lasting Safe b
       → rightSilicon i silicon ≡ false → Stop (ended 20 s b l (watching w p a x d) t)
 
 -- the lists that are left are calm, and nothing was delayed
@@ -190,12 +198,12 @@ going (reported x s h) = false
 pub data Reaches {i : Image} (f : Frame i) : Run → Type 0 where
   here : {r : Run} → f .Goal r → Reaches f r
   stop : {r : Run} → f .Stop r → Reaches f r
-  step : {r : Run} → going (r .session) ≡ true → f .Safe (r .target .memory) → Bounded f (handedOut i r) → NoError (r .monitor) → Reaches f (advance i r) → Reaches f r
+  step : {r : Run} → going (r .session) ≡ true → Lasting (f .Safe) (r .target) → Bounded f (handedOut i r) → NoError (r .monitor) → Reaches f (advance i r) → Reaches f r
 
 pub clear : (w : Waits) (p a : ℕ) (t : Watch) (d : Delays) → NoError (watching w p a t d)
 clear w p a t d n e = let no : _≡_ {A = ℕ} 0 1 = cc in omega arith
 
 -- a step whose outcome is known
-pub steps : {i : Image} (f : Frame i) (r r′ : Run) → going (r .session) ≡ true → f .Safe (r .target .memory) → Bounded f (handedOut i r) → NoError (r .monitor) → advance i r ≡ r′
+pub steps : {i : Image} (f : Frame i) (r r′ : Run) → going (r .session) ≡ true → Lasting (f .Safe) (r .target) → Bounded f (handedOut i r) → NoError (r .monitor) → advance i r ≡ r′
     → Reaches f r′ → Reaches f r
 steps f r r′ goes safe most clean e l = step {r = r} goes safe most clean (rw e l)

@@ -33,17 +33,17 @@ module _ (i : Image) (b : Target) (wrong : RightIds i (b .silicon) → ⊥) wher
     safeSame = λ right m m′ e s. absurd (wrong right);
     safeOpen = λ right m e. absurd (wrong right);
     safeImage = λ right m e. absurd (wrong right);
-    caught = λ n s b l t some bad safe. record { ended = refl; same = safe };
-    finished = λ b l w d t right holds count calm. wrong right;
-    wrongId = λ s w p a b l x d t safe h. record { ended = refl; same = safe };
-    wrongPart = λ s w p a b l x d t safe h. record { ended = refl; same = safe };
+    caught = λ n s b l t some bad safe. record { ended = refl; same = safe .now };
+    finished = λ b l w d t right quiet holds count calm. wrong right;
+    wrongId = λ s w p a b l x d t safe h. record { ended = refl; same = safe .now };
+    wrongPart = λ s w p a b l x d t safe h. record { ended = refl; same = safe .now };
   }
 
   spares : (n : ℕ) (r : Run) → Reaches sparing r → (runAfter i n r) .target .memory ≡ b .memory
   unfolding runAfter sparing
   spares n r (here done) = absurd done
   spares n r (stop left) = rw (stays i n r (left .ended)) (left .same)
-  spares zero r (step goes safe most clean more) = safe
+  spares zero r (step goes safe most clean more) = safe .now
   spares (suc n) r (step goes safe most clean more) = spares n (advance i r) more
 
 pub other-part-spared : OtherPartSpared

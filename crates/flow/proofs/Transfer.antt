@@ -23,7 +23,7 @@ use Rattle.flow.specs.declared.Purpose.{Purpose}
 use Rattle.flow.specs.declared.Request.{Request}
 use Rattle.flow.specs.declared.TransferOutcome.the-variants.{Clean}
 use Rattle.flow.proofs.Hearing.{Plain, aTar, aDrw, aRead, aCtrl, aSelect, aCsw, plain, meets, listsAfter, Heard, heardOkay, heardWait, heardError, heardErrorDone, hears}
-use Rattle.flow.proofs.Reaches.{Allowance, withTransfer, Env, sync, Frame, Stood, at-move, at-next, Bounded, Reaches, stop, steps, clear}
+use Rattle.flow.proofs.Reaches.{Allowance, withTransfer, Env, sync, Frame, Lasting, Stood, at-move, at-next, Bounded, Reaches, stop, steps, clear}
 use Rattle.image.specs.Image.{Image}
 
 -- one transfer more
@@ -123,7 +123,7 @@ module _ {i : Image} (f : Frame i) where
   -- one exchange: `onWait` is where a WAIT leads to
   once : {q : Request} → Plain q → {s : ℕ} {u : Purpose} {y : Entry} {n : ℕ} {ms : List Move} (v : ℕ) {κ : Allowance} {e : Env} (w p a k : ℕ) (b : Target) (t : Watch)
       → Stood f y n (move s q u ∷ ms) (waiting v κ) e → killed b ≡ false → barred (i .geometry) q b ≡ false
-      → f .Safe (b .memory) → ((o : ℕ) → f .Safe ((carry (i .geometry) q o (nextOutcome (e .lists .calls)) b) .memory))
+      → Lasting (f .Safe) b → ((o : ℕ) → Lasting (f .Safe) (carry (i .geometry) q o (nextOutcome (e .lists .calls)) b))
       → (onWait : (f .Still → ⊥) → Reaches f (onward s q u y n w p a k b t (record { line = rest (e .lists .line); calls = e .lists .calls }) again e))
       → (next : (o : ℕ) → Stood f y (suc n) ms κ (passed (listsAfter (i .geometry) q b (e .lists)) e)
       → Reaches f (okayed s q u y n p a k (gives q b) (carry (i .geometry) q o (nextOutcome (e .lists .calls)) b) t (passed (listsAfter (i .geometry) q b (e .lists)) e)))
@@ -160,7 +160,7 @@ module _ {i : Image} (f : Frame i) where
   transfer-from : (v : ℕ) {q : Request} → Plain q → {s : ℕ} {u : Purpose} {y : Entry} {n : ℕ} {ms : List Move} {κ : Allowance} (e : Env) (w p a k : ℕ) (b : Target) (t : Watch)
       → w + v ≡ 16
       → Stood f y n (move s q u ∷ ms) (waiting v κ) e → killed b ≡ false → barred (i .geometry) q b ≡ false
-      → f .Safe (b .memory) → ((o : ℕ) → f .Safe ((carry (i .geometry) q o (nextOutcome (e .lists .calls)) b) .memory))
+      → Lasting (f .Safe) b → ((o : ℕ) → Lasting (f .Safe) (carry (i .geometry) q o (nextOutcome (e .lists .calls)) b))
       → (next : (o : ℕ) (e′ : Env) → e′ .lists .calls ≡ cond (callsOn (i .geometry) q b) (rest (e .lists .calls)) (e .lists .calls) → Stood f y (suc n) ms κ e′
       → Reaches f (okayed s q u y n p a k (gives q b) (carry (i .geometry) q o (nextOutcome (e .lists .calls)) b) t e′))
       → Reaches f (paused q y n w p a k b t e)
@@ -180,7 +180,7 @@ module _ {i : Image} (f : Frame i) where
   -- any transfer outside the attempts
   pub transfer : {q : Request} → Plain q → {s : ℕ} {u : Purpose} {y : Entry} {n : ℕ} {ms : List Move} {κ : Allowance} {e : Env} {p a k : ℕ} {b : Target} {t : Watch}
       → Stood f y n (move s q u ∷ ms) (withTransfer κ) e → killed b ≡ false → barred (i .geometry) q b ≡ false
-      → f .Safe (b .memory) → ((o : ℕ) → f .Safe ((carry (i .geometry) q o (nextOutcome (e .lists .calls)) b) .memory))
+      → Lasting (f .Safe) b → ((o : ℕ) → Lasting (f .Safe) (carry (i .geometry) q o (nextOutcome (e .lists .calls)) b))
       → (next : (o : ℕ) (e′ : Env) → e′ .lists .calls ≡ cond (callsOn (i .geometry) q b) (rest (e .lists .calls)) (e .lists .calls) → Stood f y (suc n) ms κ e′
       → Reaches f (okayed s q u y n p a k (gives q b) (carry (i .geometry) q o (nextOutcome (e .lists .calls)) b) t e′))
       → Reaches f (sync y n p a k b t e)

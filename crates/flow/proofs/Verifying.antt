@@ -12,7 +12,7 @@ use Rattle.flow.specs.Judge.{go, goIf, judge, levelShown}
 use Rattle.flow.specs.Map.{place}
 use Rattle.flow.specs.Monitor.{noticeRead}
 use Rattle.flow.specs.Sequence.{read, inTurn, compareWords, verifyRow, lockStart, verifyMacro}
-use Rattle.flow.specs.Target.{Target}
+use Rattle.flow.specs.Target.{Target, idle}
 use Rattle.flow.specs.declared.Entry.{Entry}
 use Rattle.flow.specs.declared.Move.{Move}
 use Rattle.flow.specs.declared.Purpose.{Purpose}
@@ -23,7 +23,7 @@ use Rattle.flow.proofs.Legs.{Core, core, Known, Leg, leg-pieces}
 use Rattle.flow.proofs.Phases.{Level, isOpen, isProtected, isKill, Valid, Wrote, Locked, level-safe, wrote-all, locked-all, last-level}
 use Rattle.flow.proofs.Places.{place-flash, place-locks, place-level}
 use Rattle.flow.proofs.Polling.{idleAt}
-use Rattle.flow.proofs.Reaches.{Allowance, withTransfer, withRead, withMoves, Env, sync, Frame, Stood, Stands, Reaches}
+use Rattle.flow.proofs.Reaches.{Allowance, withTransfer, withRead, withMoves, Env, sync, Frame, at-rest, Stood, Stands, Reaches}
 use Rattle.flow.proofs.Table.{Facts}
 use Rattle.image.proofs.Words.{part-word}
 use Rattle.image.specs.Image.{Image}
@@ -67,27 +67,27 @@ takes-locks i m o h = record {
 }
 
 module _ {i : Image} (f : Frame i) (y : Entry) where
-  word-reaches : (s a w : ℕ) (u : Purpose) → Takes i u w → {n x k : ℕ} {later : List Move} {κ : Allowance} {e : Env} {b : Target} → Holds (i .geometry) (core b) a w → b .effect ≡ 1 → f .Safe (b .memory)
+  word-reaches : (s a w : ℕ) (u : Purpose) → Takes i u w → {n x k : ℕ} {later : List Move} {κ : Allowance} {e : Env} {b : Target} → Holds (i .geometry) (core b) a w → b .effect ≡ 1 → b .running ≡ idle → f .Safe (b .memory)
       → Stands f y n (read s a u) later κ e
       → (next : (n′ : ℕ) (e′ : Env) → Stood f y n′ later κ e′ → Reaches f (sync y n′ 0 0 k (aim a w b) (idleAt a) e′))
       → Reaches f (sync y n 0 0 k b (idleAt x) e)
   unfolding noticeRead withMoves read
-  word-reaches s a w u takes {k = k} {κ = κ} {b = b} (flashHolds o hp hw) he safe st next =
-      read-still f s a u (rw (takes .cost κ) at st) (InFlash o) hp (admits-open (b .effect) (InFlash o) he) safe (λ _. w) (λ _ _. rw hw) λ _ _ e′ h st′.
+  word-reaches s a w u takes {k = k} {κ = κ} {b = b} (flashHolds o hp hw) he quiet safe st next =
+      read-still f s a u (rw (takes .cost κ) at st) (InFlash o) hp (admits-open (b .effect) (InFlash o) he) (at-rest (f .Safe) b quiet safe) (λ _. w) (λ _ _. rw hw) λ _ _ e′ h st′.
       rw (takes .judged k) (next _ e′ st′)
-  word-reaches s a w u takes {k = k} {κ = κ} {b = b} (locksHold o hp hw) he safe st next =
-      read-still f s a u (rw (takes .cost κ) at st) (InLocks o) hp (admits-open (b .effect) (InLocks o) he) safe (λ _. w) (λ _ _. rw hw) λ _ _ e′ h st′.
+  word-reaches s a w u takes {k = k} {κ = κ} {b = b} (locksHold o hp hw) he quiet safe st next =
+      read-still f s a u (rw (takes .cost κ) at st) (InLocks o) hp (admits-open (b .effect) (InLocks o) he) (at-rest (f .Safe) b quiet safe) (λ _. w) (λ _ _. rw hw) λ _ _ e′ h st′.
       rw (takes .judged k) (next _ e′ st′)
 
   -- where P holds, OPEN is in effect, and the words from a on are those that u takes
   words-leg : (s a n : ℕ) (u : ℕ → Purpose) (w : ℕ → ℕ) (P : Known) → ((j : ℕ) → j < n → Takes i (u (4 * j)) (w j))
-      → ((j : ℕ) → j < n → (k : ℕ) (c : Core) → P k c → Holds (i .geometry) c (a + 4 * j) (w j)) → ((k : ℕ) (c : Core) → P k c → c .effect ≡ 1)
+      → ((j : ℕ) → j < n → (k : ℕ) (c : Core) → P k c → Holds (i .geometry) c (a + 4 * j) (w j)) → ((k : ℕ) (c : Core) → P k c → c .effect ≡ 1) → ((k : ℕ) (c : Core) → P k c → c .running ≡ idle)
       → ((k : ℕ) (c : Core) → P k c → f .Safe (c .memory)) → Leg f y (compareWords s a u n) P P
-  words-leg s a n u w P takes held opens safes =
+  words-leg s a n u w P takes held opens quiets safes =
       leg-pieces f y _ (λ j. P) _
       (λ j h. record {
         along = λ n x k later κ e b p st next.
-            word-reaches s (a + 4 * j) (w j) (u (4 * j)) (takes j h) (held j h k (core b) p) (opens k (core b) p) (safes k (core b) p) st λ n′ e′ st′. next k _ p n′ _ e′ st′;
+            word-reaches s (a + 4 * j) (w j) (u (4 * j)) (takes j h) (held j h k (core b) p) (opens k (core b) p) (quiets k (core b) p) (safes k (core b) p) st λ n′ e′ st′. next k _ p n′ _ e′ st′;
       })
       n 0 (omega arith)
 
@@ -99,7 +99,7 @@ module _ {i : Image} (f : Frame i) (y : Entry) where
         words-leg 6 (r * rowBytes (i .geometry)) (rowBytes (i .geometry) / 4) (FlashWord r) (λ j. wordAt (i .flash) (r * rowBytes (i .geometry) + 4 * j)) (Wrote f (rowsOf (i .geometry)))
         (λ j h. takes-flash i r (4 * j) (omega (arith, fx .quads)))
         (λ j h k c p. flashHolds (r * rowBytes (i .geometry) + 4 * j) (place-flash (i .geometry) fx _ (omega (arith, within, fx .quads))) (rw (wrote-all v p)))
-        (λ k c p. p .opened .effect) (λ k c p. f .safeOpen (p .opened .right) _ (p .level))
+        (λ k c p. p .opened .effect) (λ k c p. p .opened .quiet) (λ k c p. f .safeOpen (p .opened .right) _ (p .level))
       where
         within : r * rowBytes (i .geometry) + rowBytes (i .geometry) ≤ flashSize (i .geometry)
         within = let l : suc r * rowBytes (i .geometry) ≤ rowsOf (i .geometry) * rowBytes (i .geometry) = mul-le-mul-right (rowBytes (i .geometry)) hr in omega (arith, suc-mul r (rowBytes (i .geometry)))
@@ -114,7 +114,7 @@ module _ {i : Image} (f : Frame i) (y : Entry) where
         words-leg 8 (locksAt (i .geometry) m) (locksIn (i .geometry) m / 4) (LockWord m) (λ j. wordAt (i .protection) (lockStart (i .geometry) m + 4 * j)) (Locked f (macrosOf (i .geometry)))
         (λ j h. takes-locks i m (4 * j) (omega (arith, fx .lockQuads m)))
         (λ j h k c p. locksHold (lockStart (i .geometry) m + 4 * j) (place-locks (i .geometry) fx _ m (4 * j) refl hm (omega (arith, fx .lockQuads m))) (rw (locked-all v fx p)))
-        (λ k c p. p .opened .effect) (λ k c p. level-safe f (p .opened .right) (macrosOf (i .geometry)) (c .memory) (p .level))
+        (λ k c p. p .opened .effect) (λ k c p. p .opened .quiet) (λ k c p. level-safe f (p .opened .right) (macrosOf (i .geometry)) (c .memory) (p .level))
 
     pub locks-leg : Leg f y (inTurn (verifyMacro (i .geometry)) 0 (macrosOf (i .geometry))) (Locked f (macrosOf (i .geometry))) (Locked f (macrosOf (i .geometry)))
     locks-leg = leg-pieces f y (verifyMacro (i .geometry)) (λ m. Locked f (macrosOf (i .geometry))) _ macro-leg (macrosOf (i .geometry)) 0 (omega arith)
@@ -124,6 +124,6 @@ module _ {i : Image} (f : Frame i) (y : Entry) where
     level-leg = record {
       along = λ n x k later κ e b p st next.
           read-still f 8 (levelAt (i .geometry)) StoredLevel st AtLevel (place-level (i .geometry) fx) (admits-open (b .effect) AtLevel (p .opened .effect))
-          (level-safe f (p .opened .right) (macrosOf (i .geometry)) (b .memory) (p .level)) (levelWord (i .header .level)) (λ o z. rw (last-level fx p)) λ o o′ e′ h st′.
+          (at-rest (f .Safe) b (p .opened .quiet) (level-safe f (p .opened .right) (macrosOf (i .geometry)) (b .memory) (p .level))) (levelWord (i .header .level)) (λ o z. rw (last-level fx p)) λ o o′ e′ h st′.
           rw (level-read (v .level) o) (next k _ p _ _ e′ st′);
     }

@@ -5,6 +5,7 @@ pub mod Totals
 pub mod Map
 pub mod Target
 pub mod Calls
+pub mod Cuts
 pub mod Exchange
 pub mod Monitor
 pub mod Judge
