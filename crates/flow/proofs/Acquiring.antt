@@ -51,6 +51,14 @@ pub record Acquired {i : Image} (f : Frame i) (m : Memory) (k : ℕ) (c : Core) 
   pub effect : c .effect ≡ m .stored
   pub idcode : eqb (f .silicon .idcode) 0x0BB11477 ≡ true
 
+-- whatever word is kept
+pub acquired-with : {i : Image} {f : Frame i} {m : Memory} {k k′ : ℕ} {c : Core} → Acquired f m k c → Acquired f m k′ c
+acquired-with p = record {
+  fresh = record { silicon = p .fresh .silicon; memory = p .fresh .memory; room = p .fresh .room; quiet = p .fresh .quiet };
+  effect = p .effect;
+  idcode = p .idcode;
+}
+
 -- calls that alter nothing, failed or not
 pub still-15 : (g : Geometry) (y : Bool) (r : Residue) (b : Target) → (finish g y r 0x15 b) .memory ≡ b .memory
 unfolding finish effectOf afterFailure

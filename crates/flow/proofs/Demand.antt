@@ -37,7 +37,7 @@ right-part i x r =
     let t = both (eqb (x .high) (metadataAt (i .header) 2)) (eqb (x .family) (metadataAt (i .header) 5)) (s .0) in
     record { idcode = eqb-true _ _ (r .idcode); high = eqb-true _ _ (t .0); family = eqb-true _ _ (t .1); low = s .1 }
 
-right-ids : (i : Image) (x : Silicon) → RightPart i x → RightIds i x
+pub right-ids : (i : Image) (x : Silicon) → RightPart i x → RightIds i x
 unfolding rightSilicon
 right-ids i x r = record {
   idcode = eq-eqb (x .idcode) 0x0BB11477 (r .idcode);
@@ -48,7 +48,7 @@ right-ids i x r = record {
 
 module _ (i : Image) where
   -- what stood is then met
-  met-traffic : (r : Run) → going (r .session) ≡ true → (advance i r) .traffic ≡ handedOut i r
+  pub met-traffic : (r : Run) → going (r .session) ≡ true → (advance i r) .traffic ≡ handedOut i r
   unfolding advance
   met-traffic r = by (r .session)
     where

@@ -20,10 +20,10 @@ use Rattle.flow.specs.declared.Entry.the-variants.{FromOpen, FromProtect
 use Rattle.flow.specs.declared.Move.{Move}
 use Rattle.flow.specs.declared.Purpose.the-variants.{Keep, EntryLevel, Reopened}
 use Rattle.flow.proofs.Access.{Answering}
-use Rattle.flow.proofs.Acquiring.{Fresh, Acquired, acquire-leg, Bytes, ids-read, level-read, silicon-reaches}
+use Rattle.flow.proofs.Acquiring.{Fresh, Acquired, acquired-with, acquire-leg, Bytes, ids-read, level-read, silicon-reaches}
 use Rattle.flow.proofs.Calling.{Returned, calling}
 use Rattle.flow.proofs.Finishing.{Blank, nothing, program-reaches}
-use Rattle.flow.proofs.Legs.{Core, core}
+use Rattle.flow.proofs.Legs.{core}
 use Rattle.flow.proofs.Listing.{ListReturned, listing}
 use Rattle.flow.proofs.Lists.{total-zero}
 use Rattle.flow.proofs.Phases.{Valid, Sized, callA, callD, steady-A}
@@ -39,7 +39,7 @@ unfolding effectOf
 effect-A g l a ps m = refl
 
 -- the word that reopens a PROTECTED target
-abbrev reopenWord : ℕ
+abbrev pub reopenWord : ℕ
 reopenWord = key 0x0D + 0x10000
 
 effect-reopen : (g : Geometry) (l : ℕ) (ps : List ℕ) (m : Memory) → l ≡ 2 → effectOf g 0x0D l reopenWord ps m ≡ zeroed 1 m
@@ -73,25 +73,17 @@ answering-of (byOpen e) = inl e
 answering-of (byProtected e) = inr e
 
 -- the end of the opening is where either entry goes on
-seam : (a b c : List Move) (n : ℕ) → drop n (a ++ b) ≡ b → 1 ≤ length b → drop n (a ++ c) ≡ c
+pub seam : (a b c : List Move) (n : ℕ) → drop n (a ++ b) ≡ b → 1 ≤ length b → drop n (a ++ c) ≡ c
 seam a b c n e some =
     let h : length (a ++ b) - n ≡ length b = sym (length-drop n (a ++ b)) ∙ ap length e in
     let k : length a ≡ n = omega (arith, length-append a b) in
     drop-at a c n k
 
-some-moves : (i : Image) → 1 ≤ length (afterwards i FromOpen)
+pub some-moves : (i : Image) → 1 ≤ length (afterwards i FromOpen)
 unfolding afterwards listed writes write
 some-moves i = omega arith
 
 module _ {i : Image} (f : Frame i) (fx : Facts (i .geometry)) (v : Valid i) (hb : Bytes (f .silicon)) (m : Memory) (sz : Sized f m) (safe : f .Safe m) where
-  -- the kept word does not matter here
-  again : {k k′ : ℕ} {c : Core} → Acquired f m k c → Acquired f m k′ c
-  again p = record {
-    fresh = record { silicon = p .fresh .silicon; memory = p .fresh .memory; room = p .fresh .room; quiet = p .fresh .quiet };
-    effect = p .effect;
-    idcode = p .idcode;
-  }
-
   -- OPEN: erase, then steps 4 to 9
   open-reaches : {n x k : ℕ} {e : Env} {b : Target} → RightIds i (f .silicon) → m .stored ≡ 1 → Acquired f m k (core b) → Stands f FromOpen n (afterwards i FromOpen) [] nothing e
       → Reaches f (sync FromOpen n 0 0 k b (idleAt x) e)
@@ -156,11 +148,11 @@ module _ {i : Image} (f : Frame i) (fx : Facts (i .geometry)) (v : Valid i) (hb 
   decided goes false h k {b = b} p st = stop (f .wrongPart 2 noWaits 0 0 b _ _ _ _ (at-rest (f .Safe) b (p .fresh .quiet) (rw (p .fresh .memory) safe)) h)
   decided (byOpen one) true h k p st =
       rw (eq-eqb (m .stored) 1 one) (
-      open-reaches (record { idcode = p .idcode; silicon = h }) one (again p)
+      open-reaches (record { idcode = p .idcode; silicon = h }) one (acquired-with p)
       (record { at = st .at ∙ sym (append-nil (afterwards i FromOpen)); accounted = st .accounted; room = st .room; xres = st .xres; lines = st .lines; calm = st .calm }))
   decided (byProtected two) true h k {n = n} p st =
       rw two (
-      protected-reaches (record { idcode = p .idcode; silicon = h }) two (again p)
+      protected-reaches (record { idcode = p .idcode; silicon = h }) two (acquired-with p)
       (record {
         at = seam (opening i) (afterwards i FromOpen) (afterwards i FromProtected) (suc n) (st .at) (some-moves i) ∙ sym (append-nil (afterwards i FromProtected));
         accounted = st .accounted;

@@ -1,7 +1,7 @@
 -- The frame of demand 3, and where a started session stands in it. Assumes nothing.
 use mathlib.Core.Bool.{false}
 use mathlib.Core.List.{List, [], _∷_}
-use mathlib.Core.Path.{_≡_, refl, sym, subst, _∙_}
+use mathlib.Core.Path.{_≡_, refl, sym, subst}
 use Prim.Native.Nat.{ℕ, suc, _+_, _*_, _≤_}
 use native.Mathlib.Omega.{arith}
 use lib.Dec.{eqb}
@@ -28,7 +28,7 @@ use Rattle.image.specs.Image.{Image}
 
 -- ---- what a list of moves may cost
 
-record Costs (ms : List Move) (κ κ′ : Allowance) : Type 0 where
+pub record Costs (ms : List Move) (κ κ′ : Allowance) : Type 0 where
   pub due : κ′ .due ≡ (trafficIn ms) .transfers + κ .due
   pub room : κ′ .room ≤ 17 * (trafficIn ms) .transfers + 509949 * pollsIn ms + 13 * (trafficIn ms) .lineResets + κ .room
   pub xres : κ′ .xres ≡ (trafficIn ms) .xresets + κ .xres
@@ -63,7 +63,7 @@ one-cost m ms κ κ′ c = by (m .request)
     by (WriteDrw w) = record { due = omega (arith, c .due); room = omega (arith, c .room); xres = omega (arith, c .xres); lines = omega (arith, c .lines) }
     by (WriteSetup r w) = record { due = omega (arith, c .due); room = omega (arith, c .room); xres = omega (arith, c .xres); lines = omega (arith, c .lines) }
 
-costs : (ms : List Move) (κ : Allowance) → Costs ms κ (withMoves ms κ)
+pub costs : (ms : List Move) (κ : Allowance) → Costs ms κ (withMoves ms κ)
 unfolding withMoves trafficIn pollsIn
 costs [] κ = record { due = omega arith; room = omega arith; xres = omega arith; lines = omega arith }
 costs (m ∷ ms) κ = one-cost m ms κ (withMoves ms κ) (costs ms κ)

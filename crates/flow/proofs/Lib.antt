@@ -5,6 +5,9 @@ pub mod SessionExamples
 pub mod Starts
 pub mod Hearing
 pub mod BoardExamples
+pub mod Meeting
+pub mod Keeping
+pub mod CutExamples
 pub mod Acceptance
 pub mod Table
 pub mod Places
@@ -36,5 +39,6 @@ pub mod EarlyMoves
 pub mod Early
 pub mod Zeros
 pub mod Faulted
+pub mod Reopening
 pub mod Witness
 pub mod Undisturbed

@@ -1,20 +1,19 @@
 -- A request that starts no call but 0 and 0x15 leaves the memory as it is, whatever the lists hold. Assumes nothing.
-use mathlib.Core.Bool.{Bool, true, false, _&&_, not}
+use mathlib.Core.Bool.{Bool, true, false}
 use mathlib.Core.Path.{_≡_, refl, _∙_}
 use Prim.Native.Nat.{ℕ, zero, suc, _%_}
 use Rattle.flow.specs.Calls.{finish, dropped, reset}
-use Rattle.flow.specs.Exchange.{decode, tick, fetch, begin, isCall, store, carry, killed, barred, carriedOut, met, transferred, meetOn, meet}
+use Rattle.flow.specs.Exchange.{decode, tick, fetch, begin, isCall, store, carry, meet}
 use Rattle.flow.specs.Map.{place}
 use Rattle.flow.specs.Packets.{packetOf}
-use Rattle.flow.specs.Target.{Memory, Residue, CallOutcome, Running, idle, busy, Target, Lists, nextEvent}
+use Rattle.flow.specs.Target.{Memory, Residue, CallOutcome, Running, idle, busy, Target, Lists}
 use Rattle.flow.specs.declared.Decoded.the-variants.{Known}
-use Rattle.flow.specs.declared.LineEvent.{LineEvent}
 use Rattle.flow.specs.declared.Place.{Place}
 use Rattle.flow.specs.declared.Place.the-variants.{InFlash, InLocks, InParams, AtLevel, AtSysreq, AtSysarg, AtTestMode, Elsewhere}
-use Rattle.flow.specs.declared.Reply.{Reply}
 use Rattle.flow.specs.declared.Request.{Request}
 use Rattle.flow.specs.declared.Request.the-variants.{Xres, LineReset, ReadIdcode, ReadDrw, WriteTar, WriteDrw, WriteSetup}
 use Rattle.flow.proofs.Acquiring.{still-0, still-15}
+use Rattle.flow.proofs.Meeting.{request-keeps}
 use Rattle.parts.specs.declared.Geometry.{Geometry}
 
 -- calls that alter nothing, failed or not
@@ -89,14 +88,6 @@ module _ (g : Geometry) {m : Memory} where
   carried (WriteDrw w) h o c b u = stored w c (place g (b .tar)) b h u
   carried (WriteSetup r w) h o c b u = u
 
-  met-untouched : (y : Bool) (q : Request) → Mild q → (e : LineEvent) (l : Lists) (a : Reply) (b : Target) → Untouched m b → Untouched m ((met y g q e l a b) .target)
-  met-untouched true q h e l a b u = carried q h (e .other) _ b u
-  met-untouched false q h e l a b u = u
-
-  transferred-untouched : (q : Request) → Mild q → (e : LineEvent) (l : Lists) (b : Target) → Untouched m b → Untouched m ((transferred g q e l b) .target)
-  unfolding transferred
-  transferred-untouched q h e l b u = met-untouched (not (killed b) && not (barred g q b) && carriedOut (e .outcome)) q h e l _ b u
-
   reset-untouched : (b : Target) → Untouched m b → Untouched m (reset g b)
   unfolding reset
   reset-untouched b u = record { memory = by (b .running) (u .resting); resting = tt }
@@ -105,16 +96,7 @@ module _ (g : Geometry) {m : Memory} where
       by idle h = u .memory
       by (busy n s r c) h = still h g false r b ∙ u .memory
 
-  on-request : (q : Request) → Mild q → (l : Lists) (b : Target) → Untouched m b → Untouched m ((meetOn g (Known q) l b) .target)
-  on-request Xres h l b u = reset-untouched b u
-  on-request LineReset h l b u = u
-  on-request ReadIdcode h l b u = transferred-untouched ReadIdcode h (nextEvent (l .line)) l b u
-  on-request ReadDrw h l b u = transferred-untouched ReadDrw h (nextEvent (l .line)) l b u
-  on-request (WriteTar a) h l b u = transferred-untouched (WriteTar a) h (nextEvent (l .line)) l b u
-  on-request (WriteDrw w) h l b u = transferred-untouched (WriteDrw w) h (nextEvent (l .line)) l b u
-  on-request (WriteSetup r w) h l b u = transferred-untouched (WriteSetup r w) h (nextEvent (l .line)) l b u
-
   -- a packet that the target reads as the request that was meant
   pub meet-untouched : (q : Request) → decode (packetOf q) ≡ Known q → Mild q → (l : Lists) (b : Target) → Untouched m b → Untouched m ((meet g (packetOf q) l b) .target)
   unfolding meet
-  meet-untouched q e h l b u = rw e (on-request q h l b u)
+  meet-untouched q e h l b u = rw e (request-keeps g (Untouched m) reset-untouched q (carried q h) l b u)

@@ -17,6 +17,7 @@ pub mod Claim
 pub mod Examples
 pub mod Mishaps
 pub mod BoardExamples
+pub mod CutExamples
 pub mod Starts
 pub mod Judgements
 pub mod SessionExamples

@@ -48,7 +48,7 @@ use Rattle.session.proofs.Possibility.{both-true, whole}
 -- ---- what an image that passes says
 
 module _ (g : Geometry) (h : Header) (bytes : List ℕ) (found : lookupOf (h .part) (h .macros) ≡ Found g) (none : imageFault h bytes ≡ 0) where
-  all : Passed g h bytes
+  pub all : Passed g h bytes
   all = all-passed g h bytes found none
 
   header : headerFits g h ≡ true
@@ -143,7 +143,7 @@ module _ (g : Geometry) (h : Header) (bytes : List ℕ) (p : Passes g h bytes) (
   abbrev size : length bytes ≡ imageSize g
   size = (all g h bytes (p .found) (p .checked)) .size
 
-  low : (k : ℕ) → countIn ((runAfter i k (started b l)) .session) ≤ mostOf g
+  pub low : (k : ℕ) → countIn ((runAfter i k (started b l)) .session) ≤ mostOf g
   low k =
       let r = runAfter i k (started b l) in
       let d = run-demand3-holds g h bytes p b may l k in
@@ -202,7 +202,7 @@ module _ (g : Geometry) (h : Header) (bytes : List ℕ) (p : Passes g h bytes) (
 
 -- every list of calls follows the run
 module _ (g : Geometry) (h : Header) (bytes : List ℕ) (leave : Bool) (p : Passes g h bytes) (free : (number : ℕ) → ¬ ((startOf h bytes leave) .outcome ≡ Refused number)) where
-  followed : (b : Target) → Startable g b → (l : Lists) (n k : ℕ) (s : State) → Steps g bytes n k (begun (startOf h bytes leave) b l) s
+  pub followed : (b : Target) → Startable g b → (l : Lists) (n k : ℕ) (s : State) → Steps g bytes n k (begun (startOf h bytes leave) b l) s
       → Follows g h bytes (p .found) ((all g h bytes (p .found) (p .checked)) .size) s (runAfter (imageOf g h bytes) n (started b l))
   followed b may l n k s steps =
       follow g h bytes (p .found) ((all g h bytes (p .found) (p .checked)) .size) n k (begun (startOf h bytes leave) b l) s (started b l)

@@ -144,7 +144,7 @@ module _ (g : Geometry) (h : Header) (bytes : List ℕ) (found : lookupOf (h .pa
         })
 
   -- an answered step is a step of the run
-  follow-answer : (s : State) (r : Run) (p : Packet) → Follows s r → s .stands ≡ Ask p → countIn ((advance i r) .session) ≤ mostOf g
+  pub follow-answer : (s : State) (r : Run) (p : Packet) → Follows s r → s .stands ≡ Ask p → countIn ((advance i r) .session) ≤ mostOf g
       → Follows (answered g p (reaction g p s) (stepWith (s .session) bytes ((reaction g p s) .answer)) s) (advance i r)
   unfolding advance
   follow-answer s r p f e low = by (r .session) refl

@@ -1,0 +1,40 @@
+-- What every transfer that is carried out keeps, and XRES keeps, every packet keeps. Assumes nothing.
+use mathlib.Core.Bool.{Bool, true, false, _&&_, not}
+use Prim.Native.Nat.{ℕ}
+use Rattle.flow.specs.Calls.{reset}
+use Rattle.flow.specs.Exchange.{carry, killed, barred, carriedOut, met, transferred, meetOn}
+use Rattle.flow.specs.Target.{CallOutcome, Target, Lists, nextEvent, nextOutcome}
+use Rattle.flow.specs.declared.Decoded.{Decoded}
+use Rattle.flow.specs.declared.Decoded.the-variants.{Known, Unknown}
+use Rattle.flow.specs.declared.LineEvent.{LineEvent}
+use Rattle.flow.specs.declared.Reply.{Reply}
+use Rattle.flow.specs.declared.Request.{Request}
+use Rattle.flow.specs.declared.Request.the-variants.{Xres, LineReset, ReadIdcode, ReadDrw, WriteTar, WriteDrw, WriteSetup}
+use Rattle.parts.specs.declared.Geometry.{Geometry}
+
+module _ (g : Geometry) (P : Target → Type 0) where
+  -- P is kept by a request that is carried out
+  abbrev pub Carries : Request → Type 0
+  Carries q = (o : ℕ) (c : CallOutcome) (b : Target) → P b → P (carry g q o c b)
+
+  met-keeps : (y : Bool) (q : Request) → Carries q → (e : LineEvent) (l : Lists) (a : Reply) (b : Target) → P b → P ((met y g q e l a b) .target)
+  met-keeps true q carries e l a b p = carries (e .other) (nextOutcome (l .calls)) b p
+  met-keeps false q carries e l a b p = p
+
+  transferred-keeps : (q : Request) → Carries q → (e : LineEvent) (l : Lists) (b : Target) → P b → P ((transferred g q e l b) .target)
+  unfolding transferred
+  transferred-keeps q carries e l b p = met-keeps (not (killed b) && not (barred g q b) && carriedOut (e .outcome)) q carries e l _ b p
+
+  module _ (resets : (b : Target) → P b → P (reset g b)) where
+    pub request-keeps : (q : Request) → Carries q → (l : Lists) (b : Target) → P b → P ((meetOn g (Known q) l b) .target)
+    request-keeps Xres carries l b p = resets b p
+    request-keeps LineReset carries l b p = p
+    request-keeps ReadIdcode carries l b p = transferred-keeps ReadIdcode carries (nextEvent (l .line)) l b p
+    request-keeps ReadDrw carries l b p = transferred-keeps ReadDrw carries (nextEvent (l .line)) l b p
+    request-keeps (WriteTar a) carries l b p = transferred-keeps (WriteTar a) carries (nextEvent (l .line)) l b p
+    request-keeps (WriteDrw w) carries l b p = transferred-keeps (WriteDrw w) carries (nextEvent (l .line)) l b p
+    request-keeps (WriteSetup r w) carries l b p = transferred-keeps (WriteSetup r w) carries (nextEvent (l .line)) l b p
+
+    pub packet-keeps : ((q : Request) → Carries q) → (d : Decoded) (l : Lists) (b : Target) → P b → P ((meetOn g d l b) .target)
+    packet-keeps carries (Known q) l b p = request-keeps q (carries q) l b p
+    packet-keeps carries Unknown l b p = p

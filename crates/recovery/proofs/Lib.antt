@@ -1,0 +1,4 @@
+pub mod Walking
+pub mod Killed
+pub mod Recovery
+pub mod Witness

@@ -1,0 +1,121 @@
+-- A cut can fall into the reopening call, for every part and M, and the board is loaded after it. Assumes nothing.
+use mathlib.Core.Bool.{Bool, true, false}
+use mathlib.Core.List.{List, [], _∷_, _++_}
+use mathlib.Core.Path.{_≡_, refl, sym, ap, subst, _∙_}
+use Prim.Native.Nat.{ℕ, _+_}
+use native.Mathlib.Omega.{arith}
+use lib.Dec.{eqb}
+use Rattle.flow.proofs.CutExamples.{cut-examples}
+use Rattle.flow.proofs.Reopening.{Reopens, comes-to-reopen}
+use Rattle.flow.proofs.Witness.{witness-1, witness-2, witness-3, witness-3-2}
+use Rattle.flow.specs.Calls.{afterFailure}
+use Rattle.flow.specs.Claim.{Achieved}
+use Rattle.flow.specs.CutExamples.{woken}
+use Rattle.flow.specs.Cuts.{cutMemory, CutTo}
+use Rattle.flow.specs.Target.{Memory, Residue, CallOutcome, Target, Lists}
+use Rattle.flow.specs.Terms.{Startable, RightPart, Calm, CalmLine, CalmCalls, calmEnd, callsEnd, Used, entries}
+use Rattle.flow.specs.declared.LineEvent.{LineEvent}
+use Rattle.flow.specs.declared.Packet.the-variants as Packets
+use Rattle.image.specs.Checks.{imageFault}
+use Rattle.image.specs.declared.Header.{Header}
+use Rattle.parts.specs.Parts.{part1, part2, part3}
+use Rattle.parts.specs.declared.Geometry.{Geometry}
+use Rattle.recovery.specs.Recovery.{Start, imageIn, Leads, Interrupted, never, cut}
+use Rattle.recovery.specs.Witness.{noEntries, Reopening, Reloaded, ReopeningCut}
+use Rattle.recovery.proofs.Recovery.{recovery-holds}
+use Rattle.recovery.proofs.Walking.{walked}
+use Rattle.session.specs.Calls.{State}
+use Rattle.session.specs.Given.{startOf}
+use Rattle.session.specs.declared.Outcome.the-variants.{Refused, Ask}
+
+-- of no entries none can be used
+no-line : (a b : List LineEvent) → [] ≡ a ++ b → CalmLine a
+no-line [] b e = calmEnd
+no-line (x ∷ a) b e = let z : _≡_ {A = ℕ} 0 1 = cc in absurd (omega arith)
+
+no-calls : (a b : List CallOutcome) → [] ≡ a ++ b → CalmCalls a
+no-calls [] b e = callsEnd
+no-calls (x ∷ a) b e = let z : _≡_ {A = ℕ} 0 1 = cc in absurd (omega arith)
+
+all-calm : {left : Lists} (u : Used noEntries left) → Calm (entries u)
+all-calm {left} u = record { line = no-line (u .line) (left .line) (u .lineIs); calls = no-calls (u .calls) (left .calls) (u .callsIs) }
+
+-- what a cut leaves: all flash and locks zero, and the level sent or not
+abbrev leaving : Bool → Residue
+leaving y = record { flash = []; locks = []; latch = []; sysarg = 0; newLevel = y }
+
+module _ {g : Geometry} (x : Start g) (b : Target) (may : Startable g b) (right : RightPart (imageIn x) (b .silicon)) (n : ℕ) (s : State) (leads : Leads x b noEntries n 0 s) where
+  abbrev after : Bool → Target
+  after y = woken (s .target) (leaving y) (s .target .memory .latch) (s .target .params) 7
+
+  reloaded : (y : Bool) (level : ℕ) → (cutMemory (s .target) (leaving y)) .stored ≡ level → ¬ (level ≡ 4) → Reloaded x b s level
+  reloaded y level is no-kill =
+      let c : CutTo (s .target) (after y) = cut-examples .free (s .target) (leaving y) _ _ 7 refl refl in
+      let i : Interrupted g b (after y) = cut never x noEntries n 0 s leads c in
+      let r = recovery-holds g x b (after y) may right i (λ h. no-kill (sym is ∙ h)) noEntries in
+      let e = r .ends in
+      let d = r .again (e .answers) 0 (e .state) (e .leads) in
+      record {
+        board = after y;
+        cut = c;
+        stored = is;
+        interrupted = i;
+        ended = e;
+        loaded = r .loaded (e .answers) 0 (e .state) (e .leads) (e .report) (e .stands) (d .provoked (all-calm (d .used)));
+      }
+
+-- ---- from a PROTECTED board on which done can be reached
+
+-- with leave no image that passes is refused
+granted : (h : Header) (bytes : List ℕ) → imageFault h bytes ≡ 0 → (n : ℕ) → ¬ ((startOf h bytes true) .outcome ≡ Refused n)
+unfolding startOf
+granted h bytes none n e = by (eqb (h .level) 4) refl
+  where
+    by : (t : Bool) → eqb (h .level) 4 ≡ t → ⊥
+    by true q = let no : Ask Packets.Xres ≡ Refused n = rw (none, q) at e in let z : _≡_ {A = ℕ} 0 1 = cc in omega arith
+    by false q = let no : Ask Packets.Xres ≡ Refused n = rw (none, q) at e in let z : _≡_ {A = ℕ} 0 1 = cc in omega arith
+
+-- the level that the cut leaves
+new-level : (b : Target) → Reopening b → (cutMemory b (leaving true)) .stored ≡ 1
+unfolding afterFailure
+new-level b r = rw (r .runs, r .sent)
+
+old-level : (b : Target) → Reopening b → (cutMemory b (leaving false)) .stored ≡ b .memory .stored
+unfolding afterFailure
+old-level b r = rw (r .runs)
+
+reopening-cut : (g : Geometry) → Achieved g 2 → ReopeningCut g
+reopening-cut g a =
+    let x : Start g = record { header = a .header; bytes = a .bytes; leave = true; passes = a .passes; unrefused = granted (a .header) (a .bytes) (a .passes .checked) } in
+    let n = comes-to-reopen g (a .header) (a .bytes) (a .passes) (a .target) (a .startable) (a .stored) (a .right) in
+    let w = walked g (a .header) (a .bytes) true (a .passes) (x .unrefused) (a .target) (a .startable) noEntries (n .n) in
+    let r : Reopens (a .target .memory) (w .state .target) = subst (Reopens (a .target .memory)) (sym (w .follows .target)) (n .is) in
+    let reopening : Reopening (w .state .target) = record { left = r .left; succeeds = r .succeeds; entry = r .entry; runs = r .runs; sent = r .sent; effect = r .effect } in
+    record {
+      start = x;
+      board = a .target;
+      startable = a .startable;
+      protected = a .stored;
+      right = a .right;
+      answers = w .answers;
+      state = w .state;
+      leads = w .steps;
+      reopening = reopening;
+      opened = reloaded x (a .target) (a .startable) (a .right) (w .answers) (w .state) (w .steps) true 1 (new-level (w .state .target) reopening) (λ h. omega arith);
+      shut = reloaded x (a .target) (a .startable) (a .right) (w .answers) (w .state) (w .steps) false 2
+          (old-level (w .state .target) reopening ∙ ap (λ (m : Memory). m .stored) (r .memory) ∙ a .stored) (λ h. omega arith);
+    }
+
+-- ---- every part and M
+
+pub reopening-1 : ReopeningCut (record { part = part1; macros = 1 })
+reopening-1 = reopening-cut _ (witness-1 .fromProtected)
+
+pub reopening-2 : ReopeningCut (record { part = part2; macros = 1 })
+reopening-2 = reopening-cut _ (witness-2 .fromProtected)
+
+pub reopening-3 : ReopeningCut (record { part = part3; macros = 1 })
+reopening-3 = reopening-cut _ (witness-3 .fromProtected)
+
+pub reopening-3-2 : ReopeningCut (record { part = part3; macros = 2 })
+reopening-3-2 = reopening-cut _ (witness-3-2 .fromProtected)

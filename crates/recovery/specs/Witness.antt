@@ -1,0 +1,48 @@
+-- What Eleven speaks of occurs: a cut inside the call that reopens a PROTECTED board, and done after it. Assumes nothing.
+use mathlib.Core.Bool.{Bool}
+use mathlib.Core.List.{[]}
+use mathlib.Core.Path.{_≡_}
+use Prim.Native.Nat.{ℕ, _+_}
+use Rattle.flow.specs.Cuts.{CutTo}
+use Rattle.flow.specs.Sequence.{key}
+use Rattle.flow.specs.Target.{Residue, busy, Target, Lists}
+use Rattle.flow.specs.Terms.{Startable, RightPart}
+use Rattle.parts.specs.declared.Geometry.{Geometry}
+use Rattle.recovery.specs.Recovery.{Start, imageIn, Leads, Interrupted, Loaded, Ended}
+use Rattle.session.specs.Calls.{State}
+
+-- 'past a list's end it is OK, and success without busy reads': nothing goes wrong
+abbrev pub noEntries : Lists
+noEntries = record { line = []; calls = [] }
+
+-- 'PROTECTED: call 0x0D with k + 0x10000' runs
+pub record Reopening (b : Target) : Type 0 where
+  pub left : ℕ
+  pub succeeds : Bool
+  pub entry : Residue
+  pub runs : b .running ≡ busy left succeeds entry 0x0D
+  pub sent : b .sysarg ≡ key 0x0D + 0x10000
+  pub effect : b .effect ≡ 2
+
+-- the board b₀, cut off once, has this level, and the same image can be loaded again
+pub record Reloaded {g : Geometry} (x : Start g) (b₀ : Target) (s : State) (level : ℕ) : Type 0 where
+  pub board : Target
+  pub cut : CutTo (s .target) board
+  pub stored : board .memory .stored ≡ level
+  pub interrupted : Interrupted g b₀ board
+  pub ended : Ended x board noEntries
+  pub loaded : Loaded (imageIn x) (ended .state) (ended .report)
+
+pub record ReopeningCut (g : Geometry) : Type 0 where
+  pub start : Start g
+  pub board : Target
+  pub startable : Startable g board
+  pub protected : board .memory .stored ≡ 2
+  pub right : RightPart (imageIn start) (board .silicon)
+  pub answers : ℕ
+  pub state : State
+  pub leads : Leads start board noEntries answers 0 state
+  pub reopening : Reopening (state .target)
+  -- the cut stores the level sent, or leaves the old one
+  pub opened : Reloaded start board state 1
+  pub shut : Reloaded start board state 2
