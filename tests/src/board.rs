@@ -1,6 +1,7 @@
 //! 'The plain board', driven by its two free lists. It decodes request bytes by itself.
 
 mod calls;
+mod cut;
 mod ids;
 mod lists;
 mod port;
@@ -83,14 +84,7 @@ impl Board {
         let mut board = Board::blank(header, stored);
         rng.fill(&mut board.flash);
         rng.fill(&mut board.locks);
-        rng.fill(&mut board.latch);
-        board.params.iter_mut().for_each(|word| *word = rng.word());
-        board.in_effect = rng.byte() & 0xF;
-        board.sysarg = rng.word();
-        board.sysreq = rng.word();
-        board.test_mode = rng.word();
-        board.tar = *rng.pick(&[0, PARAMS, board.sizes.part.sysreq, TEST_MODE, LOCKS]);
-        board.posted = rng.word();
+        board.discharge(rng);
         board.privileged = rng.word() & LOW_28;
         board.level_rest = rng.word();
         board

@@ -53,6 +53,11 @@ impl Core for Reference {
 /// How often each number came.
 pub type Counts = BTreeMap<u8, u64>;
 
+/// Adds counts to others, key by key.
+pub(crate) fn add<K: Ord + Copy>(sum: &mut BTreeMap<K, u64>, more: &BTreeMap<K, u64>) {
+    more.iter().for_each(|(&key, count)| *sum.entry(key).or_default() += count);
+}
+
 #[cfg(test)]
 mod tests {
     use super::*;

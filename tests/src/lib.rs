@@ -8,6 +8,7 @@ pub mod cases_session;
 pub mod claims;
 pub mod counts;
 pub mod cross;
+pub mod cuts;
 pub mod flow;
 pub mod fnv;
 pub mod hex;

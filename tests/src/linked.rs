@@ -7,6 +7,7 @@ mod edges;
 mod forged;
 mod tools;
 
+pub use bench::Pair;
 pub use boards::{boards, Boards, ENDS};
 pub use edges::edges;
 pub use forged::{forged, Forged};

@@ -2,7 +2,8 @@
 //! The same seed is the same run; any difference ends it with a panic.
 
 use reference::cross::{rows, sessions, texts, Counts, Tally, TextTally};
-use reference::linked::{boards, edges, forged, tools, Boards, Forged, Linked, ENDS};
+use reference::cuts::{chains, Cuts};
+use reference::linked::{boards, edges, forged, tools, Boards, Forged, Linked, Pair, ENDS};
 use std::time::Instant;
 use std::{env, thread};
 
@@ -14,6 +15,7 @@ struct Sizes {
     forged: usize,
     board_sessions: usize,
     packets: usize,
+    chains: usize,
 }
 
 const SHORT: Sizes = Sizes {
@@ -23,6 +25,7 @@ const SHORT: Sizes = Sizes {
     forged: 200_000,
     board_sessions: 480,
     packets: 300_000,
+    chains: 400,
 };
 const LONG: Sizes = Sizes {
     texts: 3_000_000,
@@ -31,6 +34,7 @@ const LONG: Sizes = Sizes {
     forged: 10_000_000,
     board_sessions: 12_000,
     packets: 7_500_000,
+    chains: 10_000,
 };
 const THREADS: usize = 2;
 
@@ -116,6 +120,21 @@ fn check_boards(seed: u64, sizes: &Sizes) {
     sum.assert_all_reached();
 }
 
+fn check_cuts(seed: u64, sizes: &Sizes) {
+    let mut sum = Cuts::default();
+    let parts = shared(seed, |seed| chains::<_, Pair>(&Linked, seed, sizes.chains / THREADS));
+    parts.iter().for_each(|part| sum.add(part));
+    let Cuts { chains, cuts, requests, refused, .. } = sum;
+    println!("cuts: {chains} boards, cut {cuts} times, loaded again or closed by KILL: {requests} requests");
+    println!("  on the bench board beside ours, demand 3's claims asserted; {refused} refused steps between");
+    show("sessions cut after their report", &sum.numbers, [0, 19, 26, 27, 28, 29]);
+    println!("  cuts: {}", sum.line());
+    let line: Vec<String> =
+        sum.sizes.iter().map(|((part, macros), count)| format!("part {part}, M {macros}: {count}")).collect();
+    println!("  chains: {}", line.join("; "));
+    sum.assert_all_reached();
+}
+
 fn main() {
     let arguments: Vec<String> = env::args().skip(1).collect();
     let long = arguments.iter().any(|word| word == "--long");
@@ -135,5 +154,6 @@ fn main() {
     check_texts(seed, sizes);
     check_sessions(seed, sizes);
     check_boards(seed, sizes);
+    check_cuts(seed, sizes);
     println!("cross-checks passed in {:.0} s, seed {seed}", start.elapsed().as_secs_f64());
 }

@@ -9,7 +9,7 @@ use crate::rng::Rng;
 
 impl Board {
     /// Level and macro that 0x0D is sent; a level has four bits.
-    fn sent(&self) -> (u8, usize) {
+    pub fn sent(&self) -> (u8, usize) {
         ((self.sysarg >> 16) as u8 & 0xF, (self.sysarg >> 24) as usize)
     }
 

@@ -2,7 +2,9 @@
 
 use super::{abi_answer, outcome_bytes};
 use crate::board::{Board, CallOutcome, FreeLists, Line, LineEvent, Place};
+use crate::cuts::Powered;
 use crate::image::Header;
+use crate::play::RandomLists;
 use crate::rng::Rng;
 use crate::session::Outcome;
 use crate::wire::{request_byte, Answer, Register, Request};
@@ -184,11 +186,45 @@ impl Pair {
         answer
     }
 
+    /// The power goes: ours is cut, and theirs gets the same bytes, its mark of a running call 0.
+    pub fn cut(&mut self, residue: CallOutcome, rng: &mut Rng) {
+        self.assert_memory_alike();
+        self.ours.cut(residue, rng);
+        self.board = board_bytes(&self.ours);
+        assert_eq!(self.board[34], 0);
+        self.flash.clone_from(&self.ours.flash);
+        self.locks.clone_from(&self.ours.locks);
+        self.latch.clone_from(&self.ours.latch);
+        self.params.clone_from(&self.ours.params);
+    }
+
     /// Flash, locks, latch and PARAMS; the rest is compared at each request.
     pub fn assert_memory_alike(&self) {
         let Board { flash, locks, latch, params, .. } = &self.ours;
         assert!(self.flash == *flash, "flash");
         assert!(self.locks == *locks, "locks");
         assert_eq!((&self.latch, &self.params), (latch, params));
+    }
+}
+
+impl Powered for Pair {
+    fn of(header: &Header, board: Board) -> Pair {
+        Pair::of(header, board)
+    }
+
+    fn board(&self) -> &Board {
+        &self.ours
+    }
+
+    fn meet(&mut self, request: Request, lists: &mut RandomLists) -> Answer {
+        Pair::meet(self, request, lists).0
+    }
+
+    fn cut(&mut self, residue: CallOutcome, rng: &mut Rng) {
+        Pair::cut(self, residue, rng);
+    }
+
+    fn assert_alike(&self) {
+        self.assert_memory_alike();
     }
 }

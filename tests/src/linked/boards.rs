@@ -9,7 +9,7 @@ use super::Linked;
 use crate::board::{Board, FreeLists, Ids, Line, Running};
 use crate::claims::entry_of;
 use crate::counts::{loops, plan};
-use crate::cross::{random_run, Core, Counts, Run};
+use crate::cross::{add, random_run, Core, Counts, Run};
 use crate::parts::{KILL, OPEN, PROTECTED, SIZES};
 use crate::play::RandomLists;
 use crate::rng::Rng;
@@ -68,10 +68,6 @@ impl Boards {
 
 const LEVELS: [u8; 3] = [OPEN, PROTECTED, KILL];
 pub const ENDS: [&str; 3] = ["succeeded", "failed", "dropped by XRES"];
-
-fn add<K: Ord + Copy>(sum: &mut BTreeMap<K, u64>, more: &BTreeMap<K, u64>) {
-    more.iter().for_each(|(&key, count)| *sum.entry(key).or_default() += count);
-}
 
 /// Counts by place in `KINDS`, cheap enough for each packet.
 struct Tally {
