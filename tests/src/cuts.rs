@@ -1,5 +1,5 @@
-//! Document 02, Eleven: sessions "cut after any transfer", 1 to 4 of them on one board, then a calm one that nobody
-//! cuts. Call `chains` for a core and a board that it is joined to.
+//! Document 02, Eleven: sessions "cut after any transfer", 1 to 4 of them on one board, then one without mishap that
+//! nobody cuts. Call `chains` for a core and a board that it is joined to.
 
 mod place;
 mod tally;
@@ -18,7 +18,7 @@ use crate::rng::Rng;
 use crate::session::Outcome;
 use crate::texts::sample_image;
 use crate::wire::{Answer, Request};
-use place::{disturbed, Kind, Place};
+use place::{disturbed, slow, Kind, Place};
 
 /// A plain board that meets requests and can be cut: ours, or ours with the bench board beside it.
 pub trait Powered {
@@ -145,9 +145,13 @@ impl<C: Core, T: Powered> Chain<'_, C, T> {
         let board = self.target.board();
         let (sizes, entry) = (board.sizes, entry_of(board));
         self.tally.found(board.stored);
-        let calm = RandomLists::calm(self.rng.draw());
-        let end = self.session(calm, Place::never());
-        let done = Report { number: 0, step: 9, transfers: plan(&sizes, entry) as u32 };
+        let calm = self.rng.bit();
+        let lists = if calm { RandomLists::calm(self.rng.draw()) } else { slow(self.rng, board) };
+        let end = self.session(lists, Place::never());
+        // Calm, it takes the plan; what WAITs and busy polls add to it is in the claims.
+        let taken =
+            end.report.filter(|_| !calm).map_or(plan(&sizes, entry) as u32, |report| report.transfers);
+        let done = Report { number: 0, step: 9, transfers: taken };
         let due = if self.closed.is_some() { CLOSED } else { done };
         assert_eq!(end.report, Some(due));
         self.target.assert_alike();

@@ -10,7 +10,13 @@ impl Board {
     pub fn cut(&mut self, residue: CallOutcome, rng: &mut Rng) {
         assert!(!residue.success, "a residue is what a failed call leaves");
         if let Some(Running { command, .. }) = self.running.take() {
+            let before = [self.flash.clone(), self.locks.clone()];
             self.fail(Running { command, outcome: residue });
+            // Half of the time the call has come to a place of each and left the rest.
+            for (now, before) in [&mut self.flash, &mut self.locks].into_iter().zip(&before) {
+                let reached = if rng.bit() { now.len() } else { rng.below(now.len() + 1) };
+                now[reached..].copy_from_slice(&before[reached..]);
+            }
         }
         self.discharge(rng);
         if rng.bit() {

@@ -160,3 +160,14 @@ pub fn disturbed(rng: &mut Rng, board: &Board) -> RandomLists {
     }
     lists
 }
+
+/// Without mishap: WAITs, sixteen running at most, and busy calls.
+pub fn slow(rng: &mut Rng, board: &Board) -> RandomLists {
+    let mut lists = RandomLists::calm(rng.draw());
+    (lists.busy_one_in, lists.most_busy) = (1 + rng.below(5), 1 + rng.below(40));
+    for start in (0..plan(&board.sizes, entry_of(board))).step_by(400) {
+        let (at, waits) = (start + rng.below(300) as u64, 1 + rng.below(16) as u64);
+        lists.line.extend((at..at + waits).map(|at| (at, RandomLists::event(rng, Line::Wait))));
+    }
+    lists
+}

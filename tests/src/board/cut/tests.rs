@@ -43,6 +43,13 @@ fn keeps_memory((before, after): &(Board, Board)) -> bool {
     before.flash == after.flash && before.locks == after.locks
 }
 
+/// Bytes as the residue has them up to a place, which is given, and as before from there on.
+fn came_to(after: &[u8], residue: &[u8], before: &[u8]) -> usize {
+    let place = (0..after.len()).find(|&at| after[at] != residue[at]).unwrap_or(after.len());
+    assert!(after[place..] == before[place..]);
+    place
+}
+
 /// Every residue that these tests use.
 fn residues() -> [CallOutcome; 4] {
     [residue(None, false), residue(None, true), residue(Some(9), false), residue(Some(9), true)]
@@ -86,9 +93,28 @@ fn calls_that_leave_anything() {
         assert!(keeps_memory(&cut(start(), residue(None, true))), "{command:#x}");
         let (before, after) = cut(start(), residue(Some(9), true));
         let mut rng = Rng(9);
-        assert!(after.flash == rng.bytes(before.flash.len()) && after.locks == rng.bytes(before.locks.len()));
+        came_to(&after.flash, &rng.bytes(before.flash.len()), &before.flash);
+        came_to(&after.locks, &rng.bytes(before.locks.len()), &before.locks);
         assert_eq!(after.stored, PROTECTED);
     }
+}
+
+/// All of the flash, none of it, and what is between.
+#[test]
+fn half_done() {
+    let (before, made) =
+        (running(OPEN, ERASE_ALL, PARAMS, CallOutcome::OK), Rng(9).bytes(board(OPEN).flash.len()));
+    let mut rng = Rng(54);
+    let places: Vec<usize> = (0..40)
+        .map(|_| {
+            let mut after = before.clone();
+            after.cut(residue(Some(9), false), &mut rng);
+            came_to(&after.flash, &made, &before.flash)
+        })
+        .collect();
+    let whole = places.iter().filter(|&&place| place == made.len()).count();
+    assert!(whole > 5 && whole < 35, "{places:?}");
+    assert_eq!(cut(before, residue(None, false)).1.flash, board(OPEN).flash);
 }
 
 /// 4, 6 and 0x0A store no level, whatever their argument looks like.
