@@ -1,5 +1,5 @@
 -- A session on a PROTECTED board of the right part comes to where the reopening call runs, so that a cut can fall into it. Assumes nothing.
-use mathlib.Core.Bool.{Bool, false≢true}
+use mathlib.Core.Bool.{false≢true}
 use mathlib.Core.List.{List, [], _++_}
 use mathlib.Core.Logic.{inr}
 use mathlib.Core.Path.{_≡_, refl, sym, subst, _∙_}
@@ -7,13 +7,14 @@ use Prim.Native.Nat.{ℕ, suc, _+_, _*_, _≤_, _<_}
 use native.Mathlib.Omega.{arith}
 use lib.ListN.{drop}
 use Rattle.flow.specs.Calls.{sysargAfter, sysreqAfter}
+use Rattle.flow.specs.CutExamples.{Reopening}
 use Rattle.flow.specs.Judge.{judge}
 use Rattle.flow.specs.Monitor.{noWaits, watching}
 use Rattle.flow.specs.Plan.{trafficIn, pollsIn}
 use Rattle.flow.specs.Run.{Run, advance, runAfter, started}
 use Rattle.flow.specs.Sequence.{key, write, read, poll, call, acquire, silicon, program, opening, afterwards, sequence}
 use Rattle.flow.specs.Session.{SessionState, running, judgedTo}
-use Rattle.flow.specs.Target.{Target, Memory, Residue, busy, Lists, nextOutcome}
+use Rattle.flow.specs.Target.{Target, Memory, Lists, nextOutcome}
 use Rattle.flow.specs.Terms.{Passes, Startable, RightPart, calmEnd, callsEnd}
 use Rattle.flow.specs.declared.Entry.the-variants.{FromOpen, FromProtected}
 use Rattle.flow.specs.declared.Move.{Move}
@@ -36,14 +37,9 @@ use Rattle.image.specs.declared.Header.{Header}
 use Rattle.parts.specs.Sizes.{sysreqOf, sysargOf}
 use Rattle.parts.specs.declared.Geometry.{Geometry}
 
--- call 0x0D runs on this memory with PROTECTED in effect and OPEN sent
+-- the call runs, and the memory is m still
 pub record Reopens (m : Memory) (b : Target) : Type 0 where
-  pub left : ℕ
-  pub succeeds : Bool
-  pub entry : Residue
-  pub runs : b .running ≡ busy left succeeds entry 0x0D
-  pub sent : b .sysarg ≡ reopenWord
-  pub effect : b .effect ≡ 2
+  pub reopening : Reopening b
   pub memory : b .memory ≡ m
 
 -- the most that these moves may cost
@@ -115,12 +111,7 @@ module _ (i : Image) (b : Target) (right : RightIds i (b .silicon)) where
         call-reaches short 3 (sysreqOf g) (0x80000000 + 0x0D) st₁ (place-sysreq g fx) (admits (c .effect) AtSysreq refl answers) (any c) (any c) (callD .command .started) λ e₂ h₂ st₂.
         let o = nextOutcome (e₁ .lists .calls) in
         here (λ few. record {
-          left = o .busyReads;
-          succeeds = o .succeeds;
-          entry = o .residue;
-          runs = rw (callD .command .number);
-          sent = refl;
-          effect = p .effect ∙ two;
+          reopening = record { left = o .busyReads; succeeds = o .succeeds; entry = o .residue; runs = rw (callD .command .number); sent = refl; effect = p .effect ∙ two };
           memory = p .fresh .memory;
         })
 

@@ -1,5 +1,5 @@
 -- A cut of the power by example, on the board of four bytes: on each limit what a cut leaves beside what it does not. Assumes nothing.
-use mathlib.Core.Bool.{true, false}
+use mathlib.Core.Bool.{Bool, true, false}
 use mathlib.Core.List.{List, [], _∷_}
 use mathlib.Core.Path.{_≡_}
 use Prim.Native.Nat.{ℕ, _+_}
@@ -7,6 +7,7 @@ use lib.ListN.{length}
 use Rattle.flow.specs.BoardExamples.{memoryWith, small, boardWith, residue}
 use Rattle.flow.specs.Cuts.{cutMemory, CutTo}
 use Rattle.flow.specs.Mishaps.{SYSREQ}
+use Rattle.flow.specs.Sequence.{key}
 use Rattle.flow.specs.Target.{Memory, Residue, Running, idle, busy, Target}
 use Rattle.parts.specs.Sizes.{PARAMS}
 
@@ -42,6 +43,15 @@ pub record CutMemoryExamples : Type 0 where
   -- reopening: OPEN is sent where PROTECTED is stored
   pub reopened : left 2 0x1E0B6 0x0D (residue 0 true) ≡ scrambled 1
   pub notReopened : left 2 0x1E0B6 0x0D (residue 0 false) ≡ scrambled 2
+
+-- a cut can fall into 'PROTECTED: call 0x0D with k + 0x10000': it runs on b
+pub record Reopening (b : Target) : Type 0 where
+  pub left : ℕ
+  pub succeeds : Bool
+  pub entry : Residue
+  pub runs : b .running ≡ busy left succeeds entry 0x0D
+  pub sent : b .sysarg ≡ key 0x0D + 0x10000
+  pub effect : b .effect ≡ 2
 
 -- what the cut of b with this residue leaves, where the latch, PARAMS and the registers have come to hold this
 abbrev pub woken : Target → Residue → (latch params : List ℕ) → (register : ℕ) → Target

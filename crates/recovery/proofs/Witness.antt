@@ -10,7 +10,7 @@ use Rattle.flow.proofs.Reopening.{Reopens, comes-to-reopen}
 use Rattle.flow.proofs.Witness.{witness-1, witness-2, witness-3, witness-3-2}
 use Rattle.flow.specs.Calls.{afterFailure}
 use Rattle.flow.specs.Claim.{Achieved}
-use Rattle.flow.specs.CutExamples.{woken}
+use Rattle.flow.specs.CutExamples.{Reopening, woken}
 use Rattle.flow.specs.Cuts.{cutMemory, CutTo}
 use Rattle.flow.specs.Target.{Memory, Residue, CallOutcome, Target, Lists}
 use Rattle.flow.specs.Terms.{Startable, RightPart, Calm, CalmLine, CalmCalls, calmEnd, callsEnd, Used, entries}
@@ -21,12 +21,22 @@ use Rattle.image.specs.declared.Header.{Header}
 use Rattle.parts.specs.Parts.{part1, part2, part3}
 use Rattle.parts.specs.declared.Geometry.{Geometry}
 use Rattle.recovery.specs.Recovery.{Start, imageIn, Leads, Interrupted, never, cut}
-use Rattle.recovery.specs.Witness.{noEntries, Reopening, Reloaded, ReopeningCut}
+use Rattle.recovery.specs.Witness.{noEntries, FreeCuts, Reloaded, ReopeningCut}
 use Rattle.recovery.proofs.Recovery.{recovery-holds}
 use Rattle.recovery.proofs.Walking.{walked}
 use Rattle.session.specs.Calls.{State}
 use Rattle.session.specs.Given.{startOf}
 use Rattle.session.specs.declared.Outcome.the-variants.{Refused, Ask}
+
+pub free-cuts : FreeCuts
+free-cuts = record {
+  once = λ g b b′ x l n k s leads c. cut never x l n k s leads c;
+  joined = λ g b₀ b b′ before after. join before after;
+}
+  where
+    join : {g : Geometry} {b₀ b b′ : Target} → Interrupted g b₀ b → Interrupted g b b′ → Interrupted g b₀ b′
+    join before never = before
+    join before (cut after x l n k s leads c) = cut (join before after) x l n k s leads c
 
 -- of no entries none can be used
 no-line : (a b : List LineEvent) → [] ≡ a ++ b → CalmLine a
@@ -90,7 +100,6 @@ reopening-cut g a =
     let n = comes-to-reopen g (a .header) (a .bytes) (a .passes) (a .target) (a .startable) (a .stored) (a .right) in
     let w = walked g (a .header) (a .bytes) true (a .passes) (x .unrefused) (a .target) (a .startable) noEntries (n .n) in
     let r : Reopens (a .target .memory) (w .state .target) = subst (Reopens (a .target .memory)) (sym (w .follows .target)) (n .is) in
-    let reopening : Reopening (w .state .target) = record { left = r .left; succeeds = r .succeeds; entry = r .entry; runs = r .runs; sent = r .sent; effect = r .effect } in
     record {
       start = x;
       board = a .target;
@@ -100,10 +109,10 @@ reopening-cut g a =
       answers = w .answers;
       state = w .state;
       leads = w .steps;
-      reopening = reopening;
-      opened = reloaded x (a .target) (a .startable) (a .right) (w .answers) (w .state) (w .steps) true 1 (new-level (w .state .target) reopening) (λ h. omega arith);
+      reopening = r .reopening;
+      opened = reloaded x (a .target) (a .startable) (a .right) (w .answers) (w .state) (w .steps) true 1 (new-level (w .state .target) (r .reopening)) (λ h. omega arith);
       shut = reloaded x (a .target) (a .startable) (a .right) (w .answers) (w .state) (w .steps) false 2
-          (old-level (w .state .target) reopening ∙ ap (λ (m : Memory). m .stored) (r .memory) ∙ a .stored) (λ h. omega arith);
+          (old-level (w .state .target) (r .reopening) ∙ ap (λ (m : Memory). m .stored) (r .memory) ∙ a .stored) (λ h. omega arith);
     }
 
 -- ---- every part and M

@@ -1,11 +1,10 @@
--- What Eleven speaks of occurs: a cut inside the call that reopens a PROTECTED board, and done after it. Assumes nothing.
-use mathlib.Core.Bool.{Bool}
+-- What Eleven speaks of occurs: cuts anywhere, a cut inside the call that reopens a PROTECTED board, and done after it. Assumes nothing.
 use mathlib.Core.List.{[]}
 use mathlib.Core.Path.{_≡_}
-use Prim.Native.Nat.{ℕ, _+_}
+use Prim.Native.Nat.{ℕ}
+use Rattle.flow.specs.CutExamples.{Reopening}
 use Rattle.flow.specs.Cuts.{CutTo}
-use Rattle.flow.specs.Sequence.{key}
-use Rattle.flow.specs.Target.{Residue, busy, Target, Lists}
+use Rattle.flow.specs.Target.{busy, Target, Lists}
 use Rattle.flow.specs.Terms.{Startable, RightPart}
 use Rattle.parts.specs.declared.Geometry.{Geometry}
 use Rattle.recovery.specs.Recovery.{Start, imageIn, Leads, Interrupted, Loaded, Ended}
@@ -15,14 +14,10 @@ use Rattle.session.specs.Calls.{State}
 abbrev pub noEntries : Lists
 noEntries = record { line = []; calls = [] }
 
--- 'PROTECTED: call 0x0D with k + 0x10000' runs
-pub record Reopening (b : Target) : Type 0 where
-  pub left : ℕ
-  pub succeeds : Bool
-  pub entry : Residue
-  pub runs : b .running ≡ busy left succeeds entry 0x0D
-  pub sent : b .sysarg ≡ key 0x0D + 0x10000
-  pub effect : b .effect ≡ 2
+-- whoever asks more of the cuts breaks these: any session, any lists, any list of calls, and cuts after cuts
+pub record FreeCuts : Type 0 where
+  pub once : (g : Geometry) (b b′ : Target) (x : Start g) (l : Lists) (n k : ℕ) (s : State) → Leads x b l n k s → CutTo (s .target) b′ → Interrupted g b b′
+  pub joined : (g : Geometry) (b₀ b b′ : Target) → Interrupted g b₀ b → Interrupted g b b′ → Interrupted g b₀ b′
 
 -- the board b₀, cut off once, has this level, and the same image can be loaded again
 pub record Reloaded {g : Geometry} (x : Start g) (b₀ : Target) (s : State) (level : ℕ) : Type 0 where
