@@ -92,7 +92,7 @@ silent-ack n = by (eqb n 1) (eqb n 2) (eqb n 4) refl refl refl
     by false false true p q r = refl
     by false false false p q r = simp (p, q, r)
 
-silence-heard : (q : Request) (j : Reply) → verdict q (Transferred (silentReply j)) ≡ broken 29
+pub silence-heard : (q : Request) (j : Reply) → verdict q (Transferred (silentReply j)) ≡ broken 29
 unfolding verdict heard
 silence-heard q j = rw (silent-ack (j .ack))
 

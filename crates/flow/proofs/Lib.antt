@@ -39,6 +39,7 @@ pub mod EarlyMoves
 pub mod Early
 pub mod Zeros
 pub mod Faulted
+pub mod Silenced
 pub mod Reopening
 pub mod Witness
 pub mod Undisturbed

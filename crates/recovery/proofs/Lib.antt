@@ -1,4 +1,5 @@
 pub mod Walking
 pub mod Killed
+pub mod Closed
 pub mod Recovery
 pub mod Witness

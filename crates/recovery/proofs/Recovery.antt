@@ -121,8 +121,12 @@ comes g b₀ b may (cut {b = b₁} before x l n k s leads c) = one-more b₀ b�
 pub cuts-leave : CutsLeave
 cuts-leave g b₀ b may cuts =
     let c = comes g b₀ b may cuts in
-    record { silicon = c .silicon; neverVirgin = never-virgin (c .stands); startable = startable (c .stands) }
+    record { silicon = c .silicon; quiet = at-rest (c .stands); neverVirgin = never-virgin (c .stands); startable = startable (c .stands) }
   where
+    at-rest : Stands g b → b .running ≡ idle
+    at-rest (awake may) = may .quiet
+    at-rest (dead kill quiet) = quiet
+
     never-virgin : Stands g b → b .memory .stored ≡ 0 → ⊥
     never-virgin (awake may) e = by (may .level)
       where

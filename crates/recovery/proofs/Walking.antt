@@ -40,7 +40,7 @@ module _ (g : Geometry) (h : Header) (bytes : List ℕ) (found : lookupOf (h .pa
   abbrev Low : Run → Type 0
   Low r = (j : ℕ) → countIn ((runAfter i j r) .session) ≤ mostOf g
 
-  walk : (n : ℕ) (s : State) (r : Run) → Follows g h bytes found size s r → Low r → Walked n s r
+  pub walk : (n : ℕ) (s : State) (r : Run) → Follows g h bytes found size s r → Low r → Walked n s r
   unfolding runAfter
   walk zero s r f low = record { answers = 0; state = s; steps = none; follows = f }
   walk (suc n) s r f low = by (r .session) refl (λ s′ r′ f′ low′. walk n s′ r′ f′ low′)

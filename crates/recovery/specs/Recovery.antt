@@ -38,26 +38,26 @@ pub data Interrupted (g : Geometry) (b₀ : Target) : Target → Type 0 where
   cut : {b b′ : Target} → Interrupted g b₀ b → (x : Start g) (l : Lists) (n k : ℕ) (s : State) → Leads x b l n k s → CutTo (s .target) b′
       → Interrupted g b₀ b′
 
+-- a session that was carried to its report
+pub record Ended {g : Geometry} (x : Start g) (b : Target) (l : Lists) : Type 0 where
+  pub answers : ℕ
+  pub state : State
+  pub leads : Leads x b l answers 0 state
+  pub report : Report
+  pub stands : state .stands ≡ Reported report
+
 -- ---- what the cuts leave
 
 -- VIRGIN is never stored, and unless KILL is, the board is again one that demand 3 allows, with its own IDs
 pub record Left (g : Geometry) (b₀ b : Target) : Type 0 where
   pub silicon : b .silicon ≡ b₀ .silicon
+  pub quiet : b .running ≡ idle
   pub neverVirgin : ¬ (b .memory .stored ≡ 0)
   pub startable : ¬ (b .memory .stored ≡ 4) → Startable g b
 
 -- 'The board may have started as anything demand 3 allows.'
 abbrev pub CutsLeave : Type 0
 CutsLeave = (g : Geometry) (b₀ b : Target) → Startable g b₀ → Interrupted g b₀ b → Left g b₀ b
-
--- KILL stays, with the flash and the locks: 'unless KILL had been stored' is 'unless KILL is stored in the end'
-pub record Killed (b₀ b : Target) : Type 0 where
-  pub level : b .memory .stored ≡ 4
-  pub flash : b .memory .flash ≡ b₀ .memory .flash
-  pub locks : b .memory .locks ≡ b₀ .memory .locks
-
-abbrev pub KillStays : Type 0
-KillStays = (g : Geometry) (b₀ b : Target) → b₀ .memory .stored ≡ 4 → b₀ .running ≡ idle → Interrupted g b₀ b → Killed b₀ b
 
 -- ---- the fresh session
 
@@ -68,14 +68,6 @@ pub record Loaded (i : Image) (s : State) (r : Report) : Type 0 where
   pub flash : s .target .memory .flash ≡ i .flash
   pub locks : s .target .memory .locks ≡ i .protection
   pub level : s .target .memory .stored ≡ i .header .level
-
--- a session that was carried to its report
-pub record Ended {g : Geometry} (x : Start g) (b : Target) (l : Lists) : Type 0 where
-  pub answers : ℕ
-  pub state : State
-  pub leads : Leads x b l answers 0 state
-  pub report : Report
-  pub stands : state .stands ≡ Reported report
 
 -- of the start x on the board b with these lists
 pub record Recovered {g : Geometry} (x : Start g) (b : Target) (l : Lists) : Type 0 where
@@ -91,3 +83,22 @@ abbrev pub RecoveryHolds : Type 0
 RecoveryHolds =
     (g : Geometry) (x : Start g) (b₀ b : Target) → Startable g b₀ → RightPart (imageIn x) (b₀ .silicon) → Interrupted g b₀ b
     → ¬ (b .memory .stored ≡ 4) → (l : Lists) → Recovered x b l
+
+-- ---- KILL
+
+-- KILL stays, with the flash and the locks: 'unless KILL had been stored' is 'unless KILL is stored in the end'
+pub record Killed (b₀ b : Target) : Type 0 where
+  pub level : b .memory .stored ≡ 4
+  pub flash : b .memory .flash ≡ b₀ .memory .flash
+  pub locks : b .memory .locks ≡ b₀ .memory .locks
+
+abbrev pub KillStays : Type 0
+KillStays = (g : Geometry) (b₀ b : Target) → b₀ .memory .stored ≡ 4 → b₀ .running ≡ idle → Interrupted g b₀ b → Killed b₀ b
+
+-- and then no session is done: each comes to its report, which is 26 at step 1, after thirty transfers
+pub record Closed {g : Geometry} (x : Start g) (b : Target) (l : Lists) : Type 0 where
+  pub told : (n k : ℕ) (s : State) → Leads x b l n k s → (r : Report) → s .stands ≡ Reported r → (r .number ≡ 26) × (r .step ≡ 1) × (r .transfers ≡ 30)
+  pub ends : Ended x b l
+
+abbrev pub KillCloses : Type 0
+KillCloses = (g : Geometry) (x : Start g) (b : Target) → b .memory .stored ≡ 4 → b .running ≡ idle → (l : Lists) → Closed x b l

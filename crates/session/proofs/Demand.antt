@@ -77,7 +77,7 @@ module _ (h : Header) (bytes : List ℕ) (none : imageFault h bytes ≡ 0) where
       by false e = is ∙ simp e
 
 module _ (g : Geometry) (h : Header) (bytes : List ℕ) (p : Passes g h bytes) where
-  first-follows : (b : Target) (l : Lists) → Follows g h bytes (p .found) ((all g h bytes (p .found) (p .checked)) .size) (begun (startedOn h) b l) (started b l)
+  pub first-follows : (b : Target) (l : Lists) → Follows g h bytes (p .found) ((all g h bytes (p .found) (p .checked)) .size) (begun (startedOn h) b l) (started b l)
   unfolding sequence opening acquire
   first-follows b l = record {
     header = refl;
@@ -123,7 +123,7 @@ most-from g FromProtected = omega arith
 
 -- ---- a report that stands
 
-reported-session : (i : Image) (x : Flow.SessionState) (r : Report) → outcomeAt i x ≡ Reported r → x ≡ reported (r .number) (r .step) (r .transfers)
+pub reported-session : (i : Image) (x : Flow.SessionState) (r : Report) → outcomeAt i x ≡ Reported r → x ≡ reported (r .number) (r .step) (r .transfers)
 reported-session i (running y n w p a k h) r e = let z : _≡_ {A = ℕ} 0 1 = cc in absurd (omega arith)
 reported-session i (reported x t h) r e =
     let same : record { number = x; step = t; transfers = h } ≡ r = cc in
