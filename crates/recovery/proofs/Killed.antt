@@ -2,7 +2,6 @@
 use mathlib.Core.List.{List}
 use mathlib.Core.Path.{_≡_, refl, ap, subst, _∙_}
 use Prim.Native.Nat.{ℕ}
-use native.Mathlib.Omega.{arith}
 use borrow.Author.Tests.{eq-eqb}
 use Rattle.flow.specs.Calls.{reset}
 use Rattle.flow.specs.Exchange.{decode, transferred, meetOn, meet}
@@ -18,10 +17,10 @@ use Rattle.parts.specs.declared.Geometry.{Geometry}
 use Rattle.recovery.specs.Recovery.{Start, Leads}
 use Rattle.session.specs.Calls.{State, Steps, none, answer, refusal, later, reaction, begun}
 use Rattle.session.proofs.Demand.{start-gives}
+use Rattle.session.proofs.Following.{no-packet}
 use Rattle.session.specs.Given.{startOf}
 use Rattle.session.specs.declared.Given.{Given}
-use Rattle.session.specs.declared.Outcome.the-variants.{Ask, Reported}
-use Rattle.session.specs.declared.Report.{Report}
+use Rattle.session.specs.declared.Outcome.the-variants.{Ask}
 
 -- as b₀ but for what has no charge, and nothing runs
 pub record Same (b₀ b : Target) : Type 0 where
@@ -68,9 +67,6 @@ module _ (g : Geometry) (b₀ : Target) (kill : b₀ .memory .stored ≡ 4) wher
       let only : Packets.Xres ≡ p = cc in
       subst (λ (q : Packet). Silent ((reaction g q s) .target)) only (reset-silent (s .target) same)
 
-  no-report : (s : State) (r : Report) → s .stands ≡ Ask Packets.Xres → s .stands ≡ Reported r → ⊥
-  no-report s r x e = let z : _≡_ {A = ℕ} 0 1 = cc in omega arith
-
   same-of : (s : State) → Met s → Same b₀ (s .target)
   same-of s (nothing x same) = same
   same-of s (silenced q) = q .same
@@ -82,7 +78,7 @@ module _ (g : Geometry) (b₀ : Target) (kill : b₀ .memory .stored ≡ 4) wher
   stays-silent s s′ (silenced q) (answer p e steps) = stays-silent _ s′ (silenced (packet-silent (decode p) (s .lists) (s .target) q)) steps
   stays-silent s s′ (nothing x same) (refusal lent a number e steps) = stays-silent _ s′ (nothing (rw e x) same) steps
   stays-silent s s′ (silenced q) (refusal lent a number e steps) = stays-silent _ s′ (silenced q) steps
-  stays-silent s s′ (nothing x same) (later a r e steps) = absurd (no-report s r x e)
+  stays-silent s s′ (nothing x same) (later a r e steps) = absurd (no-packet Packets.Xres r (s .stands) x e)
   stays-silent s s′ (silenced q) (later a r e steps) = stays-silent _ s′ (silenced q) steps
 
 -- a whole session leaves the board as it was

@@ -3,7 +3,8 @@
 use mathlib.Core.Bool.{Bool}
 use mathlib.Core.List.{List}
 use mathlib.Core.Path.{_≡_}
-use Prim.Native.Nat.{ℕ}
+use Prim.Native.Nat.{ℕ, suc}
+use Rattle.flow.specs.Calls.{dropped}
 use Rattle.flow.specs.Cuts.{CutTo}
 use Rattle.flow.specs.Target.{idle, Target, Lists}
 use Rattle.flow.specs.Terms.{Passes, Startable, RightPart, NoError}
@@ -102,3 +103,14 @@ pub record Closed {g : Geometry} (x : Start g) (b : Target) (l : Lists) : Type 0
 
 abbrev pub KillCloses : Type 0
 KillCloses = (g : Geometry) (x : Start g) (b : Target) → b .memory .stored ≡ 4 → b .running ≡ idle → (l : Lists) → Closed x b l
+
+-- ---- no cut, but a call that still runs
+
+-- a session begun while a call runs, say because the clip has slipped: its XRES drops the call as failed. From its first answer on it is one
+-- begun on what the drop leaves, which is what a cut may leave: so all of the above holds of it
+pub record Retried (g : Geometry) (b : Target) : Type 0 where
+  pub cut : CutTo b (dropped g (b .running) b)
+  pub same : (x : Start g) (l : Lists) (n k : ℕ) (s : State) → Leads x b l (suc n) k s → Leads x (dropped g (b .running) b) l (suc n) k s
+
+abbrev pub RetriesHold : Type 0
+RetriesHold = (g : Geometry) (b : Target) → Retried g b

@@ -41,7 +41,7 @@ use Rattle.session.proofs.Stepping.{fits, handing-stands, standing-new,
 same-packet : (p q : Packet) (o : Outcome) → o ≡ Ask p → o ≡ Ask q → p ≡ q
 same-packet p q o e f = cc
 
-no-packet : (p : Packet) (r : Report) (o : Outcome) → o ≡ Ask p → o ≡ Reported r → ⊥
+pub no-packet : (p : Packet) (r : Report) (o : Outcome) → o ≡ Ask p → o ≡ Reported r → ⊥
 no-packet p r o e f = let z : _≡_ {A = ℕ} 0 1 = cc in omega arith
 
 -- what stands is a request or the report
