@@ -200,6 +200,27 @@ fn declared(of: &str, types: &BTreeSet<(String, String)>) -> usize {
     lines
 }
 
+/// Lines without imports and blanks.
+fn lines_of(file: &str) -> usize {
+    let source = text(format!("crates/{file}"));
+    source.lines().filter(|l| !l.trim().is_empty() && !l.starts_with("use ")).count()
+}
+
+/// What Eleven adds to the list has as many lines as said.
+#[test]
+fn eleven_adds_so_many_lines() {
+    let page = promises();
+    let from = page.find("**For Eleven**").expect("its paragraph");
+    let paragraph = page[from..].split("\n\n").next().unwrap();
+    let files = quoted(paragraph);
+    assert_eq!(files.len(), 3);
+    for file in files {
+        let after = paragraph.split(file).nth(1).unwrap();
+        let said = after.split(|c: char| !c.is_ascii_digit()).find(|digits| !digits.is_empty());
+        assert_eq!(said, Some(lines_of(file).to_string().as_str()), "{file}");
+    }
+}
+
 /// The reading list for demand 3 is what its claim imports, each file after its imports, with its lines and their sum.
 #[test]
 fn reading_list_is_whole() {
@@ -222,12 +243,7 @@ fn reading_list_is_whole() {
     let mut total = 0;
     for (row, file) in rows.iter().zip(&files) {
         let of = file.split('/').next().unwrap();
-        let lines = if file.ends_with(".rt") {
-            declared(of, &types)
-        } else {
-            let source = text(format!("crates/{file}"));
-            source.lines().filter(|l| !l.trim().is_empty() && !l.starts_with("use ")).count()
-        };
+        let lines = if file.ends_with(".rt") { declared(of, &types) } else { lines_of(file) };
         assert_eq!(row[2], lines.to_string(), "{file}");
         total += lines;
     }

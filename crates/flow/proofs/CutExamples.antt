@@ -6,7 +6,7 @@ use Prim.Native.Nat.{ℕ}
 use native.Mathlib.Omega.{arith}
 use lib.ListN.{length, getD}
 use Rattle.flow.specs.Calls.{afterFailure}
-use Rattle.flow.specs.CutExamples.{during, under, left, CutMemoryExamples, CutExamples}
+use Rattle.flow.specs.CutExamples.{during, underWay, left, CutMemoryExamples, CutExamples}
 use Rattle.flow.specs.Target.{Residue, idle}
 use Rattle.flow.proofs.Keeping.{cut-keeps}
 use Rattle.parts.specs.Sizes.{PARAMS}
@@ -54,9 +54,9 @@ cut-examples = record {
     latch = refl;
     params = refl;
   };
-  rowLonger = λ c. omega (arith, ap length (c .flash) ∙ (cut-keeps (during 1 PARAMS (under 6)) (c .residue)) .flash);
+  rowLonger = λ c. omega (arith, ap length (c .flash) ∙ (cut-keeps (during 1 PARAMS (underWay 6)) (c .residue)) .flash);
   rowLevel = λ c. omega (arith, c .stored ∙ row-level (c .residue));
-  quiet = λ c. let no : under 6 ≡ idle = c .quiet in let z : _≡_ {A = ℕ} 0 1 = cc in omega arith;
+  quiet = λ c. let no : underWay 6 ≡ idle = c .quiet in let z : _≡_ {A = ℕ} 0 1 = cc in omega arith;
   latch = λ c. omega (arith, c .latch);
   params = λ c. omega (arith, c .params);
   silicon = λ b b′ c. c .silicon;

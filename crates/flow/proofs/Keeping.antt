@@ -21,7 +21,7 @@ use Rattle.flow.specs.declared.Place.the-variants.{InFlash, InLocks, InP
 use Rattle.flow.specs.declared.Request.{Request}
 use Rattle.flow.specs.declared.Request.the-variants.{Xres, LineReset, ReadIdcode, ReadDrw, WriteTar, WriteDrw, WriteSetup}
 use Rattle.flow.proofs.Lists.{length-lay}
-use Rattle.flow.proofs.Meeting.{packet-keeps}
+use Rattle.flow.proofs.Meeting.{carried-keeps, packet-keeps}
 use Rattle.image.specs.Image.{Image}
 use Rattle.parts.specs.Sizes.{rowBytes, locksIn}
 use Rattle.parts.specs.declared.Geometry.{Geometry}
@@ -134,7 +134,7 @@ advance-keeps i r = by (r .session)
     by : (s : SessionState) → Keeps (r .target) ((advanceBy i s r) .target)
     by (running y n w p a k h) =
         packet-keeps (i .geometry) (Keeps (r .target)) (λ b k. then (r .target) b (reset (i .geometry) b) k (reset-keeps (i .geometry) b))
-        (λ q o c b k. then (r .target) b (carry (i .geometry) q o c b) k (carry-keeps (i .geometry) q o c b)) (decode (packetOf ((moveAt i y n) .request))) (r .lists) (r .target) (keep (r .target))
+        (λ q. carried-keeps (i .geometry) (Keeps (r .target)) q (λ o c b k. then (r .target) b (carry (i .geometry) q o c b) k (carry-keeps (i .geometry) q o c b))) (decode (packetOf ((moveAt i y n) .request))) (r .lists) (r .target) (keep (r .target))
     by (reported n s h) = keep (r .target)
 
 pub run-keeps : (i : Image) (n : ℕ) (r : Run) → Keeps (r .target) ((runAfter i n r) .target)

@@ -1,4 +1,4 @@
--- What every transfer that is carried out keeps, and XRES keeps, every packet keeps. Assumes nothing.
+-- What every transfer keeps, and XRES keeps, every packet keeps. Assumes nothing.
 use mathlib.Core.Bool.{Bool, true, false, _&&_, not}
 use Prim.Native.Nat.{ℕ}
 use Rattle.flow.specs.Calls.{reset}
@@ -13,28 +13,31 @@ use Rattle.flow.specs.declared.Request.the-variants.{Xres, LineReset, Re
 use Rattle.parts.specs.declared.Geometry.{Geometry}
 
 module _ (g : Geometry) (P : Target → Type 0) where
-  -- P is kept by a request that is carried out
+  -- P is kept by a request that is carried out, and by the transfer of it
   abbrev pub Carries : Request → Type 0
   Carries q = (o : ℕ) (c : CallOutcome) (b : Target) → P b → P (carry g q o c b)
+
+  abbrev pub Transfers : Request → Type 0
+  Transfers q = (e : LineEvent) (l : Lists) (b : Target) → P b → P ((transferred g q e l b) .target)
 
   met-keeps : (y : Bool) (q : Request) → Carries q → (e : LineEvent) (l : Lists) (a : Reply) (b : Target) → P b → P ((met y g q e l a b) .target)
   met-keeps true q carries e l a b p = carries (e .other) (nextOutcome (l .calls)) b p
   met-keeps false q carries e l a b p = p
 
-  transferred-keeps : (q : Request) → Carries q → (e : LineEvent) (l : Lists) (b : Target) → P b → P ((transferred g q e l b) .target)
+  pub carried-keeps : (q : Request) → Carries q → Transfers q
   unfolding transferred
-  transferred-keeps q carries e l b p = met-keeps (not (killed b) && not (barred g q b) && carriedOut (e .outcome)) q carries e l _ b p
+  carried-keeps q carries e l b p = met-keeps (not (killed b) && not (barred g q b) && carriedOut (e .outcome)) q carries e l _ b p
 
   module _ (resets : (b : Target) → P b → P (reset g b)) where
-    pub request-keeps : (q : Request) → Carries q → (l : Lists) (b : Target) → P b → P ((meetOn g (Known q) l b) .target)
-    request-keeps Xres carries l b p = resets b p
-    request-keeps LineReset carries l b p = p
-    request-keeps ReadIdcode carries l b p = transferred-keeps ReadIdcode carries (nextEvent (l .line)) l b p
-    request-keeps ReadDrw carries l b p = transferred-keeps ReadDrw carries (nextEvent (l .line)) l b p
-    request-keeps (WriteTar a) carries l b p = transferred-keeps (WriteTar a) carries (nextEvent (l .line)) l b p
-    request-keeps (WriteDrw w) carries l b p = transferred-keeps (WriteDrw w) carries (nextEvent (l .line)) l b p
-    request-keeps (WriteSetup r w) carries l b p = transferred-keeps (WriteSetup r w) carries (nextEvent (l .line)) l b p
+    pub request-keeps : (q : Request) → Transfers q → (l : Lists) (b : Target) → P b → P ((meetOn g (Known q) l b) .target)
+    request-keeps Xres keeps l b p = resets b p
+    request-keeps LineReset keeps l b p = p
+    request-keeps ReadIdcode keeps l b p = keeps (nextEvent (l .line)) l b p
+    request-keeps ReadDrw keeps l b p = keeps (nextEvent (l .line)) l b p
+    request-keeps (WriteTar a) keeps l b p = keeps (nextEvent (l .line)) l b p
+    request-keeps (WriteDrw w) keeps l b p = keeps (nextEvent (l .line)) l b p
+    request-keeps (WriteSetup r w) keeps l b p = keeps (nextEvent (l .line)) l b p
 
-    pub packet-keeps : ((q : Request) → Carries q) → (d : Decoded) (l : Lists) (b : Target) → P b → P ((meetOn g d l b) .target)
-    packet-keeps carries (Known q) l b p = request-keeps q (carries q) l b p
-    packet-keeps carries Unknown l b p = p
+    pub packet-keeps : ((q : Request) → Transfers q) → (d : Decoded) (l : Lists) (b : Target) → P b → P ((meetOn g d l b) .target)
+    packet-keeps keeps (Known q) l b p = request-keeps q (keeps q) l b p
+    packet-keeps keeps Unknown l b p = p

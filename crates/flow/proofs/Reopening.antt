@@ -1,12 +1,13 @@
 -- A session on a PROTECTED board of the right part comes to where the reopening call runs, so that a cut can fall into it. Assumes nothing.
 use mathlib.Core.Bool.{false≢true}
-use mathlib.Core.List.{List, [], _++_}
+use mathlib.Core.List.{List, _++_}
 use mathlib.Core.Logic.{inr}
 use mathlib.Core.Path.{_≡_, refl, sym, subst, _∙_}
 use Prim.Native.Nat.{ℕ, suc, _+_, _*_, _≤_, _<_}
 use native.Mathlib.Omega.{arith}
 use lib.ListN.{drop}
 use Rattle.flow.specs.Calls.{sysargAfter, sysreqAfter}
+use Rattle.flow.specs.BoardExamples.{none}
 use Rattle.flow.specs.CutExamples.{Reopening}
 use Rattle.flow.specs.Judge.{judge}
 use Rattle.flow.specs.Monitor.{noWaits, watching}
@@ -14,7 +15,7 @@ use Rattle.flow.specs.Plan.{trafficIn, pollsIn}
 use Rattle.flow.specs.Run.{Run, advance, runAfter, started}
 use Rattle.flow.specs.Sequence.{key, write, read, poll, call, acquire, silicon, program, opening, afterwards, sequence}
 use Rattle.flow.specs.Session.{SessionState, running, judgedTo}
-use Rattle.flow.specs.Target.{Target, Memory, Lists, nextOutcome}
+use Rattle.flow.specs.Target.{Target, Memory, nextOutcome}
 use Rattle.flow.specs.Terms.{Passes, Startable, RightPart, calmEnd, callsEnd}
 use Rattle.flow.specs.declared.Entry.the-variants.{FromOpen, FromProtected}
 use Rattle.flow.specs.declared.Move.{Move}
@@ -45,9 +46,6 @@ pub record Reopens (m : Memory) (b : Target) : Type 0 where
 -- the most that these moves may cost
 abbrev cost : List Move → ℕ
 cost ms = 17 * (trafficIn ms) .transfers + 509949 * pollsIn ms + 13 * (trafficIn ms) .lineResets
-
-abbrev empty : Lists
-empty = record { line = []; calls = [] }
 
 module _ (i : Image) (b : Target) (right : RightIds i (b .silicon)) where
   -- the writes that start the call
@@ -121,7 +119,7 @@ module _ (i : Image) (b : Target) (right : RightIds i (b .silicon)) where
         (poll (i .geometry) 3 ++ read 3 (sysargOf (i .geometry)) Status)
         ++ (acquire (i .geometry) ++ (silicon (i .geometry) Reopened ++ program i))
 
-    start : Stands short FromOpen 0 (opening i) (afterwards i FromOpen) (withMoves lead behind) (firstEnv empty)
+    start : Stands short FromOpen 0 (opening i) (afterwards i FromOpen) (withMoves lead behind) (firstEnv none)
     unfolding short sequence
     start = record {
       at = refl;
@@ -143,7 +141,7 @@ module _ (i : Image) (b : Target) (right : RightIds i (b .silicon)) where
     unfolding judge
     enters hb n h = rw (ids-read i (b .silicon) (b .memory) (b .memory .stored) hb, right .silicon, level-read (b .silicon) (b .memory .stored) hb (omega arith), two)
 
-    way : Bytes (b .silicon) → Fresh short (b .memory) 0 (core b) → Reaches short (started b empty)
+    way : Bytes (b .silicon) → Fresh short (b .memory) 0 (core b) → Reaches short (started b none)
     unfolding short opening silicon read withMoves
     way hb p =
         let g = i .geometry in
@@ -164,12 +162,12 @@ module _ (i : Image) (b : Target) (right : RightIds i (b .silicon)) where
 -- for an image that passes
 pub comes-to-reopen : (g : Geometry) (h : Header) (bytes : List ℕ) → Passes g h bytes → (b : Target) → Startable g b → b .memory .stored ≡ 2
     → RightPart (imageOf g h bytes) (b .silicon)
-    → record { n : ℕ; is : Reopens (b .memory) ((runAfter (imageOf g h bytes) n (started b empty)) .target) }
+    → record { n : ℕ; is : Reopens (b .memory) ((runAfter (imageOf g h bytes) n (started b none)) .target) }
 unfolding short
 comes-to-reopen g h bytes p b s two right =
     let i = imageOf g h bytes in
     let ids = right-ids i (b .silicon) right in
-    passes i b ids (started b empty)
+    passes i b ids (started b none)
     (way i b ids (table-facts g h bytes p) two (record { high = s .high; low = s .low; revision = s .revision; family = s .family })
     (record { silicon = refl; memory = refl; room = s .params; quiet = s .quiet }))
     (omega arith)

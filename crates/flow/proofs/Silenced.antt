@@ -18,32 +18,32 @@ use Rattle.image.specs.Image.{Image}
 
 -- where a session stands with such a target, m requests from its end: before its XRES, at the line reset or the read of attempt a with c
 -- attempts after it, or at its end
-pub data Knocks (b : Target) (m : ℕ) : SessionState → Type 0 where
-  starts : m ≡ 61 → b .memory .stored ≡ 4 → b .running ≡ idle → Knocks b m (running FromOpen 0 0 0 0 0 0)
-  clears : (a c : ℕ) → a + suc c ≡ 30 → m ≡ 2 + 2 * c → b .effect ≡ 4 → Knocks b m (running FromOpen 1 0 0 a 0 a)
-  asks : (a c : ℕ) → a + suc c ≡ 30 → m ≡ 1 + 2 * c → b .effect ≡ 4 → Knocks b m (running FromOpen 2 0 0 a 0 a)
-  gives-up : m ≡ 0 → Knocks b m (reported 26 1 30)
+pub data Attempting (b : Target) (m : ℕ) : SessionState → Type 0 where
+  atXres : m ≡ 61 → b .memory .stored ≡ 4 → b .running ≡ idle → Attempting b m (running FromOpen 0 0 0 0 0 0)
+  atLineReset : (a c : ℕ) → a + suc c ≡ 30 → m ≡ 2 + 2 * c → b .effect ≡ 4 → Attempting b m (running FromOpen 1 0 0 a 0 a)
+  atIdcode : (a c : ℕ) → a + suc c ≡ 30 → m ≡ 1 + 2 * c → b .effect ≡ 4 → Attempting b m (running FromOpen 2 0 0 a 0 a)
+  atReport : m ≡ 0 → Attempting b m (reported 26 1 30)
 
 -- one more attempt, or the last
-missed : (b : Target) (m a c : ℕ) → a + suc c ≡ 30 → m ≡ 2 * c → b .effect ≡ 4 → Knocks b m (tryAgain (ltb (suc a) 30) FromOpen 2 1 0 a 0 (suc a))
+missed : (b : Target) (m a c : ℕ) → a + suc c ≡ 30 → m ≡ 2 * c → b .effect ≡ 4 → Attempting b m (tryAgain (ltb (suc a) 30) FromOpen 2 1 0 a 0 (suc a))
 missed b m a zero h e dark =
     let last : a ≡ 29 = omega arith in
     let over : ltb (suc a) 30 ≡ false = le-ltb (suc a) 30 (omega arith) in
-    rw (over, last) (gives-up (omega arith))
-missed b m a (suc c) h e dark = rw (lt-ltb (suc a) 30 (omega arith)) (clears (suc a) c (omega arith) (omega arith) dark)
+    rw (over, last) (atReport (omega arith))
+missed b m a (suc c) h e dark = rw (lt-ltb (suc a) 30 (omega arith)) (atLineReset (suc a) c (omega arith) (omega arith) dark)
 
 -- what the standing request leads to
 module _ (i : Image) (r : Run) where
   abbrev On : ℕ → SessionState → Type 0
-  On m s = Knocks ((advanceBy i s r) .target) m ((advanceBy i s r) .session)
+  On m s = Attempting ((advanceBy i s r) .target) m ((advanceBy i s r) .session)
 
   on-xres : r .target .memory .stored ≡ 4 → r .target .running ≡ idle → On 60 (running FromOpen 0 0 0 0 0 0)
   unfolding stepOf meet decode reset sequence opening acquire
-  on-xres kill quiet = rw quiet (clears 0 29 refl refl kill)
+  on-xres kill quiet = rw quiet (atLineReset 0 29 refl refl kill)
 
   on-line-reset : (m a c : ℕ) → a + suc c ≡ 30 → m ≡ 1 + 2 * c → r .target .effect ≡ 4 → On m (running FromOpen 1 0 0 a 0 a)
   unfolding stepOf meet decode sequence opening acquire
-  on-line-reset m a c h e dark = asks a c h e dark
+  on-line-reset m a c h e dark = atIdcode a c h e dark
 
   on-idcode : (m a c : ℕ) → a + suc c ≡ 30 → m ≡ 2 * c → r .target .effect ≡ 4 → On m (running FromOpen 2 0 0 a 0 a)
   unfolding stepOf sequence opening acquire transferred
@@ -51,24 +51,24 @@ module _ (i : Image) (r : Run) where
       rw (meets (i .geometry) attempt (r .lists) (r .target), eq-eqb (r .target .effect) 4 dark, silence-heard ReadIdcode ((nextEvent (r .lists .line)) .filler))
       (missed (r .target) m a c h e dark)
 
-  advance-knocks : (m : ℕ) → Knocks (r .target) m (r .session) → Knocks ((advance i r) .target) (m - 1) ((advance i r) .session)
+  advance-attempting : (m : ℕ) → Attempting (r .target) m (r .session) → Attempting ((advance i r) .target) (m - 1) ((advance i r) .session)
   unfolding advance
-  advance-knocks m = by (r .session) refl
+  advance-attempting m = by (r .session) refl
     where
-      by : (s : SessionState) → r .session ≡ s → Knocks (r .target) m s → On (m - 1) s
-      by s e (starts h kill quiet) = rw h (on-xres kill quiet)
-      by s e (clears a c h left dark) = on-line-reset (m - 1) a c h (omega arith) dark
-      by s e (asks a c h left dark) = on-idcode (m - 1) a c h (omega arith) dark
-      by s e (gives-up h) = rw e (gives-up (omega arith))
+      by : (s : SessionState) → r .session ≡ s → Attempting (r .target) m s → On (m - 1) s
+      by s e (atXres h kill quiet) = rw h (on-xres kill quiet)
+      by s e (atLineReset a c h left dark) = on-line-reset (m - 1) a c h (omega arith) dark
+      by s e (atIdcode a c h left dark) = on-idcode (m - 1) a c h (omega arith) dark
+      by s e (atReport h) = rw e (atReport (omega arith))
 
-pub run-knocks : (i : Image) (n m : ℕ) (r : Run) → Knocks (r .target) m (r .session) → Knocks ((runAfter i n r) .target) (m - n) ((runAfter i n r) .session)
+pub run-attempting : (i : Image) (n m : ℕ) (r : Run) → Attempting (r .target) m (r .session) → Attempting ((runAfter i n r) .target) (m - n) ((runAfter i n r) .session)
 unfolding runAfter
-run-knocks i zero m r k = let same : m - 0 ≡ m = omega arith in rw same k
-run-knocks i (suc n) m r k = let less : m - suc n ≡ m - 1 - n = omega arith in rw less (run-knocks i n (m - 1) (advance i r) (advance-knocks i r m k))
+run-attempting i zero m r k = let same : m - 0 ≡ m = omega arith in rw same k
+run-attempting i (suc n) m r k = let less : m - suc n ≡ m - 1 - n = omega arith in rw less (run-attempting i n (m - 1) (advance i r) (advance-attempting i r m k))
 
 -- at the end
-pub at-end : {b : Target} (s : SessionState) → Knocks b 0 s → s ≡ reported 26 1 30
-at-end s (starts h kill quiet) = absurd (omega arith)
-at-end s (clears a c h left dark) = absurd (omega arith)
-at-end s (asks a c h left dark) = absurd (omega arith)
-at-end s (gives-up h) = refl
+pub at-end : {b : Target} (s : SessionState) → Attempting b 0 s → s ≡ reported 26 1 30
+at-end s (atXres h kill quiet) = absurd (omega arith)
+at-end s (atLineReset a c h left dark) = absurd (omega arith)
+at-end s (atIdcode a c h left dark) = absurd (omega arith)
+at-end s (atReport h) = refl

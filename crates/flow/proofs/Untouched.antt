@@ -13,7 +13,7 @@ use Rattle.flow.specs.declared.Place.the-variants.{InFlash, InLocks, InP
 use Rattle.flow.specs.declared.Request.{Request}
 use Rattle.flow.specs.declared.Request.the-variants.{Xres, LineReset, ReadIdcode, ReadDrw, WriteTar, WriteDrw, WriteSetup}
 use Rattle.flow.proofs.Acquiring.{still-0, still-15}
-use Rattle.flow.proofs.Meeting.{request-keeps}
+use Rattle.flow.proofs.Meeting.{carried-keeps, request-keeps}
 use Rattle.parts.specs.declared.Geometry.{Geometry}
 
 -- calls that alter nothing, failed or not
@@ -99,4 +99,4 @@ module _ (g : Geometry) {m : Memory} where
   -- a packet that the target reads as the request that was meant
   pub meet-untouched : (q : Request) → decode (packetOf q) ≡ Known q → Mild q → (l : Lists) (b : Target) → Untouched m b → Untouched m ((meet g (packetOf q) l b) .target)
   unfolding meet
-  meet-untouched q e h l b u = rw e (request-keeps g (Untouched m) reset-untouched q (carried q h) l b u)
+  meet-untouched q e h l b u = rw e (request-keeps g (Untouched m) reset-untouched q (carried-keeps g (Untouched m) q (carried q h)) l b u)

@@ -16,15 +16,15 @@ abbrev pub during : (level sysarg : ℕ) → Running → Target
 during l a x = boardWith (small l) l SYSREQ 7 a 0 (0x61 ∷ 0x62 ∷ 0x63 ∷ []) x
 
 -- call c, which with the power on would be busy three times more and then succeed
-abbrev pub under : (c : ℕ) → Running
-under c = busy 3 true (residue 0 false) c
+abbrev pub underWay : (c : ℕ) → Running
+underWay c = busy 3 true (residue 0 false) c
 
 -- the bytes that `residue` leaves
 abbrev pub scrambled : (stored : ℕ) → Memory
 scrambled l = memoryWith (21 ∷ 22 ∷ 0 ∷ 0 ∷ []) (23 ∷ 0 ∷ 0 ∷ 0 ∷ []) (24 ∷ 0 ∷ 0 ∷ 0 ∷ []) l
 
 abbrev pub left : (level sysarg c : ℕ) → Residue → Memory
-left l a c r = cutMemory (during l a (under c)) r
+left l a c r = cutMemory (during l a (underWay c)) r
 
 pub record CutMemoryExamples : Type 0 where
   -- with nothing under way all stays
@@ -54,8 +54,8 @@ pub record Reopening (b : Target) : Type 0 where
   pub effect : b .effect ≡ 2
 
 -- what the cut of b with this residue leaves, where the latch, PARAMS and the registers have come to hold this
-abbrev pub woken : Target → Residue → (latch params : List ℕ) → (register : ℕ) → Target
-woken b r latch params w = record {
+abbrev pub poweredUp : Target → Residue → (latch params : List ℕ) → (register : ℕ) → Target
+poweredUp b r latch params w = record {
   silicon = b .silicon;
   memory = record { flash = (cutMemory b r) .flash; locks = (cutMemory b r) .locks; latch = latch; stored = (cutMemory b r) .stored };
   effect = w;
@@ -75,17 +75,17 @@ other m ps x = boardWith m 1 SYSREQ 7 PARAMS 0 ps x
 pub record CutExamples : Type 0 where
   -- any residue; and what has no charge is anything of its size
   pub free : (b : Target) (r : Residue) (latch params : List ℕ) (register : ℕ)
-      → length latch ≡ length (b .memory .latch) → length params ≡ length (b .params) → CutTo b (woken b r latch params register)
+      → length latch ≡ length (b .memory .latch) → length params ≡ length (b .params) → CutTo b (poweredUp b r latch params register)
   -- of a board at rest, no other flash, locks or level
   pub otherFlash : ¬ CutTo (during 1 PARAMS idle) (other (memoryWith (1 ∷ 2 ∷ 3 ∷ 5 ∷ []) (5 ∷ 6 ∷ 7 ∷ 8 ∷ []) (9 ∷ 10 ∷ 11 ∷ 12 ∷ []) 1) (0x61 ∷ 0x62 ∷ 0x63 ∷ []) idle)
   pub otherLocks : ¬ CutTo (during 1 PARAMS idle) (other (memoryWith (1 ∷ 2 ∷ 3 ∷ 4 ∷ []) (5 ∷ 6 ∷ 7 ∷ 9 ∷ []) (9 ∷ 10 ∷ 11 ∷ 12 ∷ []) 1) (0x61 ∷ 0x62 ∷ 0x63 ∷ []) idle)
   pub otherLevel : ¬ CutTo (during 1 PARAMS idle) (other (small 2) (0x61 ∷ 0x62 ∷ 0x63 ∷ []) idle)
   -- of a row's call any flash and locks of their sizes, and the level that was
-  pub rowFlash : CutTo (during 1 PARAMS (under 6)) (other (memoryWith (31 ∷ 32 ∷ 33 ∷ 34 ∷ []) (35 ∷ 36 ∷ 37 ∷ 38 ∷ []) (0 ∷ 0 ∷ 0 ∷ 0 ∷ []) 1) (0 ∷ 0 ∷ 0 ∷ []) idle)
-  pub rowLonger : ¬ CutTo (during 1 PARAMS (under 6)) (other (memoryWith (31 ∷ 32 ∷ 33 ∷ 34 ∷ 35 ∷ []) (5 ∷ 6 ∷ 7 ∷ 8 ∷ []) (9 ∷ 10 ∷ 11 ∷ 12 ∷ []) 1) (0x61 ∷ 0x62 ∷ 0x63 ∷ []) idle)
-  pub rowLevel : ¬ CutTo (during 1 PARAMS (under 6)) (other (small 4) (0x61 ∷ 0x62 ∷ 0x63 ∷ []) idle)
+  pub rowFlash : CutTo (during 1 PARAMS (underWay 6)) (other (memoryWith (31 ∷ 32 ∷ 33 ∷ 34 ∷ []) (35 ∷ 36 ∷ 37 ∷ 38 ∷ []) (0 ∷ 0 ∷ 0 ∷ 0 ∷ []) 1) (0 ∷ 0 ∷ 0 ∷ []) idle)
+  pub rowLonger : ¬ CutTo (during 1 PARAMS (underWay 6)) (other (memoryWith (31 ∷ 32 ∷ 33 ∷ 34 ∷ 35 ∷ []) (5 ∷ 6 ∷ 7 ∷ 8 ∷ []) (9 ∷ 10 ∷ 11 ∷ 12 ∷ []) 1) (0x61 ∷ 0x62 ∷ 0x63 ∷ []) idle)
+  pub rowLevel : ¬ CutTo (during 1 PARAMS (underWay 6)) (other (small 4) (0x61 ∷ 0x62 ∷ 0x63 ∷ []) idle)
   -- nothing runs on, and sizes and IDs stay
-  pub quiet : ¬ CutTo (during 1 PARAMS (under 6)) (during 1 PARAMS (under 6))
+  pub quiet : ¬ CutTo (during 1 PARAMS (underWay 6)) (during 1 PARAMS (underWay 6))
   pub latch : ¬ CutTo (during 1 PARAMS idle) (other (memoryWith (1 ∷ 2 ∷ 3 ∷ 4 ∷ []) (5 ∷ 6 ∷ 7 ∷ 8 ∷ []) (9 ∷ 10 ∷ 11 ∷ []) 1) (0x61 ∷ 0x62 ∷ 0x63 ∷ []) idle)
   pub params : ¬ CutTo (during 1 PARAMS idle) (other (small 1) (0x61 ∷ 0x62 ∷ []) idle)
   pub silicon : (b b′ : Target) → CutTo b b′ → b′ .silicon ≡ b .silicon

@@ -2,7 +2,7 @@
 use mathlib.Core.Path.{_≡_, refl, sym, ap, subst, _∙_}
 use Prim.Native.Nat.{ℕ, _-_, _≤_}
 use native.Mathlib.Omega.{arith}
-use Rattle.flow.proofs.Silenced.{Knocks, starts, clears, asks, gives-up, run-knocks, at-end}
+use Rattle.flow.proofs.Silenced.{Attempting, atXres, atLineReset, atIdcode, atReport, run-attempting, at-end}
 use Rattle.flow.specs.Plan.{mostTraffic, plan, loops}
 use Rattle.flow.specs.Run.{runAfter, started}
 use Rattle.flow.specs.Session.{running, reported}
@@ -12,6 +12,7 @@ use Rattle.image.specs.Image.{Image}
 use Rattle.parts.specs.Sizes.{imageSize}
 use Rattle.parts.specs.declared.Geometry.{Geometry}
 use Rattle.recovery.specs.Recovery.{Start, imageIn, Leads, Ended, KillCloses}
+use Rattle.recovery.proofs.Killed.{session-silent}
 use Rattle.recovery.proofs.Walking.{walk}
 use Rattle.session.proofs.Counted.{countIn}
 use Rattle.session.proofs.Demand.{all, start-gives, first-follows, reported-session}
@@ -29,17 +30,17 @@ thirty : (g : Geometry) → 30 ≤ mostOf g
 unfolding mostTraffic plan loops
 thirty g = omega arith
 
-few : {b : Target} {m : ℕ} (s : Flow.SessionState) → Knocks b m s → countIn s ≤ 30
-few s (starts h kill quiet) = omega arith
-few s (clears a c h left dark) = omega arith
-few s (asks a c h left dark) = omega arith
-few s (gives-up h) = omega arith
+few : {b : Target} {m : ℕ} (s : Flow.SessionState) → Attempting b m s → countIn s ≤ 30
+few s (atXres h kill quiet) = omega arith
+few s (atLineReset a c h left dark) = omega arith
+few s (atIdcode a c h left dark) = omega arith
+few s (atReport h) = omega arith
 
-says : {b : Target} {m : ℕ} (s : Flow.SessionState) → Knocks b m s → (x t c : ℕ) → s ≡ reported x t c → (x ≡ 26) × (t ≡ 1) × (c ≡ 30)
-says s (starts h kill quiet) x t c e = let z : _≡_ {A = ℕ} 0 1 = cc in absurd (omega arith)
-says s (clears a d h left dark) x t c e = let z : _≡_ {A = ℕ} 0 1 = cc in absurd (omega arith)
-says s (asks a d h left dark) x t c e = let z : _≡_ {A = ℕ} 0 1 = cc in absurd (omega arith)
-says s (gives-up h) x t c e = (cc, cc, cc)
+says : {b : Target} {m : ℕ} (s : Flow.SessionState) → Attempting b m s → (x t c : ℕ) → s ≡ reported x t c → (x ≡ 26) × (t ≡ 1) × (c ≡ 30)
+says s (atXres h kill quiet) x t c e = let z : _≡_ {A = ℕ} 0 1 = cc in absurd (omega arith)
+says s (atLineReset a d h left dark) x t c e = let z : _≡_ {A = ℕ} 0 1 = cc in absurd (omega arith)
+says s (atIdcode a d h left dark) x t c e = let z : _≡_ {A = ℕ} 0 1 = cc in absurd (omega arith)
+says s (atReport h) x t c e = (cc, cc, cc)
 
 module _ {g : Geometry} (x : Start g) (b : Target) (kill : b .memory .stored ≡ 4) (quiet : b .running ≡ idle) (l : Lists) where
   abbrev i : Image
@@ -51,11 +52,11 @@ module _ {g : Geometry} (x : Start g) (b : Target) (kill : b .memory .stored ≡
   abbrev size : length (x .bytes) ≡ imageSize g
   size = (all g (x .header) (x .bytes) (x .passes .found) (x .passes .checked)) .size
 
-  knocks : (j : ℕ) → Knocks ((runAfter i j (started b l)) .target) (61 - j) ((runAfter i j (started b l)) .session)
-  knocks j = run-knocks i j 61 (started b l) (starts refl kill quiet)
+  attempting : (j : ℕ) → Attempting ((runAfter i j (started b l)) .target) (61 - j) ((runAfter i j (started b l)) .session)
+  attempting j = run-attempting i j 61 (started b l) (atXres refl kill quiet)
 
   low : (j : ℕ) → countIn ((runAfter i j (started b l)) .session) ≤ mostOf g
-  low j = omega (arith, few _ (knocks j), thirty g)
+  low j = omega (arith, few _ (attempting j), thirty g)
 
   follows : Follows g (x .header) (x .bytes) (x .passes .found) size first (started b l)
   follows =
@@ -65,7 +66,7 @@ module _ {g : Geometry} (x : Start g) (b : Target) (kill : b .memory .stored ≡
   told : (n k : ℕ) (s : State) → Leads x b l n k s → (r : Report) → s .stands ≡ Reported r → (r .number ≡ 26) × (r .step ≡ 1) × (r .transfers ≡ 30)
   told n k s leads r e =
       let f = follow g (x .header) (x .bytes) (x .passes .found) size n k first s (started b l) follows low leads in
-      says _ (knocks n) (r .number) (r .step) (r .transfers) (reported-session i ((runAfter i n (started b l)) .session) r (sym (f .stands) ∙ e))
+      says _ (attempting n) (r .number) (r .step) (r .transfers) (reported-session i ((runAfter i n (started b l)) .session) r (sym (f .stands) ∙ e))
 
   ends : Ended x b l
   ends =
@@ -75,8 +76,8 @@ module _ {g : Geometry} (x : Start g) (b : Target) (kill : b .memory .stored ≡
         state = w .state;
         leads = w .steps;
         report = record { number = 26; step = 1; transfers = 30 };
-        stands = w .follows .stands ∙ ap (outcomeAt i) (at-end _ (knocks 61));
+        stands = w .follows .stands ∙ ap (outcomeAt i) (at-end _ (attempting 61));
       }
 
 pub kill-closes : KillCloses
-kill-closes g x b kill quiet l = record { told = told x b kill quiet l; ends = ends x b kill quiet l }
+kill-closes g x b kill quiet l = record { memory = λ n k s leads. (session-silent x b kill quiet l n k s leads) .memory; told = told x b kill quiet l; ends = ends x b kill quiet l }

@@ -3,16 +3,16 @@ use mathlib.Core.List.{List}
 use mathlib.Core.Path.{_≡_, refl, ap, subst, _∙_}
 use Prim.Native.Nat.{ℕ}
 use borrow.Author.Tests.{eq-eqb}
+use Rattle.flow.proofs.Meeting.{packet-keeps}
 use Rattle.flow.specs.Calls.{reset}
 use Rattle.flow.specs.Exchange.{decode, transferred, meetOn, meet}
-use Rattle.flow.specs.Target.{Memory, idle, Target, Lists, nextEvent}
+use Rattle.flow.specs.Target.{Memory, idle, Target, Lists}
 use Rattle.flow.specs.declared.Decoded.{Decoded}
-use Rattle.flow.specs.declared.Decoded.the-variants.{Known, Unknown}
 use Rattle.flow.specs.declared.LineEvent.{LineEvent}
 use Rattle.flow.specs.declared.Packet.{Packet}
 use Rattle.flow.specs.declared.Packet.the-variants as Packets
 use Rattle.flow.specs.declared.Request.{Request}
-use Rattle.flow.specs.declared.Request.the-variants.{Xres, LineReset, ReadIdcode, ReadDrw, WriteTar, WriteDrw, WriteSetup}
+use Rattle.flow.specs.declared.Request.the-variants.{Xres}
 use Rattle.parts.specs.declared.Geometry.{Geometry}
 use Rattle.recovery.specs.Recovery.{Start, Leads}
 use Rattle.session.specs.Calls.{State, Steps, none, answer, refusal, later, reaction, begun}
@@ -47,14 +47,7 @@ module _ (g : Geometry) (b₀ : Target) (kill : b₀ .memory .stored ≡ 4) wher
   transfer-silent q e l b s = rw (eq-eqb (b .effect) 4 (s .effect)) s
 
   packet-silent : (d : Decoded) (l : Lists) (b : Target) → Silent b → Silent ((meetOn g d l b) .target)
-  packet-silent (Known Xres) l b s = reset-silent b (s .same)
-  packet-silent (Known LineReset) l b s = s
-  packet-silent (Known ReadIdcode) l b s = transfer-silent ReadIdcode (nextEvent (l .line)) l b s
-  packet-silent (Known ReadDrw) l b s = transfer-silent ReadDrw (nextEvent (l .line)) l b s
-  packet-silent (Known (WriteTar a)) l b s = transfer-silent (WriteTar a) (nextEvent (l .line)) l b s
-  packet-silent (Known (WriteDrw w)) l b s = transfer-silent (WriteDrw w) (nextEvent (l .line)) l b s
-  packet-silent (Known (WriteSetup r w)) l b s = transfer-silent (WriteSetup r w) (nextEvent (l .line)) l b s
-  packet-silent Unknown l b s = s
+  packet-silent = packet-keeps g Silent (λ b s. reset-silent b (s .same)) transfer-silent
 
   -- before the first XRES the board has met nothing
   data Met (s : State) : Type 0 where

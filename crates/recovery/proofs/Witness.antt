@@ -8,9 +8,10 @@ use lib.Dec.{eqb}
 use Rattle.flow.proofs.CutExamples.{cut-examples}
 use Rattle.flow.proofs.Reopening.{Reopens, comes-to-reopen}
 use Rattle.flow.proofs.Witness.{witness-1, witness-2, witness-3, witness-3-2}
+use Rattle.flow.specs.BoardExamples.{none}
 use Rattle.flow.specs.Calls.{afterFailure}
 use Rattle.flow.specs.Claim.{Achieved}
-use Rattle.flow.specs.CutExamples.{Reopening, woken}
+use Rattle.flow.specs.CutExamples.{Reopening, poweredUp}
 use Rattle.flow.specs.Cuts.{cutMemory, CutTo}
 use Rattle.flow.specs.Target.{Memory, Residue, CallOutcome, Target, Lists}
 use Rattle.flow.specs.Terms.{Startable, RightPart, Calm, CalmLine, CalmCalls, calmEnd, callsEnd, Used, entries}
@@ -21,7 +22,7 @@ use Rattle.image.specs.declared.Header.{Header}
 use Rattle.parts.specs.Parts.{part1, part2, part3}
 use Rattle.parts.specs.declared.Geometry.{Geometry}
 use Rattle.recovery.specs.Recovery.{Start, imageIn, Leads, Interrupted, never, cut}
-use Rattle.recovery.specs.Witness.{noEntries, FreeCuts, Reloaded, ReopeningCut}
+use Rattle.recovery.specs.Witness.{FreeCuts, Reloaded, ReopeningCut}
 use Rattle.recovery.proofs.Recovery.{recovery-holds}
 use Rattle.recovery.proofs.Walking.{walked}
 use Rattle.session.specs.Calls.{State}
@@ -30,6 +31,7 @@ use Rattle.session.specs.declared.Outcome.the-variants.{Refused, Ask}
 
 pub free-cuts : FreeCuts
 free-cuts = record {
+  start = λ g h bytes leave p free. record { x = record { header = h; bytes = bytes; leave = leave; passes = p; unrefused = free }; header = refl; bytes = refl; leave = refl };
   once = λ g b b′ x l n k s leads c. cut never x l n k s leads c;
   joined = λ g b₀ b b′ before after. join before after;
 }
@@ -47,22 +49,22 @@ no-calls : (a b : List CallOutcome) → [] ≡ a ++ b → CalmCalls a
 no-calls [] b e = callsEnd
 no-calls (x ∷ a) b e = let z : _≡_ {A = ℕ} 0 1 = cc in absurd (omega arith)
 
-all-calm : {left : Lists} (u : Used noEntries left) → Calm (entries u)
+all-calm : {left : Lists} (u : Used none left) → Calm (entries u)
 all-calm {left} u = record { line = no-line (u .line) (left .line) (u .lineIs); calls = no-calls (u .calls) (left .calls) (u .callsIs) }
 
 -- what a cut leaves: all flash and locks zero, and the level sent or not
 abbrev leaving : Bool → Residue
 leaving y = record { flash = []; locks = []; latch = []; sysarg = 0; newLevel = y }
 
-module _ {g : Geometry} (x : Start g) (b : Target) (may : Startable g b) (right : RightPart (imageIn x) (b .silicon)) (n : ℕ) (s : State) (leads : Leads x b noEntries n 0 s) where
+module _ {g : Geometry} (x : Start g) (b : Target) (may : Startable g b) (right : RightPart (imageIn x) (b .silicon)) (n : ℕ) (s : State) (leads : Leads x b none n 0 s) where
   abbrev after : Bool → Target
-  after y = woken (s .target) (leaving y) (s .target .memory .latch) (s .target .params) 7
+  after y = poweredUp (s .target) (leaving y) (s .target .memory .latch) (s .target .params) 7
 
   reloaded : (y : Bool) (level : ℕ) → (cutMemory (s .target) (leaving y)) .stored ≡ level → ¬ (level ≡ 4) → Reloaded x b s level
   reloaded y level is no-kill =
       let c : CutTo (s .target) (after y) = cut-examples .free (s .target) (leaving y) _ _ 7 refl refl in
-      let i : Interrupted g b (after y) = cut never x noEntries n 0 s leads c in
-      let r = recovery-holds g x b (after y) may right i (λ h. no-kill (sym is ∙ h)) noEntries in
+      let i : Interrupted g b (after y) = cut never x none n 0 s leads c in
+      let r = recovery-holds g x b (after y) may right i (λ h. no-kill (sym is ∙ h)) none in
       let e = r .ends in
       let d = r .again (e .answers) 0 (e .state) (e .leads) in
       record {
@@ -79,11 +81,11 @@ module _ {g : Geometry} (x : Start g) (b : Target) (may : Startable g b) (right 
 -- with leave no image that passes is refused
 granted : (h : Header) (bytes : List ℕ) → imageFault h bytes ≡ 0 → (n : ℕ) → ¬ ((startOf h bytes true) .outcome ≡ Refused n)
 unfolding startOf
-granted h bytes none n e = by (eqb (h .level) 4) refl
+granted h bytes good n e = by (eqb (h .level) 4) refl
   where
     by : (t : Bool) → eqb (h .level) 4 ≡ t → ⊥
-    by true q = let no : Ask Packets.Xres ≡ Refused n = rw (none, q) at e in let z : _≡_ {A = ℕ} 0 1 = cc in omega arith
-    by false q = let no : Ask Packets.Xres ≡ Refused n = rw (none, q) at e in let z : _≡_ {A = ℕ} 0 1 = cc in omega arith
+    by true q = let no : Ask Packets.Xres ≡ Refused n = rw (good, q) at e in let z : _≡_ {A = ℕ} 0 1 = cc in omega arith
+    by false q = let no : Ask Packets.Xres ≡ Refused n = rw (good, q) at e in let z : _≡_ {A = ℕ} 0 1 = cc in omega arith
 
 -- the level that the cut leaves
 new-level : (b : Target) → Reopening b → (cutMemory b (leaving true)) .stored ≡ 1
@@ -98,7 +100,7 @@ reopening-cut : (g : Geometry) → Achieved g 2 → ReopeningCut g
 reopening-cut g a =
     let x : Start g = record { header = a .header; bytes = a .bytes; leave = true; passes = a .passes; unrefused = granted (a .header) (a .bytes) (a .passes .checked) } in
     let n = comes-to-reopen g (a .header) (a .bytes) (a .passes) (a .target) (a .startable) (a .stored) (a .right) in
-    let w = walked g (a .header) (a .bytes) true (a .passes) (x .unrefused) (a .target) (a .startable) noEntries (n .n) in
+    let w = walked g (a .header) (a .bytes) true (a .passes) (x .unrefused) (a .target) (a .startable) none (n .n) in
     let r : Reopens (a .target .memory) (w .state .target) = subst (Reopens (a .target .memory)) (sym (w .follows .target)) (n .is) in
     record {
       start = x;
@@ -110,8 +112,8 @@ reopening-cut g a =
       state = w .state;
       leads = w .steps;
       reopening = r .reopening;
-      opened = reloaded x (a .target) (a .startable) (a .right) (w .answers) (w .state) (w .steps) true 1 (new-level (w .state .target) (r .reopening)) (λ h. omega arith);
-      shut = reloaded x (a .target) (a .startable) (a .right) (w .answers) (w .state) (w .steps) false 2
+      leftOpen = reloaded x (a .target) (a .startable) (a .right) (w .answers) (w .state) (w .steps) true 1 (new-level (w .state .target) (r .reopening)) (λ h. omega arith);
+      leftProtected = reloaded x (a .target) (a .startable) (a .right) (w .answers) (w .state) (w .steps) false 2
           (old-level (w .state .target) (r .reopening) ∙ ap (λ (m : Memory). m .stored) (r .memory) ∙ a .stored) (λ h. omega arith);
     }
 

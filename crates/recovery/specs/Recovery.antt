@@ -50,7 +50,7 @@ pub record Ended {g : Geometry} (x : Start g) (b : Target) (l : Lists) : Type 0 
 -- ---- what the cuts leave
 
 -- VIRGIN is never stored, and unless KILL is, the board is again one that demand 3 allows, with its own IDs
-pub record Left (g : Geometry) (b₀ b : Target) : Type 0 where
+pub record AfterCuts (g : Geometry) (b₀ b : Target) : Type 0 where
   pub silicon : b .silicon ≡ b₀ .silicon
   pub quiet : b .running ≡ idle
   pub neverVirgin : ¬ (b .memory .stored ≡ 0)
@@ -58,7 +58,7 @@ pub record Left (g : Geometry) (b₀ b : Target) : Type 0 where
 
 -- 'The board may have started as anything demand 3 allows.'
 abbrev pub CutsLeave : Type 0
-CutsLeave = (g : Geometry) (b₀ b : Target) → Startable g b₀ → Interrupted g b₀ b → Left g b₀ b
+CutsLeave = (g : Geometry) (b₀ b : Target) → Startable g b₀ → Interrupted g b₀ b → AfterCuts g b₀ b
 
 -- ---- the fresh session
 
@@ -96,8 +96,9 @@ pub record Killed (b₀ b : Target) : Type 0 where
 abbrev pub KillStays : Type 0
 KillStays = (g : Geometry) (b₀ b : Target) → b₀ .memory .stored ≡ 4 → b₀ .running ≡ idle → Interrupted g b₀ b → Killed b₀ b
 
--- and then no session is done: each comes to its report, which is 26 at step 1, after thirty transfers
+-- and then no session is done: it leaves the memory as it was, and comes to its report, which is 26 at step 1, after thirty transfers
 pub record Closed {g : Geometry} (x : Start g) (b : Target) (l : Lists) : Type 0 where
+  pub memory : (n k : ℕ) (s : State) → Leads x b l n k s → s .target .memory ≡ b .memory
   pub told : (n k : ℕ) (s : State) → Leads x b l n k s → (r : Report) → s .stands ≡ Reported r → (r .number ≡ 26) × (r .step ≡ 1) × (r .transfers ≡ 30)
   pub ends : Ended x b l
 
