@@ -5,12 +5,16 @@ use Rattle.flow.specs.BoardExamples.{TransferExamples, PacketExamples, R
 use Rattle.flow.specs.Examples.{p5, p6, p7}
 use Rattle.flow.specs.Judgements.{JudgeExamples}
 use Rattle.flow.specs.Mishaps.{WordMishaps, LineMishaps}
+use Rattle.flow.specs.OrderExamples.{OrderExamples}
+use Rattle.flow.specs.SealingExamples.{SealingExamples}
 use Rattle.flow.specs.SessionExamples.{MoveExamples, SessionExamples}
 use Rattle.flow.specs.Starts.{FreeStarts, MostExamples}
 use Rattle.flow.proofs.BoardExamples.{transfer-examples, packet-examples, reset-examples, call-examples}
 use Rattle.flow.proofs.Examples.{key-examples}
 use Rattle.flow.proofs.Judgements.{judge-examples}
 use Rattle.flow.proofs.Mishaps.{word-mishaps, line-mishaps}
+use Rattle.flow.proofs.OrderExamples.{order-examples}
+use Rattle.flow.proofs.SealingExamples.{sealing-examples}
 use Rattle.flow.proofs.SessionExamples.{move-examples, session-examples}
 use Rattle.flow.proofs.Starts.{free-starts, most-examples}
 use Rattle.wire.specs.Examples.{Each}
@@ -28,6 +32,8 @@ pub record Accepted : Type 0 where
   pub transfers : TransferExamples
   pub resets : ResetExamples
   pub calls : CallExamples
+  pub order : OrderExamples
+  pub sealing : SealingExamples
 
 pub accepted : Accepted
 accepted = record {
@@ -43,4 +49,6 @@ accepted = record {
   transfers = transfer-examples;
   resets = reset-examples;
   calls = call-examples;
+  order = order-examples;
+  sealing = sealing-examples;
 }

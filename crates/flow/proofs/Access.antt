@@ -11,9 +11,10 @@ use Rattle.flow.specs.Judge.{judge}
 use Rattle.flow.specs.Map.{place}
 use Rattle.flow.specs.Monitor.{noWaits, watching, Watch, Delays, noticed, noticeRead, noticeStore}
 use Rattle.flow.specs.Run.{Run}
+use Rattle.flow.specs.Sealing.{seals}
 use Rattle.flow.specs.Sequence.{write, read}
 use Rattle.flow.specs.Session.{running, judgedTo}
-use Rattle.flow.specs.Target.{Target, CallOutcome, nextOutcome, rest, setTar}
+use Rattle.flow.specs.Target.{Target, CallOutcome, nextOutcome, rest, setTar, setSysarg, setTestMode}
 use Rattle.flow.specs.declared.Entry.{Entry}
 use Rattle.flow.specs.declared.Move.{Move}
 use Rattle.flow.specs.declared.Place.{Place}
@@ -21,7 +22,7 @@ use Rattle.flow.specs.declared.Place.the-variants.{InFlash, InLocks, InP
 use Rattle.flow.specs.declared.Purpose.{Purpose}
 use Rattle.flow.specs.declared.Request.the-variants.{ReadDrw, WriteTar, WriteDrw}
 use Rattle.flow.proofs.Hearing.{aTar, aDrw, aRead}
-use Rattle.flow.proofs.Reaches.{Allowance, withTransfer, withMoves, Env, sync, Frame, Lasting, Stood, Stands, Reaches}
+use Rattle.flow.proofs.Reaches.{Allowance, withTransfer, withMoves, Env, sync, Frame, Lasting, Stood, Stands, Turn, stays, same-running, not-idle, Reaches}
 use Rattle.flow.proofs.Transfer.{transfer}
 use Rattle.image.specs.Image.{Image}
 use Rattle.parts.specs.declared.Geometry.{Geometry}
@@ -85,6 +86,21 @@ barred-write g w b pc h a = rw h (by (eqb (b .effect) 2) (a .free))
     by true e = e
     by false e = refl
 
+-- a write ends no call
+begin-ends : (y : Bool) (w : ℕ) (o : CallOutcome) (b : Target) → seals b (begin y w o b) ≡ false
+begin-ends true w o b = not-idle b (begin true w o b) refl
+begin-ends false w o b = same-running b (begin false w o b) refl
+
+store-ends : (w : ℕ) (o : CallOutcome) (pc : Place) (b : Target) → seals b (store w o pc b) ≡ false
+store-ends w o (InFlash a) b = same-running b b refl
+store-ends w o (InLocks a) b = same-running b b refl
+store-ends w o (InParams k) b = same-running b (store w o (InParams k) b) refl
+store-ends w o AtLevel b = same-running b b refl
+store-ends w o AtSysreq b = begin-ends (isCall w) w o b
+store-ends w o AtSysarg b = same-running b (setSysarg w b) refl
+store-ends w o AtTestMode b = same-running b (setTestMode w b) refl
+store-ends w o Elsewhere b = same-running b b refl
+
 -- a write elsewhere than SYSREQ starts nothing
 quiet-store : (y : Bool) (pc : Place) (p a : ℕ) (t : Watch) (d : Delays) → isSysreq pc ≡ false → noticeStore y pc p a t d ≡ watching noWaits p a t d
 quiet-store false pc p a t d h = refl
@@ -122,63 +138,68 @@ module _ {i : Image} (f : Frame i) where
     traffic = e .traffic;
   }
 
-  module _ (s a w : ℕ) {y : Entry} {n : ℕ} {ms : List Move} {κ : Allowance} {e : Env} {p c k : ℕ} {b : Target} {t : Watch} where
-    write-any : Stands f y n (write s a w) ms κ e → (pc : Place) → place (i .geometry) a ≡ pc → Admits (b .effect) pc → Lasting (f .Safe) b
-        → Lasting (f .Safe) (store w (nextOutcome (e .lists .calls)) pc (setTar a b))
+  module _ (s a w : ℕ) {z : Bool} {y : Entry} {n : ℕ} {ms : List Move} {κ : Allowance} {e : Env} {p c k : ℕ} {b : Target} {t : Watch} where
+    write-any : Stands f y n (write s a w) ms κ e → (pc : Place) → place (i .geometry) a ≡ pc → Admits (b .effect) pc → Lasting (f .Safe z) b
+        → Lasting (f .Safe z) (store w (nextOutcome (e .lists .calls)) pc (setTar a b))
         → (next : (e′ : Env) → e′ .lists .calls ≡ cond (isCall w && isSysreq pc) (rest (e .lists .calls)) (e .lists .calls) → Stood f y (suc (suc n)) ms κ e′
-        → Reaches f (written w pc y (suc (suc n)) p c k (store w (nextOutcome (e .lists .calls)) pc (setTar a b)) (aimed a t) e′))
-        → Reaches f (sync y n p c k b t e)
+        → Reaches f z (written w pc y (suc (suc n)) p c k (store w (nextOutcome (e .lists .calls)) pc (setTar a b)) (aimed a t) e′))
+        → Reaches f z (sync y n p c k b t e)
     unfolding write withMoves carry judge noticed
     write-any st pc hp ok safe safe′ next =
-        transfer f aTar st (ok .not-killed) (barred-tar (i .geometry) a b) safe (λ o. safe) λ o₁ e₁ h₁ st₁.
-        transfer f aDrw st₁ (ok .not-killed) (barred-write (i .geometry) w (setTar a b) pc hp ok) safe (λ o. rw (hp, h₁) safe′) λ o₂ e₂ h₂ st₂.
+        transfer f aTar st (ok .not-killed) (barred-tar (i .geometry) a b) safe (λ o. safe) (λ o. stays (same-running b (setTar a b) refl)) λ o₁ e₁ h₁ st₁.
+        transfer f aDrw st₁ (ok .not-killed) (barred-write (i .geometry) w (setTar a b) pc hp ok) safe (λ o. rw (hp, h₁) safe′)
+        (λ o. stays (store-ends w (nextOutcome (e₁ .lists .calls)) (place (i .geometry) a) (setTar a b))) λ o₂ e₂ h₂ st₂.
         rw (hp, h₁) (next e₂ (rw (hp, h₁) at h₂) st₂)
 
     -- a Write elsewhere than SYSREQ
-    pub write-reaches : Stands f y n (write s a w) ms κ e → (pc : Place) → place (i .geometry) a ≡ pc → Admits (b .effect) pc → Lasting (f .Safe) b → Lasting (f .Safe) (store w (nextOutcome (e .lists .calls)) pc (setTar a b)) → isSysreq pc ≡ false
+    pub write-reaches : Stands f y n (write s a w) ms κ e → (pc : Place) → place (i .geometry) a ≡ pc → Admits (b .effect) pc → Lasting (f .Safe z) b → Lasting (f .Safe z) (store w (nextOutcome (e .lists .calls)) pc (setTar a b)) → isSysreq pc ≡ false
         → (next : (e′ : Env) → e′ .lists .calls ≡ e .lists .calls → Stood f y (suc (suc n)) ms κ e′
-        → Reaches f (sync y (suc (suc n)) p c k (store w (nextOutcome (e .lists .calls)) pc (setTar a b)) (aimed a t) e′))
-        → Reaches f (sync y n p c k b t e)
+        → Reaches f z (sync y (suc (suc n)) p c k (store w (nextOutcome (e .lists .calls)) pc (setTar a b)) (aimed a t) e′))
+        → Reaches f z (sync y n p c k b t e)
     write-reaches st pc hp ok safe safe′ hs next =
         write-any st pc hp ok safe safe′ λ e′ h st′.
         rw (quiet-store (isCall w) pc p c (aimed a t) (e′ .delays) hs) (next e′ ((rw hs at h) ∙ same-calls (isCall w) (e .lists .calls)) st′)
 
   -- the Write of SYSREQ that starts a call
-  pub call-reaches : (s a w : ℕ) {y : Entry} {n : ℕ} {ms : List Move} {κ : Allowance} {e : Env} {c k : ℕ} {b : Target} {t : Watch}
-      → Stands f y n (write s a w) ms κ e → place (i .geometry) a ≡ AtSysreq → Admits (b .effect) AtSysreq → Lasting (f .Safe) b → Lasting (f .Safe) (begin true w (nextOutcome (e .lists .calls)) (setTar a b)) → isCall w ≡ true
+  pub call-reaches : (s a w : ℕ) {z : Bool} {y : Entry} {n : ℕ} {ms : List Move} {κ : Allowance} {e : Env} {c k : ℕ} {b : Target} {t : Watch}
+      → Stands f y n (write s a w) ms κ e → place (i .geometry) a ≡ AtSysreq → Admits (b .effect) AtSysreq → Lasting (f .Safe z) b → Lasting (f .Safe z) (begin true w (nextOutcome (e .lists .calls)) (setTar a b)) → isCall w ≡ true
       → (next : (e′ : Env) → e′ .lists .calls ≡ rest (e .lists .calls) → Stood f y (suc (suc n)) ms κ e′
-      → Reaches f (sync y (suc (suc n)) 0 c k (begin true w (nextOutcome (e .lists .calls)) (setTar a b)) (record { tar = a; counts = false; polling = true; due = true }) e′))
-      → Reaches f (sync y n 0 c k b t e)
+      → Reaches f z (sync y (suc (suc n)) 0 c k (begin true w (nextOutcome (e .lists .calls)) (setTar a b)) (record { tar = a; counts = false; polling = true; due = true }) e′))
+      → Reaches f z (sync y n 0 c k b t e)
   call-reaches s a w st hp ok safe safe′ hc next = write-any s a w st AtSysreq hp ok safe (rw hc safe′) λ e′ h st′. rw hc (next e′ (rw hc at h) st′)
 
-  module _ (s a : ℕ) (u : Purpose) {y : Entry} {n : ℕ} {ms : List Move} {κ : Allowance} {e : Env} {p c k : ℕ} {b : Target} {t : Watch} where
+  module _ (s a : ℕ) (u : Purpose) {z : Bool} {y : Entry} {n : ℕ} {ms : List Move} {κ : Allowance} {e : Env} {p c k : ℕ} {b : Target} {t : Watch} where
     -- any Read: the target after the first DRW read, and after the second
-    pub read-any : Stood f y n (read s a u ++ ms) (withTransfer (withTransfer (withTransfer κ))) e → (pc : Place) → place (i .geometry) a ≡ pc → Admits (b .effect) pc → Lasting (f .Safe) b
+    pub read-any : {z₁ z₂ : Bool} → Stood f y n (read s a u ++ ms) (withTransfer (withTransfer (withTransfer κ))) e → (pc : Place) → place (i .geometry) a ≡ pc → Admits (b .effect) pc → Lasting (f .Safe z) b
         → (b₁ : ℕ → Target) (b₂ : ℕ → ℕ → Target)
         → ((o : ℕ) → fetch (i .geometry) o pc (setTar a b) ≡ b₁ o) → ((o o′ : ℕ) → fetch (i .geometry) o′ pc (b₁ o) ≡ b₂ o o′)
         → ((o : ℕ) → (b₁ o) .tar ≡ a) → ((o : ℕ) → (b₁ o) .effect ≡ b .effect)
-        → ((o : ℕ) → Lasting (f .Safe) (b₁ o)) → ((o o′ : ℕ) → Lasting (f .Safe) (b₂ o o′))
+        → ((o : ℕ) → Lasting (f .Safe z₁) (b₁ o)) → ((o o′ : ℕ) → Lasting (f .Safe z₂) (b₂ o o′))
+        → ((o : ℕ) → Turn z (setTar a b) (b₁ o) z₁) → ((o o′ : ℕ) → Turn z₁ (b₁ o) (b₂ o o′) z₂)
         → (next : (o o′ : ℕ) (e′ : Env) → e′ .lists .calls ≡ e .lists .calls → Stood f y (suc (suc (suc n))) ms κ e′
-        → Reaches f (readRun s u y (suc (suc n)) p c k ((b₁ o) .posted) pc (b₂ o o′) (aimed a t) e′))
-        → Reaches f (sync y n p c k b t e)
+        → Reaches f z₂ (readRun s u y (suc (suc n)) p c k ((b₁ o) .posted) pc (b₂ o o′) (aimed a t) e′))
+        → Reaches f z (sync y n p c k b t e)
     unfolding read withMoves judge noticed
-    read-any st pc hp ok safe b₁ b₂ h₁ h₂ ht he safe₁ safe₂ next =
-        transfer f aTar st (ok .not-killed) (barred-tar (i .geometry) a b) safe (unfold carry in (λ o. safe)) λ _ e₁ k₁ st₁.
+    read-any {z₁} {z₂} st pc hp ok safe b₁ b₂ h₁ h₂ ht he safe₁ safe₂ turn₁ turn₂ next =
+        let first : (o : ℕ) → Turn z b (carry (i .geometry) (WriteTar a) o (nextOutcome (e .lists .calls)) b) z = unfold carry in (λ o. stays (same-running b (setTar a b) refl)) in
+        let keeps : (o : ℕ) → Lasting (f .Safe z) (carry (i .geometry) (WriteTar a) o (nextOutcome (e .lists .calls)) b) = unfold carry in (λ o. safe) in
+        transfer f aTar st (ok .not-killed) (barred-tar (i .geometry) a b) safe keeps first λ _ e₁ k₁ st₁.
         unfold carry in
-        transfer f aRead st₁ (ok .not-killed) (barred-read (i .geometry) (setTar a b) pc hp ok) safe (λ o. rw (hp, h₁ o) (safe₁ o)) λ o e₂ k₂ st₂.
+        transfer f {z′ = z₁} aRead st₁ (ok .not-killed) (barred-read (i .geometry) (setTar a b) pc hp ok) safe (λ o. rw (hp, h₁ o) (safe₁ o)) (λ o. rw (hp, h₁ o) (turn₁ o)) λ o e₂ k₂ st₂.
         rw (hp, h₁ o) (
-        transfer f aRead st₂ (rw (he o) (ok .not-killed)) (barred-read (i .geometry) (b₁ o) pc (there o) (rw (he o) ok)) (safe₁ o)
-        (λ o′. rw (there o, h₂ o o′) (safe₂ o o′)) λ o′ e₃ k₃ st₃.
+        transfer f {z′ = z₂} aRead st₂ (rw (he o) (ok .not-killed)) (barred-read (i .geometry) (b₁ o) pc (there o) (rw (he o) ok)) (safe₁ o)
+        (λ o′. rw (there o, h₂ o o′) (safe₂ o o′)) (λ o′. rw (there o, h₂ o o′) (turn₂ o o′)) λ o′ e₃ k₃ st₃.
         rw (there o, h₂ o o′, hp) (next o o′ e₃ (k₃ ∙ k₂ ∙ k₁) st₃))
       where
         there : (o : ℕ) → place (i .geometry) ((b₁ o) .tar) ≡ pc
         there o = ap (place (i .geometry)) (ht o) ∙ hp
 
     -- a Read of a place that nothing moves; v o is the word there, whatever is posted
-    pub read-still : Stood f y n (read s a u ++ ms) (withTransfer (withTransfer (withTransfer κ))) e → (pc : Place) → place (i .geometry) a ≡ pc → Admits (b .effect) pc → Lasting (f .Safe) b
+    pub read-still : Stood f y n (read s a u ++ ms) (withTransfer (withTransfer (withTransfer κ))) e → (pc : Place) → place (i .geometry) a ≡ pc → Admits (b .effect) pc → Lasting (f .Safe z) b
         → (v : ℕ → ℕ) → ((o z : ℕ) → fetch (i .geometry) o pc (aim a z b) ≡ aim a (v o) b)
         → (next : (o o′ : ℕ) (e′ : Env) → e′ .lists .calls ≡ e .lists .calls → Stood f y (suc (suc (suc n))) ms κ e′
-        → Reaches f (readRun s u y (suc (suc n)) p c k (v o) pc (aim a (v o′) b) (aimed a t) e′))
-        → Reaches f (sync y n p c k b t e)
+        → Reaches f z (readRun s u y (suc (suc n)) p c k (v o) pc (aim a (v o′) b) (aimed a t) e′))
+        → Reaches f z (sync y n p c k b t e)
     read-still st pc hp ok safe v still next =
-        read-any st pc hp ok safe (λ o. aim a (v o) b) (λ o o′. aim a (v o′) b) (λ o. still o (b .posted)) (λ o o′. still o′ (v o)) (λ o. refl) (λ o. refl) (λ o. safe) (λ o o′. safe) next
+        read-any st pc hp ok safe (λ o. aim a (v o) b) (λ o o′. aim a (v o′) b) (λ o. still o (b .posted)) (λ o o′. still o′ (v o)) (λ o. refl) (λ o. refl) (λ o. safe) (λ o o′. safe)
+        (λ o. stays (same-running (setTar a b) (aim a (v o) b) refl)) (λ o o′. stays (same-running (aim a (v o) b) (aim a (v o′) b) refl)) next

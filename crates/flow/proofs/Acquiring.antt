@@ -24,13 +24,13 @@ use Rattle.flow.specs.declared.Request.the-variants.{LineReset, ReadIdco
 use Rattle.flow.specs.declared.Silicon.{Silicon}
 use Rattle.flow.proofs.Access.{Answering, admits, write-reaches, read-still}
 use Rattle.flow.proofs.Attempts.{barred-off, xres-reaches, trying, attempts}
-use Rattle.flow.proofs.Calling.{Command, calling, free-zero}
+use Rattle.flow.proofs.Calling.{Command, ordinary, calling, free-zero}
 use Rattle.flow.proofs.Hearing.{aCtrl, aSelect, aCsw}
 use Rattle.flow.proofs.Legs.{Core, core, Leg}
 use Rattle.flow.proofs.Phases.{call15, same-core}
 use Rattle.flow.proofs.Places.{place-sysreq, place-sysarg, place-test}
 use Rattle.flow.proofs.Polling.{idleAt, poll-idle}
-use Rattle.flow.proofs.Reaches.{Allowance, withTransfer, withRead, withRequest, withMoves, Env, sync, rightSilicon, Frame, Lasting, at-rest, Stood, Stands, less-room, Reaches}
+use Rattle.flow.proofs.Reaches.{Allowance, withTransfer, withRead, withRequest, withMoves, Env, sync, rightSilicon, Frame, Lasting, at-rest, Stood, Stands, less-room, unsealed, same-running, Reaches}
 use Rattle.flow.proofs.Table.{Facts}
 use Rattle.flow.proofs.Transfer.{transfer}
 use Rattle.image.specs.Image.{Image}
@@ -78,17 +78,17 @@ effect-0 : (g : Geometry) (l a : ℕ) (ps : List ℕ) (m : Memory) → effectOf 
 unfolding effectOf
 effect-0 g l a ps m = refl
 
-module _ {i : Image} (f : Frame i) (fx : Facts (i .geometry)) (y : Entry) (m : Memory) (answering : Answering (m .stored)) (safe : f .Safe m) where
-  stays : (b : Target) → b .memory ≡ m → f .Safe (b .memory)
+module _ {i : Image} (f : Frame i) (fx : Facts (i .geometry)) (y : Entry) (m : Memory) (answering : Answering (m .stored)) (safe : f .Safe false m) where
+  stays : (b : Target) → b .memory ≡ m → f .Safe false (b .memory)
   stays b e = rw e safe
 
-  imo-leg : (n : ℕ) → Leg f y (imoCall (i .geometry) n) (Acquired f m) (Acquired f m)
+  imo-leg : (n : ℕ) → Leg f false false y (imoCall (i .geometry) n) (Acquired f m) (Acquired f m)
   unfolding imoCall withMoves
   imo-leg zero = record { along = λ n x k later κ e b p st next. next k b p n x e st }
   imo-leg (suc z) = record {
     along = λ n x k later κ e b p st next.
         calling f fx 1 0x15 (key 0x15) (call15 .command) st (rw (p .effect) answering) (p .fresh .quiet) (stays b (p .fresh .memory))
-        (λ y r. rw (still-15 (i .geometry) y r _) (stays b (p .fresh .memory))) (call15 .ready _ _) (call15 .good _ _) λ b′ ret n′ e′ st′.
+        (λ r. rw (still-15 (i .geometry) true r _) (stays b (p .fresh .memory))) (λ r. rw (still-15 (i .geometry) false r _) (stays b (p .fresh .memory))) (ordinary (λ r. refl)) (call15 .ready _ _) (call15 .good _ _) λ b′ ret n′ e′ st′.
         next k b′ (subst (Acquired f m k) (sym (same-core ret (ret .memory ∙ effect-15 _ _ _ _ _) (p .fresh .quiet))) p) n′ _ e′ st′;
   }
 
@@ -106,19 +106,19 @@ module _ {i : Image} (f : Frame i) (fx : Facts (i .geometry)) (y : Entry) (m : M
   one-poll : {n : ℕ} {ms : List Move} (κ : Allowance) {e : Env} → Stood f y n ms (withTransfer (withTransfer (withRead Poll κ))) e → Stood f y n ms (withTransfer (withTransfer (withTransfer κ))) e
   one-poll κ st = less-room (17 + (17 + (17 + κ .room))) (omega arith) st
 
-  pub acquire-leg : Leg f y (acquire (i .geometry)) (Fresh f m) (Acquired f m)
+  pub acquire-leg : Leg f false false y (acquire (i .geometry)) (Fresh f m) (Acquired f m)
   unfolding acquire write read withMoves carry judge testBitSet noticed noticeRead
   acquire-leg = record {
     along = λ n x k later κ e b p st next.
         let answers : Answering (b .memory .stored) = rw (p .memory) answering in
         let not-killed = (admits (b .memory .stored) AtSysreq refl answers) .not-killed in
         let sf = stays b (p .memory) in
-        let lasting : Lasting (f .Safe) (setReset b) = record { now = sf; cut = λ r. sf } in
+        let lasting : Lasting (f .Safe false) (setReset b) = record { now = sf; cut = λ r. sf } in
         xres-reaches f st sf (p .quiet) λ st₁.
         attempts f 29 1 0 k (setReset b) (idleAt x) refl (thirty (withMoves setup κ) st₁) not-killed lasting (p .silicon) λ id e₂ st₂.
-        transfer f aCtrl st₂ not-killed (barred-off (i .geometry) (WriteSetup CtrlStat 0x54000000) (setReset b) refl) lasting (λ o. lasting) λ _ e₃ _ st₃.
-        transfer f aSelect st₃ not-killed (barred-off (i .geometry) (WriteSetup Select 0) (setReset b) refl) lasting (λ o. lasting) λ _ e₄ _ st₄.
-        transfer f aCsw st₄ not-killed (barred-off (i .geometry) (WriteSetup Csw 2) (setReset b) refl) lasting (λ o. lasting) λ _ e₅ _ st₅.
+        transfer f aCtrl st₂ not-killed (barred-off (i .geometry) (WriteSetup CtrlStat 0x54000000) (setReset b) refl) lasting (λ o. lasting) (λ o. unsealed (same-running (setReset b) (setReset b) refl)) λ _ e₃ _ st₃.
+        transfer f aSelect st₃ not-killed (barred-off (i .geometry) (WriteSetup Select 0) (setReset b) refl) lasting (λ o. lasting) (λ o. unsealed (same-running (setReset b) (setReset b) refl)) λ _ e₄ _ st₄.
+        transfer f aCsw st₄ not-killed (barred-off (i .geometry) (WriteSetup Csw 2) (setReset b) refl) lasting (λ o. lasting) (λ o. unsealed (same-running (setReset b) (setReset b) refl)) λ _ e₅ _ st₅.
         write-reaches f 1 TEST-MODE 0x80000000 st₅ AtTestMode (place-test (i .geometry) fx) (admits (b .memory .stored) AtTestMode refl answers) lasting lasting refl λ e₆ _ st₆.
         read-still f 1 TEST-MODE TestBit st₆ AtTestMode (place-test (i .geometry) fx) (admits (b .memory .stored) AtTestMode refl answers) lasting (λ o. 0x80000000) (λ o z. refl) λ _ _ e₇ _ st₇.
         poll-idle f (place-sysreq (i .geometry) fx) 1 _ (one-poll (withMoves (imoCall (i .geometry) (imoOf (i .geometry))) κ) st₇) (admits (b .memory .stored) AtSysreq refl answers) sf refl free-zero λ e₈ _ st₈.
@@ -164,7 +164,7 @@ pub level-read : (x : Silicon) (l : ℕ) → Bytes x → l < 16 → levelIn (sys
 unfolding sysreqAfter
 level-read x l hb hl = omega arith
 
-module _ {i : Image} (f : Frame i) (fx : Facts (i .geometry)) (m : Memory) (answering : Answering (m .stored)) (safe : f .Safe m) (hb : Bytes (f .silicon)) (hl : m .stored < 16) where
+module _ {i : Image} (f : Frame i) (fx : Facts (i .geometry)) (m : Memory) (answering : Answering (m .stored)) (safe : f .Safe false m) (hb : Bytes (f .silicon)) (hl : m .stored < 16) where
   -- the run after the Read of SYSREQ
   abbrev pub identified : Purpose → Entry → (n k : ℕ) → Target → Env → Run
   identified u y n k b e = record {
@@ -177,21 +177,21 @@ module _ {i : Image} (f : Frame i) (fx : Facts (i .geometry)) (m : Memory) (answ
 
   pub silicon-reaches : (u : Purpose) {y : Entry} {n x k : ℕ} {ms : List Move} {κ : Allowance} {e : Env} {b : Target} → Acquired f m k (core b)
       → Stands f y n (call (i .geometry) 2 0 (key 0)) (read 2 (sysargOf (i .geometry)) Keep ++ (read 2 (sysreqOf (i .geometry)) u ++ ms)) (withTransfer (withTransfer (withTransfer (withTransfer (withTransfer (withTransfer κ)))))) e
-      → (next : (b′ : Target) → core b′ ≡ core b → (n′ : ℕ) (e′ : Env) → Stood f y (suc n′) ms κ e′ → Reaches f (identified u y n′ k b′ e′))
-      → Reaches f (sync y n 0 0 k b (idleAt x) e)
+      → (next : (b′ : Target) → core b′ ≡ core b → (n′ : ℕ) (e′ : Env) → Stood f y (suc n′) ms κ e′ → Reaches f false (identified u y n′ k b′ e′))
+      → Reaches f false (sync y n 0 0 k b (idleAt x) e)
   unfolding judge noticeRead
   silicon-reaches u {b = b} p st next =
-      let sf : f .Safe (b .memory) = rw (p .fresh .memory) safe in
+      let sf : f .Safe false (b .memory) = rw (p .fresh .memory) safe in
       let ready : free (sysreqAfter 0 (b .silicon) (b .effect)) ≡ true = rw (p .fresh .silicon, p .effect) (free-0 (f .silicon) (m .stored) hb hl) in
       let good : succeeded (sysargAfter 0 (b .silicon) (b .memory)) ≡ true = rw (p .fresh .silicon, p .fresh .memory) (good-0 (f .silicon) m hb) in
-      calling f fx 2 0 (key 0) command0 st (rw (p .effect) answering) (p .fresh .quiet) sf (λ y r. rw (still-0 (i .geometry) y r _) sf) ready good λ b₁ ret n₁ e₁ st₁.
+      calling f fx 2 0 (key 0) command0 st (rw (p .effect) answering) (p .fresh .quiet) sf (λ r. rw (still-0 (i .geometry) true r _) sf) (λ r. rw (still-0 (i .geometry) false r _) sf) (ordinary (λ r. refl)) ready good λ b₁ ret n₁ e₁ st₁.
       let same : core b₁ ≡ core b = same-core ret (ret .memory ∙ effect-0 _ _ _ _ _) (p .fresh .quiet) in
       let answers : Answering (b₁ .effect) = rw (ret .effect, p .effect) answering in
-      let sf₁ : f .Safe (b₁ .memory) = rw (ret .memory, effect-0) sf in
+      let sf₁ : f .Safe false (b₁ .memory) = rw (ret .memory, effect-0) sf in
       let arg : b₁ .sysarg ≡ sysargAfter 0 (f .silicon) m = ret .sysarg ∙ rw (p .fresh .silicon, p .fresh .memory) in
       let req : b₁ .sysreq ≡ sysreqAfter 0 (f .silicon) (m .stored) = ret .sysreq ∙ rw (p .fresh .silicon, p .effect) in
-      read-still f 2 (sysargOf (i .geometry)) Keep st₁ AtSysarg (place-sysarg (i .geometry) fx) (admits (b₁ .effect) AtSysarg refl answers) (at-rest (f .Safe) b₁ (ret .ended) sf₁)
+      read-still f 2 (sysargOf (i .geometry)) Keep st₁ AtSysarg (place-sysarg (i .geometry) fx) (admits (b₁ .effect) AtSysarg refl answers) (at-rest (f .Safe false) b₁ (ret .ended) sf₁)
       (λ o. sysargAfter 0 (f .silicon) m) (λ o z. rw arg) λ _ _ e₂ _ st₂.
-      read-still f 2 (sysreqOf (i .geometry)) u st₂ AtSysreq (place-sysreq (i .geometry) fx) (admits (b₁ .effect) AtSysreq refl answers) (at-rest (f .Safe) b₁ (ret .ended) sf₁)
+      read-still f 2 (sysreqOf (i .geometry)) u st₂ AtSysreq (place-sysreq (i .geometry) fx) (admits (b₁ .effect) AtSysreq refl answers) (at-rest (f .Safe false) b₁ (ret .ended) sf₁)
       (λ o. sysreqAfter 0 (f .silicon) (m .stored)) (λ o z. rw (ret .ended, req)) λ _ _ e₃ _ st₃.
       next _ same _ e₃ st₃

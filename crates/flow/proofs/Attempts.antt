@@ -26,7 +26,7 @@ use Rattle.flow.specs.declared.Request.the-variants.{Xres, LineReset, Re
 use Rattle.flow.specs.declared.Silicon.{Silicon}
 use Rattle.flow.specs.declared.TransferOutcome.the-variants.{Clean}
 use Rattle.flow.proofs.Hearing.{attempt, meets, listsAfter, Heard, heardOkay, heardWait, heardError, heardErrorDone, hears}
-use Rattle.flow.proofs.Reaches.{Allowance, Env, sync, Frame, Lasting, at-rest, Stood, at-move, at-next, Reaches, stop, steps, clear}
+use Rattle.flow.proofs.Reaches.{Allowance, Env, sync, Frame, Lasting, at-rest, Stood, at-move, at-next, Turn, stays, same-running, Reaches, stop, Next, steps, clear}
 use Rattle.flow.proofs.Transfer.{more, passed, calm-event, calm-rest}
 use Rattle.image.specs.Image.{Image}
 use Rattle.parts.specs.declared.Geometry.{Geometry}
@@ -45,29 +45,32 @@ abbrev pub reset-by : Request → Env → Env
 reset-by q e = record { lists = e .lists; delays = e .delays; traffic = counting q (e .traffic) }
 
 module _ {i : Image} (f : Frame i) where
+  going-on : {z : Bool} {b : Target} {r : Run} → Turn z b (r .target) z → Reaches f z r → Next f z b r
+  going-on {z} t l = record { after = z; turn = t; reaches = l }
+
   -- XRES, with nothing under way
-  pub xres-reaches : {s : ℕ} {u : Purpose} {y : Entry} {n k : ℕ} {ms : List Move} {κ : Allowance} {e : Env} {b : Target} {t : Watch}
-      → Stood f y n (move s Xres u ∷ ms) (record { due = κ .due; room = κ .room; xres = suc (κ .xres); lines = κ .lines }) e → f .Safe (b .memory) → b .running ≡ idle
-      → (Stood f y (suc n) ms κ (reset-by Xres e) → Reaches f (sync y (suc n) 0 0 k (setReset b) t (reset-by Xres e)))
-      → Reaches f (sync y n 0 0 k b t e)
-  xres-reaches {s} {u} {y} {n} {k} {ms} {κ} {e} {b} {t} st safe quiet next =
-      steps f (sync y n 0 0 k b t e) (sync y (suc n) 0 0 k (setReset b) t (reset-by Xres e)) refl (at-rest (f .Safe) b quiet safe)
+  pub xres-reaches : {z : Bool} {s : ℕ} {u : Purpose} {y : Entry} {n k : ℕ} {ms : List Move} {κ : Allowance} {e : Env} {b : Target} {t : Watch}
+      → Stood f y n (move s Xres u ∷ ms) (record { due = κ .due; room = κ .room; xres = suc (κ .xres); lines = κ .lines }) e → f .Safe z (b .memory) → b .running ≡ idle
+      → (Stood f y (suc n) ms κ (reset-by Xres e) → Reaches f z (sync y (suc n) 0 0 k (setReset b) t (reset-by Xres e)))
+      → Reaches f z (sync y n 0 0 k b t e)
+  xres-reaches {z} {s} {u} {y} {n} {k} {ms} {κ} {e} {b} {t} st safe quiet next =
+      steps f (sync y n 0 0 k b t e) (sync y (suc n) 0 0 k (setReset b) t (reset-by Xres e)) refl (at-rest (f .Safe z) b quiet safe)
       (rw (at-move st) (record { transfers = omega (arith, st .room); xresets = omega (arith, st .xres); lineResets = omega (arith, st .lines) })) (clear noWaits 0 0 t (e .delays))
-      arrives
-      (next (record { at = at-next st; accounted = st .accounted; room = st .room; xres = omega (arith, st .xres); lines = st .lines; calm = λ still. let c = st .calm still in record { line = c .line; calls = c .calls; none = c .none } }))
+      arrives (going-on (stays (rw quiet refl))
+      (next (record { at = at-next st; accounted = st .accounted; room = st .room; xres = omega (arith, st .xres); lines = st .lines; calm = λ still. let c = st .calm still in record { line = c .line; calls = c .calls; none = c .none } })))
     where
       arrives : advance i (sync y n 0 0 k b t e) ≡ sync y (suc n) 0 0 k (setReset b) t (reset-by Xres e)
       arrives = unfold advance stepOf watch meet decode reset in rw (at-move st, quiet)
 
-  line-reaches : {s : ℕ} {u : Purpose} {y : Entry} {n a k : ℕ} {ms : List Move} {κ : Allowance} {e : Env} {b : Target} {t : Watch}
-      → Stood f y n (move s LineReset u ∷ ms) (record { due = κ .due; room = κ .room; xres = κ .xres; lines = suc (κ .lines) }) e → Lasting (f .Safe) b
-      → (Stood f y (suc n) ms κ (reset-by LineReset e) → Reaches f (sync y (suc n) 0 a k b t (reset-by LineReset e)))
-      → Reaches f (sync y n 0 a k b t e)
-  line-reaches {s} {u} {y} {n} {a} {k} {ms} {κ} {e} {b} {t} st safe next =
+  line-reaches : {z : Bool} {s : ℕ} {u : Purpose} {y : Entry} {n a k : ℕ} {ms : List Move} {κ : Allowance} {e : Env} {b : Target} {t : Watch}
+      → Stood f y n (move s LineReset u ∷ ms) (record { due = κ .due; room = κ .room; xres = κ .xres; lines = suc (κ .lines) }) e → Lasting (f .Safe z) b
+      → (Stood f y (suc n) ms κ (reset-by LineReset e) → Reaches f z (sync y (suc n) 0 a k b t (reset-by LineReset e)))
+      → Reaches f z (sync y n 0 a k b t e)
+  line-reaches {z} {s} {u} {y} {n} {a} {k} {ms} {κ} {e} {b} {t} st safe next =
       steps f (sync y n 0 a k b t e) (sync y (suc n) 0 a k b t (reset-by LineReset e)) refl safe
       (rw (at-move st) (record { transfers = omega (arith, st .room); xresets = omega (arith, st .xres); lineResets = omega (arith, st .lines) })) (clear noWaits 0 a t (e .delays))
-      arrives
-      (next (record { at = at-next st; accounted = st .accounted; room = st .room; xres = st .xres; lines = omega (arith, st .lines); calm = λ still. let c = st .calm still in record { line = c .line; calls = c .calls; none = c .none } }))
+      arrives (going-on (stays (same-running b b refl))
+      (next (record { at = at-next st; accounted = st .accounted; room = st .room; xres = st .xres; lines = omega (arith, st .lines); calm = λ still. let c = st .calm still in record { line = c .line; calls = c .calls; none = c .none } })))
     where
       arrives : advance i (sync y n 0 a k b t e) ≡ sync y (suc n) 0 a k b t (reset-by LineReset e)
       arrives = unfold advance stepOf watch meet decode in rw (at-move st)
@@ -98,14 +101,14 @@ module _ {i : Image} (f : Frame i) where
   afterLine m κ = record { due = suc (κ .due); room = suc m + κ .room; xres = κ .xres; lines = m + κ .lines }
 
   -- one attempt: `onMiss` is where a failed one leads to
-  attempt-once : (m s : ℕ) {y : Entry} {n : ℕ} {ms : List Move} {κ : Allowance} {e : Env} (a k : ℕ) (b : Target) (t : Watch)
-      → Stood f y n (move s LineReset Sent ∷ move s ReadIdcode Idcode ∷ ms) (trying m κ) e → killed b ≡ false → Lasting (f .Safe) b → b .silicon ≡ f .silicon
+  attempt-once : (m s : ℕ) {z : Bool} {y : Entry} {n : ℕ} {ms : List Move} {κ : Allowance} {e : Env} (a k : ℕ) (b : Target) (t : Watch)
+      → Stood f y n (move s LineReset Sent ∷ move s ReadIdcode Idcode ∷ ms) (trying m κ) e → killed b ≡ false → Lasting (f .Safe z) b → b .silicon ≡ f .silicon
       → (onMiss : (f .Still → ⊥) → (l : Lists) → Stood f y (suc n) (move s ReadIdcode Idcode ∷ ms) (afterLine m κ) (reset-by LineReset e)
-      → Reaches f (tried s y (suc n) a k b t l again (reset-by LineReset e)))
-      → (next : eqb (f .silicon .idcode) 0x0BB11477 ≡ true → (e′ : Env) → Stood f y (suc (suc n)) ms κ e′ → Reaches f (sync y (suc (suc n)) 0 0 k b t e′))
-      → Reaches f (sync y n 0 a k b t e)
+      → Reaches f z (tried s y (suc n) a k b t l again (reset-by LineReset e)))
+      → (next : eqb (f .silicon .idcode) 0x0BB11477 ≡ true → (e′ : Env) → Stood f y (suc (suc n)) ms κ e′ → Reaches f z (sync y (suc (suc n)) 0 0 k b t e′))
+      → Reaches f z (sync y n 0 a k b t e)
   unfolding carry judge noticed
-  attempt-once m s {y} {n} {ms} {κ} {e} a k b t st not-killed safe own onMiss next =
+  attempt-once m s {z} {y} {n} {ms} {κ} {e} a k b t st not-killed safe own onMiss next =
       line-reaches (record { at = st .at; accounted = st .accounted; room = st .room; xres = st .xres; lines = omega (arith, st .lines); calm = st .calm }) safe λ st₁.
       steps f (sync y (suc n) 0 a k b t e₁) met refl safe
       (rw (at-move st₁) (record { transfers = omega (arith, st₁ .room); xresets = omega (arith, st₁ .xres); lineResets = omega (arith, st₁ .lines) })) (clear noWaits 0 a t (e .delays))
@@ -130,12 +133,12 @@ module _ {i : Image} (f : Frame i) where
         calm = λ still. let c = st .calm still in record { line = calm-rest (c .line); calls = c .calls; none = c .none };
       }
 
-      mine : (z : Bool) → eqb (b .silicon .idcode) 0x0BB11477 ≡ z → eqb (f .silicon .idcode) 0x0BB11477 ≡ z
-      mine z h = sym (ap (λ (x : Silicon). eqb (x .idcode) 0x0BB11477) own) ∙ h
+      mine : (v : Bool) → eqb (b .silicon .idcode) 0x0BB11477 ≡ v → eqb (f .silicon .idcode) 0x0BB11477 ≡ v
+      mine v h = sym (ap (λ (x : Silicon). eqb (x .idcode) 0x0BB11477) own) ∙ h
 
-      fit : Stood f y (suc n) (move s ReadIdcode Idcode ∷ ms) (afterLine m κ) e₁ → (z : Bool) → eqb (b .silicon .idcode) 0x0BB11477 ≡ z
-          → Reaches f (record {
-            session = judgedTo (goIf z 16 0 k) y (suc n) s 0 (suc (e .traffic .transfers));
+      fit : Stood f y (suc n) (move s ReadIdcode Idcode ∷ ms) (afterLine m κ) e₁ → (v : Bool) → eqb (b .silicon .idcode) 0x0BB11477 ≡ v
+          → Reaches f z (record {
+            session = judgedTo (goIf v 16 0 k) y (suc n) s 0 (suc (e .traffic .transfers));
             target = b;
             lists = listsAfter (i .geometry) ReadIdcode b (e .lists);
             monitor = watching noWaits 0 0 t (e .delays);
@@ -144,17 +147,20 @@ module _ {i : Image} (f : Frame i) where
       fit st₁ true h = next (mine true h) (passed (listsAfter (i .geometry) ReadIdcode b (e .lists)) e₁) (stood st₁)
       fit st₁ false h = stop (f .wrongId s noWaits 0 0 b _ t (e .delays) _ safe (mine false h))
 
-      by : Stood f y (suc n) (move s ReadIdcode Idcode ∷ ms) (afterLine m κ) e₁ → Heard (i .geometry) ReadIdcode (nextEvent (e .lists .line)) (e .lists) b (metBy b e₁) → Reaches f met
-      by st₁ (heardOkay hb hv hl) = rw (hb, hv, hl) (fit st₁ (eqb (b .silicon .idcode) 0x0BB11477) refl)
-      by st₁ (heardWait bad hb hv hl) = rw (hb, hv, hl) (onMiss (not-calm bad) _ st₁)
-      by st₁ (heardError c hn bad hb hv) = rw (hb, hv) (onMiss (not-calm bad) _ st₁)
-      by st₁ (heardErrorDone c hn bad hb hv) = rw (hb, hv) (onMiss (not-calm bad) _ st₁)
+      same : Turn z b b z
+      same = stays (same-running b b refl)
+
+      by : Stood f y (suc n) (move s ReadIdcode Idcode ∷ ms) (afterLine m κ) e₁ → Heard (i .geometry) ReadIdcode (nextEvent (e .lists .line)) (e .lists) b (metBy b e₁) → Next f z b met
+      by st₁ (heardOkay hb hv hl) = rw (hb, hv, hl) (going-on same (fit st₁ (eqb (b .silicon .idcode) 0x0BB11477) refl))
+      by st₁ (heardWait bad hb hv hl) = rw (hb, hv, hl) (going-on same (onMiss (not-calm bad) _ st₁))
+      by st₁ (heardError c hn bad hb hv) = rw (hb, hv) (going-on same (onMiss (not-calm bad) _ st₁))
+      by st₁ (heardErrorDone c hn bad hb hv) = rw (hb, hv) (going-on same (onMiss (not-calm bad) _ st₁))
 
   -- the attempts; after this one m more are allowed
-  pub attempts : (m s : ℕ) {y : Entry} {n : ℕ} {ms : List Move} {κ : Allowance} {e : Env} (a k : ℕ) (b : Target) (t : Watch)
-      → a + suc m ≡ 30 → Stood f y n (move s LineReset Sent ∷ move s ReadIdcode Idcode ∷ ms) (trying m κ) e → killed b ≡ false → Lasting (f .Safe) b → b .silicon ≡ f .silicon
-      → (next : eqb (f .silicon .idcode) 0x0BB11477 ≡ true → (e′ : Env) → Stood f y (suc (suc n)) ms κ e′ → Reaches f (sync y (suc (suc n)) 0 0 k b t e′))
-      → Reaches f (sync y n 0 a k b t e)
+  pub attempts : (m s : ℕ) {z : Bool} {y : Entry} {n : ℕ} {ms : List Move} {κ : Allowance} {e : Env} (a k : ℕ) (b : Target) (t : Watch)
+      → a + suc m ≡ 30 → Stood f y n (move s LineReset Sent ∷ move s ReadIdcode Idcode ∷ ms) (trying m κ) e → killed b ≡ false → Lasting (f .Safe z) b → b .silicon ≡ f .silicon
+      → (next : eqb (f .silicon .idcode) 0x0BB11477 ≡ true → (e′ : Env) → Stood f y (suc (suc n)) ms κ e′ → Reaches f z (sync y (suc (suc n)) 0 0 k b t e′))
+      → Reaches f z (sync y n 0 a k b t e)
   attempts zero s a k b t count st not-killed safe own next =
       attempt-once zero s a k b t st not-killed safe own
       (λ bad l st₁. rw (le-ltb (suc a) 30 (omega arith)) (stop (f .caught 26 s b l _ (lit≤ tt) bad safe))) next

@@ -10,6 +10,7 @@ use Rattle.flow.specs.Terms.{CalmCalls, callsEnd, calmCall}
 use Rattle.flow.specs.Exchange.{isCall}
 use Rattle.flow.specs.Judge.{free, succeeded, judge}
 use Rattle.flow.specs.Monitor.{Watch, noticeRead}
+use Rattle.flow.specs.Sealing.{locksMacro0, seals}
 use Rattle.flow.specs.Sequence.{call, poll, read, write}
 use Rattle.flow.specs.Target.{Target, Residue, CallOutcome, idle, busy, nextOutcome}
 use Rattle.flow.specs.declared.Entry.{Entry}
@@ -19,7 +20,7 @@ use Rattle.flow.specs.declared.Purpose.the-variants.{Status}
 use Rattle.flow.proofs.Access.{aim, Answering, admits, write-reaches, call-reaches, read-still}
 use Rattle.flow.proofs.Places.{place-sysreq, place-sysarg}
 use Rattle.flow.proofs.Polling.{idleAt, during, looping, loopAt, poll-busy}
-use Rattle.flow.proofs.Reaches.{Allowance, withTransfer, withMoves, Env, sync, Frame, at-rest, Stood, Stands, less-room, Reaches, stop}
+use Rattle.flow.proofs.Reaches.{Allowance, withTransfer, withMoves, Env, sync, Frame, at-rest, Stood, Stands, less-room, Turn, stays, sealing, and-false, Reaches, stop}
 use Rattle.flow.proofs.Table.{Facts}
 use Rattle.image.specs.Image.{Image}
 use Rattle.parts.specs.Sizes.{sysreqOf, sysargOf}
@@ -55,6 +56,10 @@ pub record Returned (g : Geometry) (c w : ℕ) (b b′ : Target) : Type 0 where
   pub sysreq : b′ .sysreq ≡ sysreqAfter c (b .silicon) (b .effect)
   pub ended : b′ .running ≡ idle
 
+pub returned : (g : Geometry) (c w : ℕ) (r : Residue) (b : Target) → Returned g c w b (finish g true r c (asked c w b))
+unfolding finish
+returned g c w r b = record { silicon = refl; effect = refl; params = refl; memory = refl; sysarg = refl; sysreq = refl; ended = refl }
+
 calm-success : {l : List CallOutcome} → CalmCalls l → (nextOutcome l) .succeeds ≡ true
 calm-success callsEnd = refl
 calm-success (calmCall h h′ c) = h′
@@ -63,7 +68,7 @@ calm-idle : {l : List CallOutcome} → CalmCalls l → (nextOutcome l) .busyRead
 calm-idle callsEnd = refl
 calm-idle (calmCall h h′ c) = h
 
-failed : (w : ℕ) → succeeded (failedArg w) ≡ false
+pub failed : (w : ℕ) → succeeded (failedArg w) ≡ false
 unfolding succeeded
 failed w = by (eqb (w / 268435456 % 16) 0xA) refl
   where
@@ -80,34 +85,51 @@ pub free-zero : free 0 ≡ true
 unfolding free
 free-zero = refl
 
+-- SYSARG of a failed call says no success
+fails-unsealed : (g : Geometry) (r : Residue) (c a v a′ v′ : ℕ) (b : Target) → seals (aim a v (during (busy 0 false r c) b)) (aim a′ v′ (finish g false r c b)) ≡ false
+unfolding finish
+fails-unsealed g r c a v a′ v′ b = rw (failed (r .sysarg)) (and-false (locksMacro0 (busy 0 false r c) (b .effect) (b .sysarg)))
+
+-- a call that seals nothing, or the one that locks macro 0
+pub data Ends (c : ℕ) (b : Target) : Bool → Bool → Type 0 where
+  ordinary : {z : Bool} → ((r : Residue) → locksMacro0 (busy 0 true r c) (b .effect) (b .sysarg) ≡ false) → Ends c b z z
+  locking : ((r : Residue) → locksMacro0 (busy 0 true r c) (b .effect) (b .sysarg) ≡ true) → Ends c b false true
+
+end-turn : (g : Geometry) {c : ℕ} {b : Target} {z z′ : Bool} → Ends c b z z′ → succeeded (sysargAfter c (b .silicon) (b .memory)) ≡ true → (r : Residue) (a v a′ v′ : ℕ)
+    → Turn z (aim a v (during (busy 0 true r c) b)) (aim a′ v′ (finish g true r c b)) z′
+unfolding finish
+end-turn g (ordinary h) good r a v a′ v′ = stays (rw (h r))
+end-turn g {c} {b} (locking h) good r a v a′ v′ = sealing {b = aim a v (during (busy 0 true r c) b)} {b′ = aim a′ v′ (finish g true r c b)} (rw (h r, good))
+
 module _ {i : Image} (f : Frame i) (fx : Facts (i .geometry)) where
   -- from the poll on
-  call-tail : (s₀ : Bool) (r₀ : Residue) (q c s : ℕ) {y : Entry} {n : ℕ} {ms : List Move} {κ : Allowance} {e : Env} {k : ℕ} (b : Target) (x z : ℕ) {v : Bool}
+  call-tail : {z z′ : Bool} (s₀ : Bool) (r₀ : Residue) (q c s : ℕ) {y : Entry} {n : ℕ} {ms : List Move} {κ : Allowance} {e : Env} {k : ℕ} (b : Target) (x u : ℕ) {v : Bool}
       → Stood f y n (poll (i .geometry) s ++ (read s (sysargOf (i .geometry)) Status ++ ms)) (looping 9999 (withTransfer (withTransfer (withTransfer κ)))) e
-      → Answering (b .effect) → f .Safe (b .memory) → ((y : Bool) (r : Residue) → f .Safe ((finish (i .geometry) y r c b) .memory))
+      → Answering (b .effect) → f .Safe z (b .memory) → ((r : Residue) → f .Safe z′ ((finish (i .geometry) true r c b) .memory)) → ((r : Residue) → f .Safe z ((finish (i .geometry) false r c b) .memory))
+      → Ends c b z z′
       → (f .Still → q ≡ 0) → (f .Still → s₀ ≡ true)
       → free (sysreqAfter c (b .silicon) (b .effect)) ≡ true → succeeded (sysargAfter c (b .silicon) (b .memory)) ≡ true
       → (next : (b′ : Target) → Returned (i .geometry) c (b .sysarg) b b′ → (n′ : ℕ) (e′ : Env) → Stood f y n′ ms κ e′
-      → Reaches f (sync y n′ 0 0 k b′ (idleAt (sysargOf (i .geometry))) e′))
-      → Reaches f (sync y n 0 0 k (aim x z (during (busy q s₀ r₀ c) b)) (loopAt x v true) e)
+      → Reaches f z′ (sync y n′ 0 0 k b′ (idleAt (sysargOf (i .geometry))) e′))
+      → Reaches f z (sync y n 0 0 k (aim x u (during (busy q s₀ r₀ c) b)) (loopAt x v true) e)
   unfolding finish judge noticeRead
-  call-tail true r₀ q c s b x z st answering safe safes idles wins ready good next =
-      poll-busy f (place-sysreq (i .geometry) fx) true r₀ c b (admits (b .effect) AtSysreq refl answering) safe (safes false) (safes true r₀) ready q 9999 s 0 x z refl st idles λ e₁ h₁ st₁.
-      read-still f s (sysargOf (i .geometry)) Status st₁ AtSysarg (place-sysarg (i .geometry) fx) (admits (b .effect) AtSysarg refl answering) (record { now = safes true r₀; cut = λ r. safes true r₀ })
+  call-tail true r₀ q c s b x u st answering safe won lost ends idles wins ready good next =
+      poll-busy f (place-sysreq (i .geometry) fx) true r₀ c b (admits (b .effect) AtSysreq refl answering) safe lost (won r₀) ready (λ a v a′ v′. end-turn (i .geometry) ends good r₀ a v a′ v′) q 9999 s 0 x u refl st idles λ e₁ h₁ st₁.
+      read-still f s (sysargOf (i .geometry)) Status st₁ AtSysarg (place-sysarg (i .geometry) fx) (admits (b .effect) AtSysarg refl answering) (record { now = won r₀; cut = λ r. won r₀ })
       (λ o. sysargAfter c (b .silicon) (b .memory)) (λ o z. refl) λ o o′ e₂ h₂ st₂.
       rw (good, status-is (sysargAfter c (b .silicon) (b .memory)), good) (
       next _ (record { silicon = refl; effect = refl; params = refl; memory = refl; sysarg = refl; sysreq = refl; ended = refl }) _ e₂ st₂)
-  call-tail false r₀ q c s b x z st answering safe safes idles wins ready good next =
-      poll-busy f (place-sysreq (i .geometry) fx) false r₀ c b (admits (b .effect) AtSysreq refl answering) safe (safes false) (safes false r₀) free-zero q 9999 s 0 x z refl st idles λ e₁ h₁ st₁.
-      read-still f s (sysargOf (i .geometry)) Status st₁ AtSysarg (place-sysarg (i .geometry) fx) (admits (b .effect) AtSysarg refl answering) (record { now = safes false r₀; cut = λ r. safes false r₀ })
+  call-tail false r₀ q c s b x u st answering safe won lost ends idles wins ready good next =
+      poll-busy f (place-sysreq (i .geometry) fx) false r₀ c b (admits (b .effect) AtSysreq refl answering) safe lost (lost r₀) free-zero (λ a v a′ v′. stays (fails-unsealed (i .geometry) r₀ c a v a′ v′ b)) q 9999 s 0 x u refl st idles λ e₁ h₁ st₁.
+      read-still f s (sysargOf (i .geometry)) Status st₁ AtSysarg (place-sysarg (i .geometry) fx) (admits (b .effect) AtSysarg refl answering) (record { now = lost r₀; cut = λ r. lost r₀ })
       (λ o. failedArg (r₀ .sysarg)) (λ o z. refl) λ o o′ e₂ h₂ st₂.
       rw (failed (r₀ .sysarg), status-is (failedArg (r₀ .sysarg)), failed (r₀ .sysarg)) (
-      stop (f .caught 19 s _ _ _ (lit≤ tt) (λ still. let no′ : false ≡ true = wins still in let z : _≡_ {A = ℕ} 0 1 = cc in omega arith) (record { now = safes false r₀; cut = λ r. safes false r₀ })))
+      stop (f .caught 19 s _ _ _ (lit≤ tt) (λ still. let no′ : false ≡ true = wins still in let z : _≡_ {A = ℕ} 0 1 = cc in omega arith) (record { now = lost r₀; cut = λ r. lost r₀ })))
 
   -- what a cut would leave once the call is asked for
-  cut-asked : (c w : ℕ) (b : Target) → ((y : Bool) (r : Residue) → f .Safe ((finish (i .geometry) y r c (asked c w b)) .memory)) → (r : Residue) → f .Safe (afterFailure c w r (b .memory))
+  cut-asked : {z : Bool} (c w : ℕ) (b : Target) → ((r : Residue) → f .Safe z ((finish (i .geometry) false r c (asked c w b)) .memory)) → (r : Residue) → f .Safe z (afterFailure c w r (b .memory))
   unfolding finish
-  cut-asked c w b safes r = safes false r
+  cut-asked c w b lost r = lost r
 
   -- what a call may cost
   call-allowance : (s c w : ℕ) {y : Entry} {n : ℕ} (ms : List Move) (κ : Allowance) {e : Env} → Stands f y n (call (i .geometry) s c w) ms κ e
@@ -115,18 +137,19 @@ module _ {i : Image} (f : Frame i) (fx : Facts (i .geometry)) where
   unfolding call write read withMoves
   call-allowance s c w ms κ st = less-room (17 + (17 + (17 + (17 + (51 * 10000 + (17 + (17 + (17 + κ .room)))))))) (omega arith) st
 
-  pub calling : (s c w : ℕ) {y : Entry} {n : ℕ} {ms : List Move} {κ : Allowance} {e : Env} {k : ℕ} {b : Target} {t : Watch}
+  pub calling : {z z′ : Bool} (s c w : ℕ) {y : Entry} {n : ℕ} {ms : List Move} {κ : Allowance} {e : Env} {k : ℕ} {b : Target} {t : Watch}
       → Command c → Stands f y n (call (i .geometry) s c w) ms κ e
-      → Answering (b .effect) → b .running ≡ idle → f .Safe (b .memory) → ((y : Bool) (r : Residue) → f .Safe ((finish (i .geometry) y r c (asked c w b)) .memory))
+      → Answering (b .effect) → b .running ≡ idle → f .Safe z (b .memory) → ((r : Residue) → f .Safe z′ ((finish (i .geometry) true r c (asked c w b)) .memory)) → ((r : Residue) → f .Safe z ((finish (i .geometry) false r c (asked c w b)) .memory))
+      → Ends c (asked c w b) z z′
       → free (sysreqAfter c (b .silicon) (b .effect)) ≡ true → succeeded (sysargAfter c (b .silicon) (b .memory)) ≡ true
       → (next : (b′ : Target) → Returned (i .geometry) c w b b′ → (n′ : ℕ) (e′ : Env) → Stood f y n′ ms κ e′
-      → Reaches f (sync y n′ 0 0 k b′ (idleAt (sysargOf (i .geometry))) e′))
-      → Reaches f (sync y n 0 0 k b t e)
+      → Reaches f z′ (sync y n′ 0 0 k b′ (idleAt (sysargOf (i .geometry))) e′))
+      → Reaches f z (sync y n 0 0 k b t e)
   unfolding call write read withMoves
-  calling s c w {ms = ms} {κ = κ} {b = b} cmd st answering quiet safe safes ready good next =
-      write-reaches f s (sysargOf (i .geometry)) w (call-allowance s c w ms κ st) AtSysarg (place-sysarg (i .geometry) fx) (admits (b .effect) AtSysarg refl answering) (at-rest (f .Safe) b quiet safe) (record { now = safe; cut = λ r. rw quiet safe }) refl λ e₁ h₁ st₁.
-      call-reaches f s (sysreqOf (i .geometry)) (0x80000000 + c) st₁ (place-sysreq (i .geometry) fx) (admits (b .effect) AtSysreq refl answering) (record { now = safe; cut = λ r. rw quiet safe }) (record { now = safe; cut = λ r. rw (cmd .number) (cut-asked c w b safes r) }) (cmd .started) λ e₂ h₂ st₂.
+  calling {z = z} s c w {ms = ms} {κ = κ} {b = b} cmd st answering quiet safe won lost ends ready good next =
+      write-reaches f s (sysargOf (i .geometry)) w (call-allowance s c w ms κ st) AtSysarg (place-sysarg (i .geometry) fx) (admits (b .effect) AtSysarg refl answering) (at-rest (f .Safe z) b quiet safe) (record { now = safe; cut = λ r. rw quiet safe }) refl λ e₁ h₁ st₁.
+      call-reaches f s (sysreqOf (i .geometry)) (0x80000000 + c) st₁ (place-sysreq (i .geometry) fx) (admits (b .effect) AtSysreq refl answering) (record { now = safe; cut = λ r. rw quiet safe }) (record { now = safe; cut = λ r. rw (cmd .number) (cut-asked c w b lost r) }) (cmd .started) λ e₂ h₂ st₂.
       rw (cmd .number) (
       call-tail ((nextOutcome (e₁ .lists .calls)) .succeeds) ((nextOutcome (e₁ .lists .calls)) .residue) ((nextOutcome (e₁ .lists .calls)) .busyReads) c s (asked c w b) (sysreqOf (i .geometry)) (b .posted)
-      st₂ answering safe safes (λ still. calm-idle ((st₁ .calm still) .calls)) (λ still. calm-success ((st₁ .calm still) .calls)) ready good
+      st₂ answering safe won lost ends (λ still. calm-idle ((st₁ .calm still) .calls)) (λ still. calm-success ((st₁ .calm still) .calls)) ready good
       λ b′ ret n′ e′ st′. next b′ (record { silicon = ret .silicon; effect = ret .effect; params = ret .params; memory = ret .memory; sysarg = ret .sysarg; sysreq = ret .sysreq; ended = ret .ended }) n′ e′ st′)

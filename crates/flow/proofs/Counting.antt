@@ -5,7 +5,7 @@ use Prim.Native.Nat.{ℕ, zero, suc, _+_, _*_, _/_, _≤_}
 use native.Mathlib.Omega.{arith}
 use lib.ListN.{length}
 use Rattle.flow.specs.Plan.{Traffic, counting, trafficIn, isPoll, pollsIn, fromProtected, plan, loops, acquisitions}
-use Rattle.flow.specs.Sequence.{write, read, call, writes, listed, inTurn, imoCall, acquire, silicon, privileged, programRow, compareWords, verifyRow, lockStart, lockMacro, verifyMacro, program, opening, afterwards, sequence, key}
+use Rattle.flow.specs.Sequence.{write, read, call, writes, listed, inTurn, imoCall, acquire, silicon, privileged, programRow, compareWords, verifyRow, lockStart, lockMacro, verifyMacro, macroDown, lockAndVerify, program, opening, afterwards, sequence, key}
 use Rattle.flow.specs.Session.{bare, moveCount}
 use Rattle.flow.specs.Totals.{SequenceCounts}
 use Rattle.flow.specs.declared.Entry.{Entry}
@@ -155,6 +155,9 @@ count-acquire g f =
     record { transfers = omega (arith, h .transfers); polls = omega (arith, h .polls); xresets = omega (arith, h .xresets); lineResets = omega (arith, h .lineResets) }
 
 module _ (i : Image) (f : Facts (i .geometry)) where
+  count-macro : (m : ℕ) → Totals (lockAndVerify i m) (24 + 5 * (locksIn (i .geometry) m / 4)) 2 0 0
+  count-macro m = recount (joined (count-lock i m) (count-verify (i .geometry) m)) (omega arith) refl refl refl
+
   count-program : Totals (program i)
       (29 + rowsOf (i .geometry) * (26 + 5 * (rowBytes (i .geometry) / 4)) + macrosOf (i .geometry) * (24 + 5 * (locksIn (i .geometry) 0 / 4)))
       (2 + 2 * rowsOf (i .geometry) + 2 * macrosOf (i .geometry)) 0 0
@@ -165,9 +168,8 @@ module _ (i : Image) (f : Facts (i .geometry)) where
       (joined (count-privileged g 4 Keep refl)
       (joined (count-in-turn _ _ 2 (count-row i) 0 (rowsOf g))
       (joined (count-in-turn _ _ 0 (count-verify-row g) 0 (rowsOf g))
-      (joined (count-in-turn _ _ 2 (count-lock i) 0 (macrosOf g))
-      (joined (count-in-turn _ _ 0 (count-verify g) 0 (macrosOf g))
-      (joined (count-read 8 _ StoredLevel refl) (count-privileged g 9 LastSum refl)))))))
+      (joined (count-in-turn _ _ 2 (λ k. count-macro (macroDown g k)) 0 (macrosOf g))
+      (joined (count-read 8 _ StoredLevel refl) (count-privileged g 9 LastSum refl))))))
       (omega arith) (omega arith) refl refl
 
   pub count-opening : Totals (opening i) (28 + 10 * imoOf (i .geometry)) (2 + imoOf (i .geometry)) 1 1

@@ -1,5 +1,5 @@
 -- Demand 3 on the definitions. Assumes nothing.
-use mathlib.Core.Bool.{true, false, false≢true, _&&_}
+use mathlib.Core.Bool.{Bool, true, false, false≢true, _&&_}
 use mathlib.Core.List.{List}
 use mathlib.Core.Logic.{_⊎_, inl, inr, _↔_}
 use mathlib.Core.Path.{_≡_, refl, ap, sym, subst, _∙_}
@@ -17,10 +17,10 @@ use Rattle.flow.specs.Target.{Target, Lists}
 use Rattle.flow.specs.declared.Silicon.{Silicon}
 use Rattle.flow.proofs.Counting.{total, one-more}
 use Rattle.flow.proofs.Entering.{Goes, byOpen, byProtected, start-reaches}
-use Rattle.flow.proofs.Frames.{Sound, not-virgin, Why, mishap, otherId, otherPart, Stopped, Finished, frame, start-stands}
+use Rattle.flow.proofs.Frames.{Sound, not-virgin, Held, Why, mishap, otherId, otherPart, Stopped, Finished, frame, start-stands}
 use Rattle.flow.proofs.Passing.{table-facts, valid}
 use Rattle.flow.proofs.Phases.{Level, isOpen, isProtected}
-use Rattle.flow.proofs.Reaches.{rightSilicon, RightIds, Frame, Lasting, Bounded, going, Reaches, here, stop, step}
+use Rattle.flow.proofs.Reaches.{rightSilicon, RightIds, Frame, Lasting, at-rest, Bounded, going, Reaches, here, stop, step}
 use Rattle.parts.proofs.Table.{both}
 use Rattle.image.specs.Checks.{metadataAt}
 use Rattle.image.specs.Image.{Image, imageOf}
@@ -84,45 +84,49 @@ module _ (i : Image) (lv : Level (i .header .level)) (b : Target) (l : Lists) wh
   abbrev ours : Frame i
   ours = frame i lv b l
 
+  -- what is held is sound
+  soundly : {z : Bool} (b′ : Target) → Lasting (Held i z) b′ → Lasting Sound b′
+  soundly b′ s = record { now = s .now .0; cut = λ r. (s .cut r) .0 }
+
   -- on the way, done, or stopped for a reason
   data Fair (r : Run) : Type 0 where
     onWay : going (r .session) ≡ true → Lasting Sound (r .target) → NoError (r .monitor) → Fair r
     done : Finished i b l r → Fair r
-    ended : Stopped i (b .silicon) l r → Fair r
+    ended : {z : Bool} → Stopped i (b .silicon) l z r → Fair r
 
-  finished-ends : {r : Run} → Finished i b l r → going (r .session) ≡ false
+  pub finished-ends : {r : Run} → Finished i b l r → going (r .session) ≡ false
   finished-ends g = ap going (g .is)
 
-  stopped-ends : {r : Run} → Stopped i (b .silicon) l r → going (r .session) ≡ false
+  pub stopped-ends : {z : Bool} {r : Run} → Stopped i (b .silicon) l z r → going (r .session) ≡ false
   stopped-ends s = ap going (s .is)
 
-  fair : (n : ℕ) (r : Run) → Reaches ours r → Fair (runAfter i n r)
+  fair : (n : ℕ) {z : Bool} (r : Run) → Reaches ours z r → Fair (runAfter i n r)
   unfolding runAfter frame
-  fair zero r (here g) = done g
+  fair zero r (here g) = done (g .1)
   fair zero r (stop s) = ended s
-  fair zero r (step g safe most clean more) = onWay g safe clean
-  fair (suc n) r (here g) = rw (stays i (suc n) r (finished-ends g)) (done g)
+  fair zero r (step g safe most clean turn more) = onWay g (soundly (r .target) safe) clean
+  fair (suc n) r (here g) = rw (stays i (suc n) r (finished-ends (g .1))) (done (g .1))
   fair (suc n) r (stop s) = rw (stays i (suc n) r (stopped-ends s)) (ended s)
-  fair (suc n) r (step g safe most clean more) = fair n (advance i r) more
+  fair (suc n) r (step g safe most clean turn more) = fair n (advance i r) more
 
-  bounded : (n : ℕ) (r : Run) → Reaches ours r → (going (r .session) ≡ false → Bounded ours (r .traffic)) → Bounded ours (handedOut i (runAfter i n r))
+  bounded : (n : ℕ) {z : Bool} (r : Run) → Reaches ours z r → (going (r .session) ≡ false → Bounded ours (r .traffic)) → Bounded ours (handedOut i (runAfter i n r))
   unfolding runAfter frame
-  bounded zero r (here g) h = rw (stands-none i (r .session) (r .traffic) (finished-ends g)) (h (finished-ends g))
+  bounded zero r (here g) h = rw (stands-none i (r .session) (r .traffic) (finished-ends (g .1))) (h (finished-ends (g .1)))
   bounded zero r (stop s) h = rw (stands-none i (r .session) (r .traffic) (stopped-ends s)) (h (stopped-ends s))
-  bounded zero r (step g safe most clean more) h = most
-  bounded (suc n) r (here g) h = rw (stays i (suc n) r (finished-ends g), stands-none i (r .session) (r .traffic) (finished-ends g)) (h (finished-ends g))
+  bounded zero r (step g safe most clean turn more) h = most
+  bounded (suc n) r (here g) h = rw (stays i (suc n) r (finished-ends (g .1)), stands-none i (r .session) (r .traffic) (finished-ends (g .1))) (h (finished-ends (g .1)))
   bounded (suc n) r (stop s) h = rw (stays i (suc n) r (stopped-ends s), stands-none i (r .session) (r .traffic) (stopped-ends s)) (h (stopped-ends s))
-  bounded (suc n) r (step g safe most clean more) h = bounded n (advance i r) more (λ _. rw (met-traffic i r g) most)
+  bounded (suc n) r (step g safe most clean turn more) h = bounded n (advance i r) more (λ _. rw (met-traffic i r g) most)
 
-  comes : (n : ℕ) (r : Run) → Reaches ours r → total (ours .most) ≤ n + total (r .traffic) → going ((runAfter i n r) .session) ≡ false
+  comes : (n : ℕ) {z : Bool} (r : Run) → Reaches ours z r → total (ours .most) ≤ n + total (r .traffic) → going ((runAfter i n r) .session) ≡ false
   unfolding runAfter frame
-  comes zero r (here g) h = finished-ends g
+  comes zero r (here g) h = finished-ends (g .1)
   comes zero r (stop s) h = stopped-ends s
-  comes zero r (step g safe most clean more) h =
+  comes zero r (step g safe most clean turn more) h =
       absurd (omega (arith, stands-one i (r .session) (r .traffic) g, most .transfers, most .xresets, most .lineResets))
-  comes (suc n) r (here g) h = rw (stays i (suc n) r (finished-ends g)) (finished-ends g)
+  comes (suc n) r (here g) h = rw (stays i (suc n) r (finished-ends (g .1))) (finished-ends (g .1))
   comes (suc n) r (stop s) h = rw (stays i (suc n) r (stopped-ends s)) (stopped-ends s)
-  comes (suc n) r (step g safe most clean more) h =
+  comes (suc n) r (step g safe most clean turn more) h =
       comes n (advance i r) more (omega (arith, ap total (met-traffic i r g), stands-one i (r .session) (r .traffic) g))
 
   -- a reported session, taken apart
@@ -144,7 +148,7 @@ module _ (i : Image) (lv : Level (i .header .level)) (b : Target) (l : Lists) wh
   no-calm-reason x m (otherId c e) right calm = false≢true (sym e ∙ (right-ids i (b .silicon) right) .idcode)
   no-calm-reason x m (otherPart c e) right calm = false≢true (sym e ∙ (right-ids i (b .silicon) right) .silicon)
 
-  not-zero : (x : ℕ) (m : Monitor) → Why i (b .silicon) l x m → x ≡ 0 → ⊥
+  pub not-zero : (x : ℕ) (m : Monitor) → Why i (b .silicon) l x m → x ≡ 0 → ⊥
   not-zero x m (mishap n some bad) e = omega arith
   not-zero x m (otherId c h) e = omega arith
   not-zero x m (otherPart c h) e = omega arith
@@ -172,8 +176,8 @@ module _ (i : Image) (lv : Level (i .header .level)) (b : Target) (l : Lists) wh
 
   sound-of : {r : Run} → Fair r → Lasting Sound (r .target)
   sound-of (onWay g safe clean) = safe
-  sound-of (done d) = d .sound
-  sound-of (ended s) = s .sound
+  sound-of {r} (done d) = at-rest Sound (r .target) (d .quiet) (subst Level (sym (d .holds-image .level)) lv)
+  sound-of {r} (ended s) = soundly (r .target) (s .sound)
 
   provoked-of : {r : Run} → Fair r → Calm l → NoError (r .monitor)
   provoked-of (onWay g safe clean) calm = clean
@@ -258,11 +262,11 @@ module _ (g : Geometry) (h : Header) (bytes : List ℕ) (p : Passes g h bytes) (
   abbrev lv : Level (h .level)
   lv = (valid g h bytes p) .level
 
-  way : Reaches (frame i lv b l) (started b l)
+  pub way : Reaches (frame i lv b l) false (started b l)
   unfolding frame
   way =
       start-reaches (frame i lv b l) (table-facts g h bytes p) (valid g h bytes p) (record { high = s .high; low = s .low; revision = s .revision; family = s .family }) (b .memory)
-      (record { flash = s .flash; locks = s .locks; latch = s .latch }) (level-sound b (s .level)) (goes b (s .level))
+      (record { flash = s .flash; locks = s .locks; latch = s .latch }) (level-sound b (s .level), (λ q. absurd (false≢true q))) (goes b (s .level))
       (record { silicon = refl; memory = refl; room = s .params; quiet = s .quiet }) (start-stands i (table-facts g h bytes p) (frame i lv b l) b l refl refl (λ c. c))
 
   fair-after : (n : ℕ) → Fair i lv b l (runAfter i n (started b l))

@@ -21,7 +21,7 @@ use Rattle.flow.specs.declared.Move.{Move}
 use Rattle.flow.specs.declared.Purpose.the-variants.{Keep, EntryLevel, Reopened}
 use Rattle.flow.proofs.Access.{Answering}
 use Rattle.flow.proofs.Acquiring.{Fresh, Acquired, acquired-with, acquire-leg, Bytes, ids-read, level-read, silicon-reaches}
-use Rattle.flow.proofs.Calling.{Returned, calling}
+use Rattle.flow.proofs.Calling.{Returned, ordinary, calling}
 use Rattle.flow.proofs.Finishing.{Blank, nothing, program-reaches}
 use Rattle.flow.proofs.Legs.{core}
 use Rattle.flow.proofs.Listing.{ListReturned, listing}
@@ -46,13 +46,13 @@ effect-reopen : (g : Geometry) (l : ℕ) (ps : List ℕ) (m : Memory) → l ≡ 
 unfolding effectOf
 effect-reopen g l ps m e = rw e
 
-safe-reopen : {i : Image} (f : Frame i) → RightIds i (f .silicon) → (y : Bool) (r : Residue) (b : Target) → b .effect ≡ 2 → b .sysarg ≡ reopenWord → f .Safe (b .memory)
-    → f .Safe ((finish (i .geometry) y r 0x0D b) .memory)
+safe-reopen : {i : Image} (f : Frame i) → RightIds i (f .silicon) → (y : Bool) (r : Residue) (b : Target) → b .effect ≡ 2 → b .sysarg ≡ reopenWord → f .Safe false (b .memory)
+    → f .Safe false ((finish (i .geometry) y r 0x0D b) .memory)
 unfolding finish afterFailure
 safe-reopen {i} f right true r b he ha safe = rw (ha, effect-reopen (i .geometry) (b .effect) [] (b .memory) he) (f .safeOpen right _ refl)
 safe-reopen f right false r b he ha safe = by (r .newLevel && true && eqb (macroSent (b .sysarg)) 0) refl
   where
-    by : (y : Bool) → r .newLevel && true && eqb (macroSent (b .sysarg)) 0 ≡ y → f .Safe (afterFailure 0x0D (b .sysarg) r (b .memory))
+    by : (y : Bool) → r .newLevel && true && eqb (macroSent (b .sysarg)) 0 ≡ y → f .Safe false (afterFailure 0x0D (b .sysarg) r (b .memory))
     by true e = f .safeOpen right _ (rw (e, ha))
     by false e = f .safeSame right (b .memory) _ (rw e) safe
 
@@ -83,14 +83,14 @@ pub some-moves : (i : Image) → 1 ≤ length (afterwards i FromOpen)
 unfolding afterwards listed writes write
 some-moves i = omega arith
 
-module _ {i : Image} (f : Frame i) (fx : Facts (i .geometry)) (v : Valid i) (hb : Bytes (f .silicon)) (m : Memory) (sz : Sized f m) (safe : f .Safe m) where
+module _ {i : Image} (f : Frame i) (fx : Facts (i .geometry)) (v : Valid i) (hb : Bytes (f .silicon)) (m : Memory) (sz : Sized f m) (safe : f .Safe false m) where
   -- OPEN: erase, then steps 4 to 9
   open-reaches : {n x k : ℕ} {e : Env} {b : Target} → RightIds i (f .silicon) → m .stored ≡ 1 → Acquired f m k (core b) → Stands f FromOpen n (afterwards i FromOpen) [] nothing e
-      → Reaches f (sync FromOpen n 0 0 k b (idleAt x) e)
+      → Reaches f false (sync FromOpen n 0 0 k b (idleAt x) e)
   unfolding afterwards
   open-reaches {b = b} right one p st =
       listing f fx 3 0x0A (key 0x0A ∷ []) (callA .command) (split (listed (i .geometry) 3 0x0A (key 0x0A ∷ [])) (program i) [] nothing st) (omega arith)
-      (p .fresh .room) (p .effect ∙ one) (p .fresh .quiet) (rw (p .fresh .memory) safe)
+      (p .fresh .room) (p .effect ∙ one) (p .fresh .quiet) (rw (p .fresh .memory) safe) refl
       (λ y r b′ _ hm _. f .safeOpen right _ (steady-A (i .geometry) y r b′ ∙ ap (λ (z : Memory). z .stored) (hm ∙ p .fresh .memory) ∙ one)) (callA .ready _ _) (callA .good _ _) λ b₁ r₁ n₁ e₁ st₁.
       program-reaches f fx v (blank b₁ r₁) st₁
     where
@@ -107,11 +107,11 @@ module _ {i : Image} (f : Frame i) (fx : Facts (i .geometry)) (v : Valid i) (hb 
 
   -- PROTECTED: reopen, steps 1 and 2 again, then 4 to 9
   protected-reaches : {n x k : ℕ} {e : Env} {b : Target} → RightIds i (f .silicon) → m .stored ≡ 2 → Acquired f m k (core b)
-      → Stands f FromProtected n (afterwards i FromProtected) [] nothing e → Reaches f (sync FromProtected n 0 0 k b (idleAt x) e)
+      → Stands f FromProtected n (afterwards i FromProtected) [] nothing e → Reaches f false (sync FromProtected n 0 0 k b (idleAt x) e)
   unfolding afterwards silicon read withMoves judge
   protected-reaches {b = b} right two p st =
       calling f fx 3 0x0D reopenWord (callD .command) (split (call (i .geometry) 3 0x0D reopenWord) (acquire (i .geometry) ++ (silicon (i .geometry) Reopened ++ program i)) [] nothing st)
-      (inr (p .effect ∙ two)) (p .fresh .quiet) (rw (p .fresh .memory) safe) (λ y r. safe-reopen f right y r _ (p .effect ∙ two) refl (rw (p .fresh .memory) safe)) (callD .ready _ _) (callD .good _ _) λ b₁ ret n₁ e₁ st₁.
+      (inr (p .effect ∙ two)) (p .fresh .quiet) (rw (p .fresh .memory) safe) (λ r. safe-reopen f right true r _ (p .effect ∙ two) refl (rw (p .fresh .memory) safe)) (λ r. safe-reopen f right false r _ (p .effect ∙ two) refl (rw (p .fresh .memory) safe)) (ordinary (λ r. rw (p .effect, two))) (callD .ready _ _) (callD .good _ _) λ b₁ ret n₁ e₁ st₁.
       (acquire-leg f fx FromProtected (zeroed 1 m) (inl refl) (f .safeOpen right _ refl)) .along _ _ _ _ _ _ _ (fresh b₁ ret)
       (split (acquire (i .geometry)) (silicon (i .geometry) Reopened ++ program i) [] nothing st₁) λ k₂ b₂ a₂ n₂ x₂ e₂ st₂.
       silicon-reaches f fx (zeroed 1 m) (inl refl) (f .safeOpen right _ refl) hb (omega arith) Reopened a₂
@@ -137,7 +137,7 @@ module _ {i : Image} (f : Frame i) (fx : Facts (i .geometry)) (v : Valid i) (hb 
   -- the entry that the level decides, or another part
   decided : {y : Entry} → Goes m y → (z : Bool) → rightSilicon i (f .silicon) ≡ z → (k : ℕ) {k₁ n : ℕ} {e : Env} {b : Target} → Acquired f m k₁ (core b)
       → Stood f FromOpen (suc n) (afterwards i FromOpen) (withMoves (afterwards i y) nothing) e
-      → Reaches f (record {
+      → Reaches f false (record {
         session = judgedTo (cond z (entryBy (m .stored) 0 k) (report 20)) FromOpen n 2 0 (e .traffic .transfers);
         target = b;
         lists = e .lists;
@@ -145,7 +145,7 @@ module _ {i : Image} (f : Frame i) (fx : Facts (i .geometry)) (v : Valid i) (hb 
         traffic = e .traffic;
       })
   unfolding sequence
-  decided goes false h k {b = b} p st = stop (f .wrongPart 2 noWaits 0 0 b _ _ _ _ (at-rest (f .Safe) b (p .fresh .quiet) (rw (p .fresh .memory) safe)) h)
+  decided goes false h k {b = b} p st = stop {z = false} (f .wrongPart 2 noWaits 0 0 b _ _ _ _ (at-rest (f .Safe false) b (p .fresh .quiet) (rw (p .fresh .memory) safe)) h)
   decided (byOpen one) true h k p st =
       rw (eq-eqb (m .stored) 1 one) (
       open-reaches (record { idcode = p .idcode; silicon = h }) one (acquired-with p)
@@ -164,7 +164,7 @@ module _ {i : Image} (f : Frame i) (fx : Facts (i .geometry)) (v : Valid i) (hb 
 
   -- the whole way
   pub start-reaches : {y : Entry} → Goes m y → {e : Env} {b : Target} → Fresh f m 0 (core b)
-      → Stands f FromOpen 0 (opening i) (afterwards i FromOpen) (withMoves (afterwards i y) nothing) e → Reaches f (sync FromOpen 0 0 0 0 b (idleAt 0) e)
+      → Stands f FromOpen 0 (opening i) (afterwards i FromOpen) (withMoves (afterwards i y) nothing) e → Reaches f false (sync FromOpen 0 0 0 0 b (idleAt 0) e)
   unfolding opening silicon read withMoves judge
   start-reaches {y} goes p st =
       (acquire-leg f fx FromOpen m (answering-of goes) safe) .along _ _ _ _ _ _ _ p

@@ -11,7 +11,8 @@ use Rattle.flow.specs.Calls.{finish, effectOf, sysargAfter, sysreqAfter,
 use Rattle.flow.specs.Judge.{free, succeeded, sumsFit, judge}
 use Rattle.flow.specs.Monitor.{noWaits, watching, noticeRead}
 use Rattle.flow.specs.Run.{Run}
-use Rattle.flow.specs.Sequence.{key, call, read, privileged, inTurn, programRow, verifyRow, lockMacro, verifyMacro, program}
+use Rattle.flow.specs.Sealing.{HoldsImage}
+use Rattle.flow.specs.Sequence.{key, call, read, privileged, inTurn, programRow, verifyRow, macroDown, lockAndVerify, program}
 use Rattle.flow.specs.Session.{judgedTo}
 use Rattle.flow.specs.Target.{Target, Memory, Residue}
 use Rattle.flow.specs.declared.Entry.{Entry}
@@ -21,19 +22,18 @@ use Rattle.flow.specs.declared.Purpose.{Purpose}
 use Rattle.flow.specs.declared.Purpose.the-variants.{Keep, StoredLevel, LastSum}
 use Rattle.flow.specs.declared.Silicon.{Silicon}
 use Rattle.flow.proofs.Access.{admits-open, read-still}
-use Rattle.flow.proofs.Calling.{Command, calling}
+use Rattle.flow.proofs.Calling.{Command, ordinary, calling}
 use Rattle.flow.proofs.Legs.{Core, core, Leg}
-use Rattle.flow.proofs.Locking.{macros-leg}
-use Rattle.flow.proofs.Phases.{Valid, Opened, Sized, Wrote, Locked, level-safe, wrote-all, locked-all, last-level, same-core}
+use Rattle.flow.proofs.Phases.{Valid, Opened, Sized, Wrote, Locked, wrote-all, all-held, none-locked, first-level, same-core}
 use Rattle.flow.proofs.Places.{place-sysarg}
 use Rattle.flow.proofs.Polling.{idleAt}
 use Rattle.flow.proofs.Programming.{rows-leg}
-use Rattle.flow.proofs.Reaches.{Allowance, withTransfer, withMoves, Env, sync, HoldsImage, Frame, at-rest, Stood, Stands, split, Reaches, here}
+use Rattle.flow.proofs.Reaches.{Allowance, withTransfer, withMoves, Env, sync, Frame, at-rest, Stood, Stands, split, Reaches, here}
 use Rattle.flow.proofs.Table.{Facts}
-use Rattle.flow.proofs.Verifying.{flash-leg, locks-leg, level-leg}
+use Rattle.flow.proofs.Verifying.{flash-leg, macros-leg, level-leg}
 use Rattle.image.specs.Image.{Image}
 use Rattle.image.specs.Words.{total}
-use Rattle.parts.specs.Sizes.{rowBytes, macrosOf, rowsPerMacro, rowsOf, sysargOf, levelAt}
+use Rattle.parts.specs.Sizes.{rowBytes, macrosOf, rowsOf, sysargOf, levelAt}
 use Rattle.parts.specs.declared.Geometry.{Geometry}
 
 commandB : Command 0x0B
@@ -97,20 +97,20 @@ module _ {i : Image} (f : Frame i) (fx : Facts (i .geometry)) (v : Valid i) wher
     traffic = e .traffic;
   }
 
-  sum-reaches : (s : ℕ) (u : Purpose) {y : Entry} {n x k : ℕ} {ms : List Move} {κ : Allowance} {e : Env} {b : Target} → Opened f (core b) → f .Safe (b .memory)
+  sum-reaches : (s : ℕ) (u : Purpose) {z : Bool} {y : Entry} {n x k : ℕ} {ms : List Move} {κ : Allowance} {e : Env} {b : Target} → Opened f (core b) → f .Safe z (b .memory)
       → Stands f y n (call (i .geometry) s 0x0B sumWord) (read s (sysargOf (i .geometry)) u ++ ms) (withTransfer (withTransfer (withTransfer κ))) e
-      → (next : (b′ : Target) → core b′ ≡ core b → (n′ : ℕ) (e′ : Env) → Stood f y (suc n′) ms κ e′ → Reaches f (summed s u y n′ k (b .memory) b′ e′))
-      → Reaches f (sync y n 0 0 k b (idleAt x) e)
+      → (next : (b′ : Target) → core b′ ≡ core b → (n′ : ℕ) (e′ : Env) → Stood f y (suc n′) ms κ e′ → Reaches f z (summed s u y n′ k (b .memory) b′ e′))
+      → Reaches f z (sync y n 0 0 k b (idleAt x) e)
   unfolding noticeRead
-  sum-reaches s u {b = b} p safe st next =
-      calling f fx s 0x0B sumWord commandB st (inl (p .effect)) (p .quiet) safe (λ y r. rw (still-B (i .geometry) y r _) safe) (free-B _ _) (good-B _ _) λ b₁ ret n₁ e₁ st₁.
+  sum-reaches s u {z = z} {b = b} p safe st next =
+      calling f fx s 0x0B sumWord commandB st (inl (p .effect)) (p .quiet) safe (λ r. rw (still-B (i .geometry) true r _) safe) (λ r. rw (still-B (i .geometry) false r _) safe) (ordinary (λ r. refl)) (free-B _ _) (good-B _ _) λ b₁ ret n₁ e₁ st₁.
       let arg : b₁ .sysarg ≡ sysargAfter 0x0B (f .silicon) (b .memory) = ret .sysarg ∙ rw (p .silicon) in
       read-still f s (sysargOf (i .geometry)) u st₁ AtSysarg (place-sysarg (i .geometry) fx) (admits-open (b₁ .effect) AtSysarg (ret .effect ∙ p .effect))
-      (at-rest (f .Safe) b₁ (ret .ended) (rw (ret .memory, effect-B) safe)) (λ o. sysargAfter 0x0B (f .silicon) (b .memory)) (λ o z. rw arg) λ _ _ e₂ _ st₂.
+      (at-rest (f .Safe z) b₁ (ret .ended) (rw (ret .memory, effect-B) safe)) (λ o. sysargAfter 0x0B (f .silicon) (b .memory)) (λ o z. rw arg) λ _ _ e₂ _ st₂.
       next _ (same-core ret (ret .memory ∙ effect-B _ _ _ _ _) (p .quiet)) _ e₂ st₂
 
   -- step 4
-  first-leg : (y : Entry) → Leg f y (privileged (i .geometry) 4 Keep) (Blank f) (Wrote f 0)
+  first-leg : (y : Entry) → Leg f false false y (privileged (i .geometry) 4 Keep) (Blank f) (Wrote f 0)
   unfolding privileged read withMoves judge
   first-leg y = record {
     along = λ n x k later κ e b p st next.
@@ -131,11 +131,8 @@ module _ {i : Image} (f : Frame i) (fx : Facts (i .geometry)) (v : Valid i) wher
   abbrev after8 : List Move
   after8 = read 8 (levelAt (i .geometry)) StoredLevel ++ privileged (i .geometry) 9 LastSum
 
-  abbrev after7 : List Move
-  after7 = inTurn (verifyMacro (i .geometry)) 0 (macrosOf (i .geometry)) ++ after8
-
   abbrev after6 : List Move
-  after6 = inTurn (lockMacro i) 0 (macrosOf (i .geometry)) ++ after7
+  after6 = inTurn (λ k. lockAndVerify i (macroDown (i .geometry) k)) 0 (macrosOf (i .geometry)) ++ after8
 
   abbrev after5 : List Move
   after5 = inTurn (verifyRow (i .geometry)) 0 (rowsOf (i .geometry)) ++ after6
@@ -144,22 +141,22 @@ module _ {i : Image} (f : Frame i) (fx : Facts (i .geometry)) (v : Valid i) wher
   after4 = inTurn (programRow i) 0 (rowsOf (i .geometry)) ++ after5
 
   -- the locks are still to come
-  unlocked : {k : ℕ} {c : Core} → Wrote f (rowsOf (i .geometry)) k c → Locked f 0 k c
-  unlocked w = record {
+  unlocked : {k : ℕ} {c : Core} → Wrote f (rowsOf (i .geometry)) k c → Locked f (macrosOf (i .geometry)) k c
+  unlocked {c = c} w = record {
     opened = w .opened;
     flash = wrote-all v w;
     sized = w .sized;
-    done = rw (zero-mul (rowsPerMacro (i .geometry) / 8));
-    level = w .level;
+    done = none-locked i (c .memory .locks) fx v (w .sized .locks);
+    level = w .level ∙ sym (first-level i (macrosOf (i .geometry)) (fx .any));
     kept = w .kept;
   }
 
   -- step 9
-  last-reaches : {y : Entry} {n x k : ℕ} {e : Env} {b : Target} → Locked f (macrosOf (i .geometry)) k (core b)
-      → Stands f y n (privileged (i .geometry) 9 LastSum) [] nothing e → Reaches f (sync y n 0 0 k b (idleAt x) e)
+  last-reaches : {y : Entry} {n x k : ℕ} {e : Env} {b : Target} → Locked f 0 k (core b)
+      → Stands f y n (privileged (i .geometry) 9 LastSum) [] nothing e → Reaches f true (sync y n 0 0 k b (idleAt x) e)
   unfolding privileged read withMoves judge nothing
   last-reaches {k = k} {b = b} p st =
-      sum-reaches 9 LastSum {κ = nothing} (p .opened) (level-safe f (p .opened .right) (macrosOf (i .geometry)) (b .memory) (p .level))
+      sum-reaches 9 LastSum {κ = nothing} (p .opened) (f .safeSealed (p .opened .right) true (b .memory) (all-held p))
       (split (call (i .geometry) 9 0x0B sumWord) (read 9 (sysargOf (i .geometry)) LastSum) [] nothing st) λ b′ same n′ e′ st′.
       rw (sums-fit i (f .silicon) (b .memory) k (p .kept) (p .flash) (v .sum)) (
       here (f .finished b′ (e′ .lists) (idleAt (sysargOf (i .geometry))) (e′ .delays) (e′ .traffic) (p .opened .right) (ap (λ (c : Core). c .running) same ∙ p .opened .quiet) (holds-image b′ same) (omega (arith, st′ .accounted)) (λ still. (st′ .calm still) .none)))
@@ -167,16 +164,15 @@ module _ {i : Image} (f : Frame i) (fx : Facts (i .geometry)) (v : Valid i) wher
       holds-image : (b′ : Target) → core b′ ≡ core b → HoldsImage i (b′ .memory)
       holds-image b′ same =
           let m : b′ .memory ≡ b .memory = ap (λ (c : Core). c .memory) same in
-          rw m (record { flash = p .flash; locks = locked-all v fx p; level = last-level fx p })
+          rw m (all-held p)
 
   pub program-reaches : {y : Entry} {n x k : ℕ} {e : Env} {b : Target} → Blank f k (core b) → Stands f y n (program i) [] nothing e
-      → Reaches f (sync y n 0 0 k b (idleAt x) e)
+      → Reaches f false (sync y n 0 0 k b (idleAt x) e)
   unfolding program
   program-reaches {y} blank st =
       (first-leg y) .along _ _ _ _ _ _ _ blank (split (privileged (i .geometry) 4 Keep) after4 [] nothing st) λ k₁ b₁ w₁ n₁ x₁ e₁ st₁.
       (rows-leg f fx v y) .along _ _ _ _ _ _ _ w₁ (split (inTurn (programRow i) 0 (rowsOf (i .geometry))) after5 [] nothing st₁) λ k₂ b₂ w₂ n₂ x₂ e₂ st₂.
       (flash-leg f y fx v) .along _ _ _ _ _ _ _ w₂ (split (inTurn (verifyRow (i .geometry)) 0 (rowsOf (i .geometry))) after6 [] nothing st₂) λ k₃ b₃ w₃ n₃ x₃ e₃ st₃.
-      (macros-leg f fx v y) .along _ _ _ _ _ _ _ (unlocked w₃) (split (inTurn (lockMacro i) 0 (macrosOf (i .geometry))) after7 [] nothing st₃) λ k₄ b₄ w₄ n₄ x₄ e₄ st₄.
-      (locks-leg f y fx v) .along _ _ _ _ _ _ _ w₄ (split (inTurn (verifyMacro (i .geometry)) 0 (macrosOf (i .geometry))) after8 [] nothing st₄) λ k₅ b₅ w₅ n₅ x₅ e₅ st₅.
+      (macros-leg f y fx v) .along _ _ _ _ _ _ _ (unlocked w₃) (split (inTurn (λ k. lockAndVerify i (macroDown (i .geometry) k)) 0 (macrosOf (i .geometry))) after8 [] nothing st₃) λ k₅ b₅ w₅ n₅ x₅ e₅ st₅.
       (level-leg f y fx v) .along _ _ _ _ _ _ _ w₅ (split (read 8 (levelAt (i .geometry)) StoredLevel) (privileged (i .geometry) 9 LastSum) [] nothing st₅) λ k₆ b₆ w₆ n₆ x₆ e₆ st₆.
       last-reaches w₆ st₆

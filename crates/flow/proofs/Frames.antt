@@ -1,5 +1,5 @@
 -- The frame of demand 3, and where a started session stands in it. Assumes nothing.
-use mathlib.Core.Bool.{false}
+use mathlib.Core.Bool.{Bool, true, false, false≢true}
 use mathlib.Core.List.{List, [], _∷_}
 use mathlib.Core.Path.{_≡_, refl, sym, subst}
 use Prim.Native.Nat.{ℕ, suc, _+_, _*_, _≤_}
@@ -9,9 +9,10 @@ use Rattle.flow.specs.Terms.{NoError, Calm, entryOf, delaysIn}
 use Rattle.flow.specs.Monitor.{noWaits, Monitor, linkError, noDelays}
 use Rattle.flow.specs.Plan.{noTraffic, trafficIn, isPoll, pollsIn, plan, mostTraffic}
 use Rattle.flow.specs.Run.{Run}
+use Rattle.flow.specs.Sealing.{HoldsImage}
 use Rattle.flow.specs.Sequence.{opening, afterwards, sequence}
 use Rattle.flow.specs.Session.{reported}
-use Rattle.flow.specs.Target.{Target, Memory, Lists}
+use Rattle.flow.specs.Target.{Target, Memory, idle, Lists}
 use Rattle.flow.specs.declared.Entry.the-variants.{FromOpen}
 use Rattle.flow.specs.declared.Move.{Move}
 use Rattle.flow.specs.declared.Purpose.{Purpose}
@@ -22,7 +23,7 @@ use Rattle.flow.specs.declared.Silicon.{Silicon}
 use Rattle.flow.proofs.Counting.{sequence-totals}
 use Rattle.flow.proofs.Finishing.{nothing}
 use Rattle.flow.proofs.Phases.{Level, isOpen, isProtected, isKill}
-use Rattle.flow.proofs.Reaches.{Allowance, withRead, withRequest, withMoves, with-moves-append, Env, rightSilicon, RightIds, HoldsImage, Frame, Lasting, at-rest, Stands, clear}
+use Rattle.flow.proofs.Reaches.{Allowance, withRead, withRequest, withMoves, with-moves-append, Env, rightSilicon, RightIds, Frame, Lasting, Stands, clear}
 use Rattle.flow.proofs.Table.{Facts}
 use Rattle.image.specs.Image.{Image}
 
@@ -79,18 +80,22 @@ not-virgin isOpen e = omega arith
 not-virgin isProtected e = omega arith
 not-virgin isKill e = omega arith
 
+-- and once the board is sealed the memory has the image
+abbrev pub Held : Image → (sealed : Bool) → Memory → Type 0
+Held i z m = Sound m × (z ≡ true → HoldsImage i m)
+
 -- why a session ends with a number
 pub data Why (i : Image) (x : Silicon) (l : Lists) : ℕ → Monitor → Type 0 where
   mishap : (n : ℕ) → 1 ≤ n → (Calm l → ⊥) → Why i x l n (linkError n)
   otherId : {m : Monitor} → NoError m → eqb (x .idcode) 0x0BB11477 ≡ false → Why i x l 16 m
   otherPart : {m : Monitor} → NoError m → rightSilicon i x ≡ false → Why i x l 20 m
 
-pub record Stopped (i : Image) (x : Silicon) (l : Lists) (r : Run) : Type 0 where
+pub record Stopped (i : Image) (x : Silicon) (l : Lists) (z : Bool) (r : Run) : Type 0 where
   pub number : ℕ
   pub step : ℕ
   pub is : r .session ≡ reported number step (r .traffic .transfers)
   pub why : Why i x l number (r .monitor)
-  pub sound : Lasting Sound (r .target)
+  pub sound : Lasting (Held i z) (r .target)
 
 pub record Finished (i : Image) (b : Target) (l : Lists) (r : Run) : Type 0 where
   pub is : r .session ≡ reported 0 9 (r .traffic .transfers)
@@ -99,22 +104,23 @@ pub record Finished (i : Image) (b : Target) (l : Lists) (r : Run) : Type 0 wher
   pub holds-image : HoldsImage i (r .target .memory)
   pub count : r .traffic .transfers ≡ plan (i .geometry) (entryOf b) + delaysIn (r .monitor)
   pub calm : Calm l → delaysIn (r .monitor) ≡ 0
-  pub sound : Lasting Sound (r .target)
+  pub quiet : r .target .running ≡ idle
 
 unfoldable pub frame : (i : Image) → Level (i .header .level) → Target → Lists → Frame i
 frame i lv b l = record {
-  Safe = Sound;
+  Safe = Held i;
   Still = Calm l;
   Stop = Stopped i (b .silicon) l;
-  Goal = Finished i b l;
+  Goal = λ z r. (z ≡ true) × Finished i b l r;
   planned = plan (i .geometry) (entryOf b);
   most = mostTraffic (i .geometry) (entryOf b);
   silicon = b .silicon;
-  safeSame = λ right m m′ e s. subst Level (sym e) s;
-  safeOpen = λ right m e. subst Level (sym e) isOpen;
-  safeImage = λ right m e. subst Level (sym e) lv;
+  safeSame = λ right m m′ e s. (subst Level (sym e) (s .0), (λ q. absurd (false≢true q)));
+  safeOpen = λ right m e. (subst Level (sym e) isOpen, (λ q. absurd (false≢true q)));
+  safeImage = λ right m e. (subst Level (sym e) lv, (λ q. absurd (false≢true q)));
+  safeSealed = λ right z m e. (subst Level (sym (e .level)) lv, (λ q. e));
   caught = λ n s b l t some bad safe. record { number = n; step = s; is = refl; why = mishap n some bad; sound = safe };
-  finished = λ b l w d t right quiet holds-image count calm. record { is = refl; right = right; clean = clear noWaits 0 0 w d; holds-image = holds-image; count = count; calm = calm; sound = at-rest Sound b quiet (subst Level (sym (holds-image .level)) lv) };
+  finished = λ b l w d t right quiet holds-image count calm. (refl, record { is = refl; right = right; clean = clear noWaits 0 0 w d; holds-image = holds-image; count = count; calm = calm; quiet = quiet });
   wrongId = λ s w p a b l x d t safe h. record { number = 16; step = s; is = refl; why = otherId (clear w p a x d) h; sound = safe };
   wrongPart = λ s w p a b l x d t safe h. record { number = 20; step = s; is = refl; why = otherPart (clear w p a x d) h; sound = safe };
 }

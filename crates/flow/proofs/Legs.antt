@@ -1,4 +1,5 @@
 -- Stretches of the sequence, from what holds before them to what holds after. Assumes nothing.
+use mathlib.Core.Bool.{Bool}
 use mathlib.Core.List.{List, _++_}
 use mathlib.Core.Path.{_≡_}
 use Prim.Native.Nat.{ℕ, zero, suc, _+_, _<_}
@@ -28,24 +29,24 @@ abbrev pub Known : Type 1
 Known = ℕ → Core → Type 0
 
 -- from rest to rest over ms: P held before, Q holds after
-pub record Leg {i : Image} (f : Frame i) (y : Entry) (ms : List Move) (P Q : Known) : Type 0 where
+pub record Leg {i : Image} (f : Frame i) (z z′ : Bool) (y : Entry) (ms : List Move) (P Q : Known) : Type 0 where
   pub along : (n x k : ℕ) (later : List Move) (κ : Allowance) (e : Env) (b : Target) → P k (core b) → Stands f y n ms later κ e
-      → ((k′ : ℕ) (b′ : Target) → Q k′ (core b′) → (n′ x′ : ℕ) (e′ : Env) → Stood f y n′ later κ e′ → Reaches f (sync y n′ 0 0 k′ b′ (idleAt x′) e′))
-      → Reaches f (sync y n 0 0 k b (idleAt x) e)
+      → ((k′ : ℕ) (b′ : Target) → Q k′ (core b′) → (n′ x′ : ℕ) (e′ : Env) → Stood f y n′ later κ e′ → Reaches f z′ (sync y n′ 0 0 k′ b′ (idleAt x′) e′))
+      → Reaches f z (sync y n 0 0 k b (idleAt x) e)
 
 module _ {i : Image} (f : Frame i) (y : Entry) where
-  pub leg-append : (a b : List Move) {P Q R : Known} → Leg f y a P Q → Leg f y b Q R → Leg f y (a ++ b) P R
+  pub leg-append : (a b : List Move) {z z′ z″ : Bool} {P Q R : Known} → Leg f z z′ y a P Q → Leg f z′ z″ y b Q R → Leg f z z″ y (a ++ b) P R
   leg-append a c l₁ l₂ = record {
     along = λ n x k later κ e b p st next.
         l₁ .along n x k (c ++ later) (withMoves c κ) e b p (split a c later κ st) λ k₁ b₁ q n₁ x₁ e₁ st₁. l₂ .along n₁ x₁ k₁ later κ e₁ b₁ q st₁ next;
   }
 
   -- pieces one after another, each for its number
-  pub leg-pieces : (h : ℕ → List Move) (P : ℕ → Known) (top : ℕ) → ((j : ℕ) → j < top → Leg f y (h j) (P j) (P (suc j)))
-      → (m j : ℕ) → j + m ≡ top → Leg f y (inTurn h j m) (P j) (P top)
+  pub leg-pieces : (h : ℕ → List Move) (P : ℕ → Known) (ζ : ℕ → Bool) (top : ℕ) → ((j : ℕ) → j < top → Leg f (ζ j) (ζ (suc j)) y (h j) (P j) (P (suc j)))
+      → (m j : ℕ) → j + m ≡ top → Leg f (ζ j) (ζ top) y (inTurn h j m) (P j) (P top)
   unfolding inTurn withMoves
-  leg-pieces h P top each zero j count = record {
-    along = λ n x k later κ e b p st next. let z : j ≡ top = omega arith in next k b (rw z at p) n x e st;
+  leg-pieces h P ζ top each zero j count = record {
+    along = λ n x k later κ e b p st next. let q : j ≡ top = omega arith in rw q (next k b (rw q at p) n x e st);
   }
-  leg-pieces h P top each (suc m) j count =
-      leg-append (h j) (inTurn h (suc j) m) (each j (omega arith)) (leg-pieces h P top each m (suc j) (omega arith))
+  leg-pieces h P ζ top each (suc m) j count =
+      leg-append (h j) (inTurn h (suc j) m) (each j (omega arith)) (leg-pieces h P ζ top each m (suc j) (omega arith))

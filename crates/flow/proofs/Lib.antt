@@ -8,6 +8,8 @@ pub mod BoardExamples
 pub mod Meeting
 pub mod Keeping
 pub mod CutExamples
+pub mod SealingExamples
+pub mod OrderExamples
 pub mod Acceptance
 pub mod Table
 pub mod Places
@@ -33,6 +35,8 @@ pub mod Entering
 pub mod Frames
 pub mod Passing
 pub mod Demand
+pub mod Sealed
+pub mod Unheard
 pub mod Sparing
 pub mod Untouched
 pub mod EarlyMoves

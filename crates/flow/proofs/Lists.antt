@@ -4,8 +4,8 @@ use mathlib.Core.Path.{_≡_, refl, ap, _∙_, sym}
 use Prim.Native.Nat.{ℕ, zero, suc, _+_, _*_, _-_, _/_, _%_, _≤_, _<_}
 use native.Mathlib.Numerals.{towards-suc}
 use native.Mathlib.Omega.{arith}
-use lib.ListN.{length, getD, take, drop, replicate, length-append, length-take, length-drop, drop-of-length-le}
-use lib.Seq.{drop-cons, take-append-seam, drop-append-add, take-append-add, length-take-le, take-all, take-at}
+use lib.ListN.{length, getD, take, drop, replicate, length-append, length-take, length-drop, drop-of-length-le, take-append-drop}
+use lib.Seq.{drop-cons, drop-drop, drop-at, getD-drop, take-append-seam, drop-append-add, take-append-add, length-take-le, take-all, take-at}
 use Rattle.flow.specs.Calls.{bytesIn}
 use Rattle.flow.specs.Target.{lay}
 use Rattle.image.specs.Words.{total, wordAt, lowFirst, wordsAt}
@@ -74,6 +74,24 @@ take-lay l x o h =
     ∙ ap (λ (n : ℕ). take (n + length x) (take o l ++ (x ++ drop (o + length x) l))) (sym (length-take-le o l (omega arith)))
     ∙ take-append-add (take o l) (x ++ drop (o + length x) l) (length x)
     ∙ ap (λ (y : List ℕ). take o l ++ y) (take-append-seam x (drop (o + length x) l))
+
+pub drop-lay : (l x : List ℕ) (o : ℕ) → o + length x ≤ length l → drop o (lay l o x) ≡ x ++ drop (o + length x) l
+drop-lay l x o h = ap (drop o) (lay-fits l x o h) ∙ drop-at (take o l) (x ++ drop (o + length x) l) o (length-take-le o l (omega arith))
+
+-- a list from o on: its next n elements, then the rest
+pub drop-parts : (n o : ℕ) (l : List ℕ) → take n (drop o l) ++ drop (o + n) l ≡ drop o l
+drop-parts n o l = ap (λ (y : List ℕ). take n (drop o l) ++ y) (sym (drop-drop n o l)) ∙ take-append-drop n (drop o l)
+
+-- words of lists that are alike from o on
+pub same-word : (a b : List ℕ) (o k : ℕ) → drop o a ≡ drop o b → wordAt a (o + k) ≡ wordAt b (o + k)
+unfolding wordAt
+same-word a b o k h = rw (at k, at′ 1, at′ 2, at′ 3)
+  where
+    at : (j : ℕ) → getD a (o + j) 0 ≡ getD b (o + j) 0
+    at j = sym (getD-drop o a j 0) ∙ ap (λ (l : List ℕ). getD l j 0) h ∙ getD-drop o b j 0
+
+    at′ : (j : ℕ) → getD a (o + k + j) 0 ≡ getD b (o + k + j) 0
+    at′ j = let e : o + k + j ≡ o + (k + j) = omega arith in rw e (at (k + j))
 
 pub lay-whole : (l x : List ℕ) → length x ≡ length l → lay l 0 x ≡ x
 lay-whole l x h = lay-fits l x 0 (omega arith) ∙ rw (drop-of-length-le l {i = 0 + length x} (omega arith)) (append-nil x)

@@ -2,22 +2,21 @@
 use mathlib.Core.Bool.{Bool, true, false, _&&_, cond}
 use mathlib.Core.List.{List, _++_}
 use mathlib.Core.Logic.{inl}
-use mathlib.Core.Path.{_≡_, refl, ap, sym, _∙_}
+use mathlib.Core.Path.{_≡_, refl, ap, _∙_}
 use Prim.Native.Nat.{ℕ, zero, suc, _+_, _*_, _/_, _≤_, _<_}
 use native.Mathlib.Nat.{mul-le-mul-right, suc-mul}
 use native.Mathlib.Omega.{arith}
 use lib.Dec.{eqb, eqb·suc-zero}
 use lib.ListN.{length, take, drop}
-use lib.Seq.{take-add}
-use Rattle.flow.specs.Calls.{finish, effectOf, afterFailure, protect, levelSent, macroSent, listAt}
-use Rattle.flow.specs.Sequence.{key, call, listed, latchList, lockStart, lockMacro, inTurn}
+use Rattle.flow.specs.Calls.{finish, effectOf, afterFailure, protect, levelSent, macroSent}
+use Rattle.flow.specs.Sequence.{key, call, listed, latchList, lockStart, lockMacro}
 use Rattle.flow.specs.Target.{Target, Memory, Residue, lay}
 use Rattle.flow.specs.declared.Entry.{Entry}
-use Rattle.flow.proofs.Calling.{Returned, calling}
+use Rattle.flow.proofs.Calling.{Ends, ordinary, locking, asked, Returned, returned, calling}
 use Rattle.flow.proofs.Counting.{length-words}
-use Rattle.flow.proofs.Legs.{core, Leg, leg-pieces}
+use Rattle.flow.proofs.Legs.{core, Leg}
 use Rattle.flow.proofs.Listing.{ListReturned, listing}
-use Rattle.flow.proofs.Lists.{length-part, length-lay, take-lay}
+use Rattle.flow.proofs.Lists.{length-part, length-lay, take-lay, drop-lay, drop-parts}
 use Rattle.flow.proofs.Phases.{Level, isOpen, isProtected, isKill, Valid, Locked, levelAfter, level-safe, call4, callD, steady-4}
 use Rattle.flow.proofs.Programming.{effect-4}
 use Rattle.flow.proofs.Reaches.{Frame, split}
@@ -45,24 +44,24 @@ effect-D : (g : Geometry) (lv l m : ℕ) (ps : List ℕ) (x : Memory) → l < 16
 unfolding effectOf
 effect-D g lv l m ps x h e = rw (e, sent-level l m h, sent-macro l m h)
 
-next-level : (i : Image) (m old : ℕ) → old ≡ levelAfter i m → cond (eqb m 0) (i .header .level) old ≡ i .header .level
+next-level : (i : Image) (m old : ℕ) → old ≡ 1 → cond (eqb m 0) (i .header .level) old ≡ levelAfter i m
 next-level i zero old h = refl
 next-level i (suc m) old h = rw (eqb·suc-zero m) h
 
--- whatever call 0x0D comes to, the level stored is the old one or the one sent
-safe-D : {i : Image} (f : Frame i) (y : Bool) (r : Residue) (l m : ℕ) (b : Target) → l < 16 → b .effect ≡ 1 → b .sysarg ≡ lockWord l m
-    → ((x : Memory) → x .stored ≡ l → f .Safe x) → ((x : Memory) → x .stored ≡ b .memory .stored → f .Safe x) → f .Safe ((finish (i .geometry) y r 0x0D b) .memory)
+-- a failed call 0x0D: the level stored is the old one or the one sent
+safe-D : {i : Image} (f : Frame i) (r : Residue) (l m : ℕ) (b : Target) → l < 16 → b .sysarg ≡ lockWord l m
+    → ((x : Memory) → x .stored ≡ l → f .Safe false x) → ((x : Memory) → x .stored ≡ b .memory .stored → f .Safe false x) → f .Safe false ((finish (i .geometry) false r 0x0D b) .memory)
 unfolding finish afterFailure
-safe-D {i} f true r l m b h he ha new old = rw (ha, effect-D (i .geometry) (b .effect) l m (listAt (lockWord l m) (b .params)) (b .memory) h he) (by (eqb m 0) refl)
+safe-D {i} f r l m b h ha new old = by (r .newLevel && true && eqb (macroSent (b .sysarg)) 0) refl
   where
-    by : (y : Bool) → eqb m 0 ≡ y → f .Safe (protect (i .geometry) l m (b .memory))
-    by true e = new _ (rw e)
-    by false e = old _ (rw e)
-safe-D {i} f false r l m b h he ha new old = by (r .newLevel && true && eqb (macroSent (b .sysarg)) 0) refl
-  where
-    by : (y : Bool) → r .newLevel && true && eqb (macroSent (b .sysarg)) 0 ≡ y → f .Safe (afterFailure 0x0D (b .sysarg) r (b .memory))
+    by : (y : Bool) → r .newLevel && true && eqb (macroSent (b .sysarg)) 0 ≡ y → f .Safe false (afterFailure 0x0D (b .sysarg) r (b .memory))
     by true e = new _ (rw e (rw ha (sent-level l m h)))
     by false e = old _ (rw e)
+
+-- macro 0's call seals, no other
+ends-D : (l m : ℕ) (b : Target) → l < 16 → b .effect ≡ 1 → b .sysarg ≡ lockWord l m → Ends 0x0D b false (eqb m 0)
+ends-D l zero b h one e = locking (λ r. rw (one, e, sent-macro l 0 h))
+ends-D l (suc m) b h one e = rw (eqb·suc-zero m) (ordinary (λ r. rw (e, sent-macro l (suc m) h, eqb·suc-zero m)))
 
 module _ {i : Image} (f : Frame i) (fx : Facts (i .geometry)) (v : Valid i) (m : ℕ) (room : m < macrosOf (i .geometry)) where
   -- the macro's protection bytes, and the list of call 4
@@ -101,16 +100,17 @@ module _ {i : Image} (f : Frame i) (fx : Facts (i .geometry)) (v : Valid i) (m :
       let e : locksIn (i .geometry) m ≡ 0 + length bytes = omega (arith, bytes-size) in
       ap (λ (n : ℕ). take n (lay x 0 bytes)) e ∙ take-lay x bytes 0 (omega (arith, bytes-size, fx .lockFit m))
 
-  macro-done : (x : List ℕ) → length x ≡ lockTotal (i .geometry) → take (lockStart (i .geometry) m) x ≡ take (lockStart (i .geometry) m) (i .protection)
-      → take (lockStart (i .geometry) (suc m)) (lay x (lockStart (i .geometry) m) bytes) ≡ take (lockStart (i .geometry) (suc m)) (i .protection)
-  macro-done x h done = rw next-start (
-      ap (λ (n : ℕ). take (lockStart (i .geometry) m + n) (lay x (lockStart (i .geometry) m) bytes)) (sym bytes-size)
-      ∙ take-lay x bytes (lockStart (i .geometry) m) (omega (arith, bytes-size, locks-fit))
-      ∙ ap (λ (y : List ℕ). y ++ bytes) done
-      ∙ sym (take-add (lockStart (i .geometry) m) (locksIn (i .geometry) m) (i .protection)))
+  macro-done : (x : List ℕ) → length x ≡ lockTotal (i .geometry)
+      → drop (lockStart (i .geometry) (suc m)) x ≡ drop (lockStart (i .geometry) (suc m)) (i .protection)
+      → drop (lockStart (i .geometry) m) (lay x (lockStart (i .geometry) m) bytes) ≡ drop (lockStart (i .geometry) m) (i .protection)
+  macro-done x h done =
+      drop-lay x bytes (lockStart (i .geometry) m) (omega (arith, bytes-size, locks-fit))
+      ∙ ap (λ (n : ℕ). bytes ++ drop (lockStart (i .geometry) m + n) x) bytes-size
+      ∙ ap (λ (y : List ℕ). bytes ++ y) (rw next-start at done)
+      ∙ drop-parts (locksIn (i .geometry) m) (lockStart (i .geometry) m) (i .protection)
 
-  locked : (k : ℕ) (b b₁ b₂ : Target) → Locked f m k (core b) → ListReturned (i .geometry) 4 lockList b b₁ → Returned (i .geometry) 0x0D (lockWord (i .header .level) m) b₁ b₂
-      → Locked f (suc m) k (core b₂)
+  locked : (k : ℕ) (b b₁ b₂ : Target) → Locked f (suc m) k (core b) → ListReturned (i .geometry) 4 lockList b b₁ → Returned (i .geometry) 0x0D (lockWord (i .header .level) m) b₁ b₂
+      → Locked f m k (core b₂)
   locked k b b₁ b₂ w r₁ r₂ =
       let e : b₂ .memory ≡ protect (i .geometry) (i .header .level) m (latched (b .memory)) =
       r₂ .memory ∙ rw (r₁ .memory) (macro-memory (b .effect) (b₁ .effect) PARAMS (r₁ .behind) _ (b .memory) (r₁ .effect ∙ w .opened .effect)) in
@@ -129,31 +129,29 @@ module _ {i : Image} (f : Frame i) (fx : Facts (i .geometry)) (v : Valid i) (m :
           locks = ap (λ (x : Memory). length (x .locks)) e ∙ length-lay (b .memory .locks) (take (locksIn (i .geometry) m) (lay (b .memory .latch) 0 bytes)) (lockStart (i .geometry) m) ∙ w .sized .locks;
           latch = ap (λ (x : Memory). length (x .latch)) e ∙ length-lay (b .memory .latch) bytes 0 ∙ w .sized .latch;
         };
-        done = ap (λ (x : Memory). take (lockStart (i .geometry) (suc m)) (x .locks)) e
-            ∙ ap (λ (z : List ℕ). take (lockStart (i .geometry) (suc m)) (lay (b .memory .locks) (lockStart (i .geometry) m) z)) first
+        done = ap (λ (x : Memory). drop (lockStart (i .geometry) m) (x .locks)) e
+            ∙ ap (λ (z : List ℕ). drop (lockStart (i .geometry) m) (lay (b .memory .locks) (lockStart (i .geometry) m) z)) first
             ∙ macro-done (b .memory .locks) (w .sized .locks) (w .done);
         level = ap (λ (x : Memory). x .stored) e ∙ next-level i m (b .memory .stored) (w .level);
         kept = w .kept;
       }
 
-  stored-4 : (b b₁ : Target) → b .memory .stored ≡ levelAfter i m → ListReturned (i .geometry) 4 lockList b b₁ → b₁ .memory .stored ≡ levelAfter i m
+  stored-4 : (b b₁ : Target) → b .memory .stored ≡ 1 → ListReturned (i .geometry) 4 lockList b b₁ → b₁ .memory .stored ≡ 1
   unfolding effectOf
   stored-4 b b₁ h r₁ = ap (λ (x : Memory). x .stored) (r₁ .memory) ∙ h
 
-  macro-leg : (y : Entry) → Leg f y (lockMacro i m) (Locked f m) (Locked f (suc m))
+  pub macro-leg : (y : Entry) → Leg f false (eqb m 0) y (lockMacro i m) (Locked f (suc m)) (Locked f m)
   unfolding lockMacro
   macro-leg y = record {
     along = λ n x k later κ e b w st next.
         listing f fx 7 4 lockList (call4 .command) (split (listed (i .geometry) 7 4 lockList) (call (i .geometry) 7 0x0D (lockWord (i .header .level) m)) later κ st)
         (omega (arith, length-words (i .protection) (lockStart (i .geometry) m) (locksIn (i .geometry) m / 4), fx .lockFit m)) (w .opened .room) (w .opened .effect) (w .opened .quiet)
-        (level-safe f (w .opened .right) m (b .memory) (w .level)) (λ y r b′ he hm _. level-safe f (w .opened .right) m _ (steady-4 (i .geometry) y r b′ ∙ ap (λ (x : Memory). x .stored) hm ∙ w .level))
+        (f .safeOpen (w .opened .right) (b .memory) (w .level)) refl (λ y r b′ he hm _. f .safeOpen (w .opened .right) _ (steady-4 (i .geometry) y r b′ ∙ ap (λ (x : Memory). x .stored) hm ∙ w .level))
         (call4 .ready _ _) (call4 .good _ _) λ b₁ r₁ n₁ e₁ st₁.
         calling f fx 7 0x0D (lockWord (i .header .level) m) (callD .command) st₁ (inl (r₁ .effect ∙ w .opened .effect)) (r₁ .ended)
-        (level-safe f (w .opened .right) m (b₁ .memory) (stored-4 b b₁ (w .level) r₁))
-        (λ y r. safe-D f y r (i .header .level) m _ (level-small (v .level)) (r₁ .effect ∙ w .opened .effect) refl (f .safeImage (w .opened .right))
-        (λ x hx. level-safe f (w .opened .right) m x (hx ∙ stored-4 b b₁ (w .level) r₁))) (callD .ready _ _) (callD .good _ _) λ b₂ r₂ n₂ e₂ st₂.
+        (f .safeOpen (w .opened .right) (b₁ .memory) (stored-4 b b₁ (w .level) r₁))
+        (λ r. level-safe f m (locked k b b₁ (finish (i .geometry) true r 0x0D (asked 0x0D (lockWord (i .header .level) m) b₁)) w r₁ (returned (i .geometry) 0x0D (lockWord (i .header .level) m) r b₁)))
+        (λ r. safe-D f r (i .header .level) m _ (level-small (v .level)) refl (f .safeImage (w .opened .right))
+        (λ x hx. f .safeOpen (w .opened .right) x (hx ∙ stored-4 b b₁ (w .level) r₁))) (ends-D (i .header .level) m _ (level-small (v .level)) (r₁ .effect ∙ w .opened .effect) refl) (callD .ready _ _) (callD .good _ _) λ b₂ r₂ n₂ e₂ st₂.
         next k b₂ (locked k b b₁ b₂ w r₁ r₂) n₂ _ e₂ st₂;
   }
-
-pub macros-leg : {i : Image} (f : Frame i) → Facts (i .geometry) → Valid i → (y : Entry) → Leg f y (inTurn (lockMacro i) 0 (macrosOf (i .geometry))) (Locked f 0) (Locked f (macrosOf (i .geometry)))
-macros-leg {i} f fx v y = leg-pieces f y (lockMacro i) (Locked f) (macrosOf (i .geometry)) (λ m h. macro-leg f fx v m h y) (macrosOf (i .geometry)) 0 (omega arith)

@@ -8,7 +8,7 @@ use lib.ListN.{length, getD, length-append}
 use Rattle.flow.proofs.Hearing.{aTar, aDrw, aRead, aCtrl, aSelect, aCsw, attempt, plain, decodes}
 use Rattle.flow.specs.Exchange.{decode}
 use Rattle.flow.specs.Packets.{packetOf}
-use Rattle.flow.specs.Sequence.{move, write, read, call, writes, listed, inTurn, imoCall, acquire, silicon, privileged, programRow, verifyRow, lockMacro, verifyMacro, program, opening, afterwards, sequence, endMove, key}
+use Rattle.flow.specs.Sequence.{move, write, read, call, writes, listed, inTurn, imoCall, acquire, silicon, privileged, programRow, verifyRow, lockMacro, verifyMacro, macroDown, program, opening, afterwards, sequence, endMove, key}
 use Rattle.flow.specs.Session.{moveAt}
 use Rattle.flow.specs.declared.Decoded.the-variants.{Known}
 use Rattle.flow.specs.declared.Entry.{Entry}
@@ -156,10 +156,10 @@ module _ (E : Type 0) where
       (joined
       (all-pieces _ (λ r. all-pieces _ (λ j. all-read E lo 6 (omega arith) (lit≤ tt) _ (FlashWord r _) tt) 0 (rowBytes g / 4)) 0 (rowsOf g))
       (joined
-      (all-pieces _ (λ m. joined (all-listed E lo 7 (omega arith) (lit≤ tt) g 4 _) (all-call E lo 7 (omega arith) (lit≤ tt) g 0x0D _)) 0 (macrosOf g))
-      (joined
-      (all-pieces _ (λ m. all-pieces _ (λ j. all-read E lo 8 (omega arith) (lit≤ tt) _ (LockWord m _) tt) 0 (locksIn g m / 4)) 0 (macrosOf g))
-      (joined (all-read E lo 8 (omega arith) (lit≤ tt) _ StoredLevel tt) (all-privileged E lo 9 (omega arith) (lit≤ tt) g LastSum refl))))))
+      (all-pieces _
+      (λ k. joined (joined (all-listed E lo 7 (omega arith) (lit≤ tt) g 4 _) (all-call E lo 7 (omega arith) (lit≤ tt) g 0x0D _))
+      (all-pieces _ (λ j. all-read E lo 8 (omega arith) (lit≤ tt) _ (LockWord (macroDown g k) _) tt) 0 (locksIn g (macroDown g k) / 4))) 0 (macrosOf g))
+      (joined (all-read E lo 8 (omega arith) (lit≤ tt) _ StoredLevel tt) (all-privileged E lo 9 (omega arith) (lit≤ tt) g LastSum refl)))))
 
 pub all-open : (lo : ℕ) → lo ≤ 3 → (i : Image) → All (Proper ⊥ lo) (afterwards i FromOpen)
 unfolding afterwards

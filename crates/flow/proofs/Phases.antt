@@ -3,11 +3,14 @@ use mathlib.Core.Bool.{Bool, true, false, _&&_, cond}
 use mathlib.Core.List.{List}
 use mathlib.Core.Path.{_≡_, refl, sym, _∙_}
 use Prim.Native.Nat.{ℕ, zero, suc, _+_, _*_, _/_, _%_, _≤_}
+use native.Mathlib.Nat.{zero-mul}
 use native.Mathlib.Omega.{arith}
-use lib.ListN.{length, take}
+use lib.Dec.{eqb, eqb·suc-zero}
+use lib.ListN.{length, take, drop, drop-of-length-le}
 use lib.Seq.{take-all}
 use Rattle.flow.specs.Calls.{finish, effectOf, sysargAfter, sysreqAfter, afterFailure}
 use Rattle.flow.specs.Judge.{free, succeeded}
+use Rattle.flow.specs.Sealing.{HoldsImage}
 use Rattle.flow.specs.Sequence.{lockStart}
 use Rattle.flow.specs.Target.{Target, Memory, Residue, idle}
 use Rattle.flow.specs.declared.Silicon.{Silicon}
@@ -18,7 +21,7 @@ use Rattle.flow.proofs.Reaches.{RightIds, Frame}
 use Rattle.flow.proofs.Table.{Facts}
 use Rattle.image.specs.Image.{Image}
 use Rattle.image.specs.Words.{total}
-use Rattle.parts.specs.Sizes.{rowBytes, macrosOf, rowsOf, flashSize, lockTotal}
+use Rattle.parts.specs.Sizes.{rowBytes, macrosOf, rowsPerMacro, rowsOf, flashSize, lockTotal}
 use Rattle.parts.specs.declared.Geometry.{Geometry}
 
 -- the levels that an image can have
@@ -62,23 +65,19 @@ pub record Wrote {i : Image} (f : Frame i) (r k : ℕ) (c : Core) : Type 0 where
   pub level : c .memory .stored ≡ 1
   pub kept : Kept f k
 
--- the level that is stored once the macros before m are locked
+-- the level that is stored once the macros from m up are locked
 abbrev pub levelAfter : Image → ℕ → ℕ
-levelAfter i zero = 1
-levelAfter i (suc m) = i .header .level
+levelAfter i zero = i .header .level
+levelAfter i (suc m) = 1
 
--- step 7: the locks of the macros before m are the image's
+-- step 7: the locks of the macros from m up are the image's
 pub record Locked {i : Image} (f : Frame i) (m k : ℕ) (c : Core) : Type 0 where
   pub opened : Opened f c
   pub flash : c .memory .flash ≡ i .flash
   pub sized : Sized f (c .memory)
-  pub done : take (lockStart (i .geometry) m) (c .memory .locks) ≡ take (lockStart (i .geometry) m) (i .protection)
+  pub done : drop (lockStart (i .geometry) m) (c .memory .locks) ≡ drop (lockStart (i .geometry) m) (i .protection)
   pub level : c .memory .stored ≡ levelAfter i m
   pub kept : Kept f k
-
-pub level-safe : {i : Image} (f : Frame i) → RightIds i (f .silicon) → (m : ℕ) (x : Memory) → x .stored ≡ levelAfter i m → f .Safe x
-level-safe f right zero x e = f .safeOpen right x e
-level-safe f right (suc m) x e = f .safeImage right x e
 
 -- ---- all rows, all macros
 
@@ -89,15 +88,30 @@ pub wrote-all : {i : Image} {f : Frame i} → Valid i → {k : ℕ} {c : Core} �
 unfolding flashSize
 wrote-all {i} v {c = c} w = whole (c .memory .flash) (i .flash) _ _ refl (w .sized .flash) (v .flash) (w .done)
 
-pub locked-all : {i : Image} {f : Frame i} → Valid i → Facts (i .geometry) → {k : ℕ} {c : Core} → Locked f (macrosOf (i .geometry)) k c → c .memory .locks ≡ i .protection
-locked-all {i} v fx {c = c} w = whole (c .memory .locks) (i .protection) _ _ (sym (fx .lockAll)) (w .sized .locks) (v .locks) (w .done)
+from-start : (a b : List ℕ) (n : ℕ) → n ≡ 0 → drop n a ≡ drop n b → a ≡ b
+from-start a b n e h = rw e at h
 
-last : (i : Image) (m : ℕ) → 1 ≤ m → levelAfter i m ≡ i .header .level
-last i zero h = absurd (omega arith)
-last i (suc m) h = refl
+pub locked-all : {i : Image} {f : Frame i} {k : ℕ} {c : Core} → Locked f 0 k c → c .memory .locks ≡ i .protection
+locked-all {i} {c = c} w = from-start (c .memory .locks) (i .protection) (lockStart (i .geometry) 0) (zero-mul (rowsPerMacro (i .geometry) / 8)) (w .done)
 
-pub last-level : {i : Image} {f : Frame i} → Facts (i .geometry) → {k : ℕ} {c : Core} → Locked f (macrosOf (i .geometry)) k c → c .memory .stored ≡ i .header .level
-last-level {i} fx w = w .level ∙ last i (macrosOf (i .geometry)) (fx .any)
+-- before the first macro is locked
+pub none-locked : (i : Image) (x : List ℕ) → Facts (i .geometry) → Valid i → length x ≡ lockTotal (i .geometry)
+    → drop (lockStart (i .geometry) (macrosOf (i .geometry))) x ≡ drop (lockStart (i .geometry) (macrosOf (i .geometry))) (i .protection)
+none-locked i x fx v h =
+    drop-of-length-le x {i = lockStart (i .geometry) (macrosOf (i .geometry))} (omega (arith, fx .lockAll))
+    ∙ sym (drop-of-length-le (i .protection) {i = lockStart (i .geometry) (macrosOf (i .geometry))} (omega (arith, fx .lockAll, v .locks)))
+
+pub all-held : {i : Image} {f : Frame i} {k : ℕ} {c : Core} → Locked f 0 k c → HoldsImage i (c .memory)
+all-held w = record { flash = w .flash; locks = locked-all w; level = w .level }
+
+-- sealed once macro 0 is locked
+pub level-safe : {i : Image} (f : Frame i) (m : ℕ) {k : ℕ} {c : Core} → Locked f m k c → f .Safe (eqb m 0) (c .memory)
+level-safe f zero {c = c} w = f .safeSealed (w .opened .right) true (c .memory) (all-held w)
+level-safe f (suc m) {c = c} w = rw (eqb·suc-zero m) (f .safeOpen (w .opened .right) (c .memory) (w .level))
+
+pub first-level : (i : Image) (m : ℕ) → 1 ≤ m → levelAfter i m ≡ 1
+first-level i zero h = absurd (omega arith)
+first-level i (suc m) h = refl
 
 -- ---- calls
 

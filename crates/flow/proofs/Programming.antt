@@ -1,6 +1,7 @@
 -- Step 5: a row, and all rows. Assumes nothing.
+use mathlib.Core.Bool.{false}
 use mathlib.Core.List.{List, [], _∷_, _++_}
-use mathlib.Core.Path.{_≡_, ap, sym, _∙_}
+use mathlib.Core.Path.{_≡_, refl, ap, sym, _∙_}
 use Prim.Native.Nat.{ℕ, suc, _+_, _*_, _/_, _≤_, _<_}
 use native.Mathlib.Nat.{mul-le-mul-right, suc-mul}
 use native.Mathlib.Omega.{arith}
@@ -98,19 +99,19 @@ module _ {i : Image} (f : Frame i) (fx : Facts (i .geometry)) (v : Valid i) (r :
   unfolding effectOf
   stored-4 b b₁ h r₁ = ap (λ (x : Memory). x .stored) (r₁ .memory) ∙ h
 
-  row-leg : (y : Entry) → Leg f y (programRow i r) (Wrote f r) (Wrote f (suc r))
+  row-leg : (y : Entry) → Leg f false false y (programRow i r) (Wrote f r) (Wrote f (suc r))
   unfolding programRow
   row-leg y = record {
     along = λ n x k later κ e b w st next.
         listing f fx 5 4 rowList (call4 .command) (split (listed (i .geometry) 5 4 rowList) (listed (i .geometry) 5 6 ((key 6 + r * 0x10000) ∷ [])) later κ st)
         (omega (arith, length-words (i .flash) (r * rowBytes (i .geometry)) (rowBytes (i .geometry) / 4))) (w .opened .room) (w .opened .effect) (w .opened .quiet)
-        (f .safeOpen (w .opened .right) (b .memory) (w .level)) (λ y r b′ he hm _. f .safeOpen (w .opened .right) _ (steady-4 (i .geometry) y r b′ ∙ ap (λ (x : Memory). x .stored) hm ∙ w .level))
+        (f .safeOpen (w .opened .right) (b .memory) (w .level)) refl (λ y r b′ he hm _. f .safeOpen (w .opened .right) _ (steady-4 (i .geometry) y r b′ ∙ ap (λ (x : Memory). x .stored) hm ∙ w .level))
         (call4 .ready _ _) (call4 .good _ _) λ b₁ r₁ n₁ e₁ st₁.
         listing f fx 5 6 ((key 6 + r * 0x10000) ∷ []) (call6 .command) st₁ (omega arith) (rw (r₁ .room) (w .opened .room)) (r₁ .effect ∙ w .opened .effect) (r₁ .ended)
-        (f .safeOpen (w .opened .right) _ (stored-4 b b₁ (w .level) r₁)) (λ y r b′ he hm _. f .safeOpen (w .opened .right) _ (steady-6 (i .geometry) y r b′ ∙ ap (λ (x : Memory). x .stored) hm ∙ stored-4 b b₁ (w .level) r₁))
+        (f .safeOpen (w .opened .right) _ (stored-4 b b₁ (w .level) r₁)) refl (λ y r b′ he hm _. f .safeOpen (w .opened .right) _ (steady-6 (i .geometry) y r b′ ∙ ap (λ (x : Memory). x .stored) hm ∙ stored-4 b b₁ (w .level) r₁))
         (call6 .ready _ _) (call6 .good _ _) λ b₂ r₂ n₂ e₂ st₂.
         next k b₂ (wrote k b b₁ b₂ w r₁ r₂) n₂ _ e₂ st₂;
   }
 
-pub rows-leg : {i : Image} (f : Frame i) → Facts (i .geometry) → Valid i → (y : Entry) → Leg f y (inTurn (programRow i) 0 (rowsOf (i .geometry))) (Wrote f 0) (Wrote f (rowsOf (i .geometry)))
-rows-leg {i} f fx v y = leg-pieces f y (programRow i) (Wrote f) (rowsOf (i .geometry)) (λ r h. row-leg f fx v r h y) (rowsOf (i .geometry)) 0 (omega arith)
+pub rows-leg : {i : Image} (f : Frame i) → Facts (i .geometry) → Valid i → (y : Entry) → Leg f false false y (inTurn (programRow i) 0 (rowsOf (i .geometry))) (Wrote f 0) (Wrote f (rowsOf (i .geometry)))
+rows-leg {i} f fx v y = leg-pieces f y (programRow i) (Wrote f) (λ j. false) (rowsOf (i .geometry)) (λ r h. row-leg f fx v r h y) (rowsOf (i .geometry)) 0 (omega arith)

@@ -8,13 +8,15 @@ use lib.ListN.{getD, drop}
 use lib.Seq.{getD-drop, drop-drop}
 use mathlib.Core.Bool.{Bool, true, false, _&&_}
 use Rattle.flow.specs.Terms.{CalmLine, CalmCalls, NoError}
+use Rattle.flow.specs.Cuts.{cutMemory}
+use Rattle.flow.specs.Judge.{succeeded}
 use Rattle.flow.specs.Monitor.{Monitor, Waits, noWaits, watching, linkError, Watch, Delays, delayed}
 use Rattle.flow.specs.Plan.{Traffic}
 use Rattle.flow.specs.Run.{Run, advance, handedOut}
 use Rattle.flow.specs.Sequence.{sequence, endMove}
 use Rattle.flow.specs.Session.{SessionState, running, reported, moveAt}
-use Rattle.flow.specs.Cuts.{cutMemory}
-use Rattle.flow.specs.Target.{Target, Memory, Residue, idle, Lists}
+use Rattle.flow.specs.Sealing.{isIdle, locksMacro0, seals, HoldsImage}
+use Rattle.flow.specs.Target.{Target, Memory, Residue, Running, idle, busy, Lists}
 use Rattle.flow.specs.declared.Entry.{Entry}
 use Rattle.flow.specs.declared.Move.{Move}
 use Rattle.flow.specs.declared.Purpose.{Purpose}
@@ -103,12 +105,6 @@ pub record RightIds (i : Image) (x : Silicon) : Type 0 where
   pub idcode : eqb (x .idcode) 0x0BB11477 ≡ true
   pub silicon : rightSilicon i x ≡ true
 
--- the memory bears the image
-pub record HoldsImage (i : Image) (m : Memory) : Type 0 where
-  pub flash : m .flash ≡ i .flash
-  pub locks : m .locks ≡ i .protection
-  pub level : m .stored ≡ i .header .level
-
 -- S holds now, and whatever a cut would leave
 abbrev pub Lasting : (Memory → Type 0) → Target → Type 0
 Lasting S b = record { now : S (b .memory); cut : (r : Residue) → S (cutMemory b r) }
@@ -116,30 +112,60 @@ Lasting S b = record { now : S (b .memory); cut : (r : Residue) → S (cutMemory
 pub at-rest : (S : Memory → Type 0) (b : Target) → b .running ≡ idle → S (b .memory) → Lasting S b
 at-rest S b quiet safe = record { now = safe; cut = λ r. rw quiet safe }
 
+-- whether the board is sealed, before a step and after it
+pub data Turn : Bool → Target → Target → Bool → Type 0 where
+  unsealed : {b b′ : Target} → seals b b′ ≡ false → Turn false b b′ false
+  sealing : {b b′ : Target} → seals b b′ ≡ true → Turn false b b′ true
+  sealed : {b b′ : Target} → Turn true b b′ true
+
+stays-at : (z : Bool) {b b′ : Target} → seals b b′ ≡ false → Turn z b b′ z
+stays-at true h = sealed
+stays-at false h = unsealed h
+
+pub stays : {z : Bool} {b b′ : Target} → seals b b′ ≡ false → Turn z b b′ z
+stays {z} h = stays-at z h
+
+pub and-false : (y : Bool) → y && false ≡ false
+and-false true = refl
+and-false false = refl
+
+-- a call that is not over seals nothing
+pub not-idle : (b b′ : Target) → isIdle (b′ .running) ≡ false → seals b b′ ≡ false
+not-idle b b′ e = rw e (and-false (locksMacro0 (b .running) (b .effect) (b .sysarg)))
+
+-- what is under way goes on, or nothing is
+pub same-running : (b b′ : Target) → b′ .running ≡ b .running → seals b b′ ≡ false
+same-running b b′ e = rw e (by (b .running))
+  where
+    by : (r : Running) → locksMacro0 r (b .effect) (b .sysarg) && (isIdle r && succeeded (b′ .sysarg)) ≡ false
+    by idle = refl
+    by (busy n x y c) = and-false (locksMacro0 (busy n x y c) (b .effect) (b .sysarg))
+
 -- what a run is held to: Safe of the memory at each step, Stop where it ends early, Goal where it is to come; Still says that the
 -- lists were calm at the start
 pub record Frame (i : Image) : Type 1 where
-  pub Safe : Memory → Type 0
+  pub Safe : Bool → Memory → Type 0
   pub Still : Type 0
-  pub Stop : Run → Type 0
-  pub Goal : Run → Type 0
+  pub Stop : Bool → Run → Type 0
+  pub Goal : Bool → Run → Type 0
   pub planned : ℕ
   pub most : Traffic
   pub silicon : Silicon
   -- what the session may do to the right part
-  pub safeSame : RightIds i silicon → (m m′ : Memory) → m′ .stored ≡ m .stored → Safe m → Safe m′
-  pub safeOpen : RightIds i silicon → (m : Memory) → m .stored ≡ 1 → Safe m
-  pub safeImage : RightIds i silicon → (m : Memory) → m .stored ≡ i .header .level → Safe m
+  pub safeSame : RightIds i silicon → (m m′ : Memory) → m′ .stored ≡ m .stored → Safe false m → Safe false m′
+  pub safeOpen : RightIds i silicon → (m : Memory) → m .stored ≡ 1 → Safe false m
+  pub safeImage : RightIds i silicon → (m : Memory) → m .stored ≡ i .header .level → Safe false m
+  pub safeSealed : RightIds i silicon → (z : Bool) (m : Memory) → HoldsImage i m → Safe z m
   -- a mishap is a reason to stop, with its number, if the lists were not calm
-  pub caught : (n s : ℕ) (b : Target) (l : Lists) (t : Traffic) → 1 ≤ n → (Still → ⊥) → Lasting Safe b → Stop (ended n s b l (linkError n) t)
+  pub caught : {z : Bool} (n s : ℕ) (b : Target) (l : Lists) (t : Traffic) → 1 ≤ n → (Still → ⊥) → Lasting (Safe z) b → Stop z (ended n s b l (linkError n) t)
   -- done
   pub finished : (b : Target) (l : Lists) (w : Watch) (d : Delays) (t : Traffic) → RightIds i silicon → b .running ≡ idle → HoldsImage i (b .memory)
-      → t .transfers ≡ planned + delayed d → (Still → delayed d ≡ 0) → Goal (ended 0 9 b l (watching noWaits 0 0 w d) t)
+      → t .transfers ≡ planned + delayed d → (Still → delayed d ≡ 0) → Goal true (ended 0 9 b l (watching noWaits 0 0 w d) t)
   -- another part
-  pub wrongId : (s : ℕ) (w : Waits) (p a : ℕ) (b : Target) (l : Lists) (x : Watch) (d : Delays) (t : Traffic) → Lasting Safe b
-      → eqb (silicon .idcode) 0x0BB11477 ≡ false → Stop (ended 16 s b l (watching w p a x d) t)
-  pub wrongPart : (s : ℕ) (w : Waits) (p a : ℕ) (b : Target) (l : Lists) (x : Watch) (d : Delays) (t : Traffic) → Lasting Safe b
-      → rightSilicon i silicon ≡ false → Stop (ended 20 s b l (watching w p a x d) t)
+  pub wrongId : {z : Bool} (s : ℕ) (w : Waits) (p a : ℕ) (b : Target) (l : Lists) (x : Watch) (d : Delays) (t : Traffic) → Lasting (Safe z) b
+      → eqb (silicon .idcode) 0x0BB11477 ≡ false → Stop z (ended 16 s b l (watching w p a x d) t)
+  pub wrongPart : {z : Bool} (s : ℕ) (w : Waits) (p a : ℕ) (b : Target) (l : Lists) (x : Watch) (d : Delays) (t : Traffic) → Lasting (Safe z) b
+      → rightSilicon i silicon ≡ false → Stop z (ended 20 s b l (watching w p a x d) t)
 
 -- the lists that are left are calm, and nothing was delayed
 pub record StillCalm (e : Env) : Type 0 where
@@ -195,15 +221,22 @@ going (running y n w p a k h) = true
 going (reported x s h) = false
 
 -- the session comes to Goal, or stops for a reason; on the way the memory is safe, and no more is handed out than is allowed
-pub data Reaches {i : Image} (f : Frame i) : Run → Type 0 where
-  here : {r : Run} → f .Goal r → Reaches f r
-  stop : {r : Run} → f .Stop r → Reaches f r
-  step : {r : Run} → going (r .session) ≡ true → Lasting (f .Safe) (r .target) → Bounded f (handedOut i r) → NoError (r .monitor) → Reaches f (advance i r) → Reaches f r
+pub data Reaches {i : Image} (f : Frame i) : Bool → Run → Type 0 where
+  here : {z : Bool} {r : Run} → f .Goal z r → Reaches f z r
+  stop : {z : Bool} {r : Run} → f .Stop z r → Reaches f z r
+  step : {z z′ : Bool} {r : Run} → going (r .session) ≡ true → Lasting (f .Safe z) (r .target) → Bounded f (handedOut i r) → NoError (r .monitor)
+      → Turn z (r .target) ((advance i r) .target) z′ → Reaches f z′ (advance i r) → Reaches f z r
 
 pub clear : (w : Waits) (p a : ℕ) (t : Watch) (d : Delays) → NoError (watching w p a t d)
 clear w p a t d n e = let no : _≡_ {A = ℕ} 0 1 = cc in omega arith
 
+-- where a step leads from b
+pub record Next {i : Image} (f : Frame i) (z : Bool) (b : Target) (r : Run) : Type 0 where
+  pub after : Bool
+  pub turn : Turn z b (r .target) after
+  pub reaches : Reaches f after r
+
 -- a step whose outcome is known
-pub steps : {i : Image} (f : Frame i) (r r′ : Run) → going (r .session) ≡ true → Lasting (f .Safe) (r .target) → Bounded f (handedOut i r) → NoError (r .monitor) → advance i r ≡ r′
-    → Reaches f r′ → Reaches f r
-steps f r r′ goes safe most clean e l = step {r = r} goes safe most clean (rw e l)
+pub steps : {i : Image} (f : Frame i) {z : Bool} (r r′ : Run) → going (r .session) ≡ true → Lasting (f .Safe z) (r .target) → Bounded f (handedOut i r) → NoError (r .monitor) → advance i r ≡ r′
+    → Next f z (r .target) r′ → Reaches f z r
+steps f r r′ goes safe most clean e l = step {z′ = l .after} {r = r} goes safe most clean (rw e (l .turn)) (rw e (l .reaches))

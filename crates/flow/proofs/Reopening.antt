@@ -1,5 +1,5 @@
 -- A session on a PROTECTED board of the right part comes to where the reopening call runs, so that a cut can fall into it. Assumes nothing.
-use mathlib.Core.Bool.{false≢true}
+use mathlib.Core.Bool.{Bool, false, false≢true}
 use mathlib.Core.List.{List, _++_}
 use mathlib.Core.Logic.{inr}
 use mathlib.Core.Path.{_≡_, refl, sym, subst, _∙_}
@@ -68,16 +68,17 @@ module _ (i : Image) (b : Target) (right : RightIds i (b .silicon)) where
   -- nothing goes wrong, and within what is allowed the session comes to the call
   unfoldable short : Frame i
   short = record {
-    Safe = λ m. Unit {0};
+    Safe = λ z m. Unit {0};
     Still = Unit {0};
-    Stop = λ r. ⊥;
-    Goal = λ r. r .traffic .transfers ≤ allowed .room → Reopens (b .memory) (r .target);
+    Stop = λ z r. ⊥;
+    Goal = λ z r. r .traffic .transfers ≤ allowed .room → Reopens (b .memory) (r .target);
     planned = allowed .due;
     most = record { transfers = allowed .room; xresets = allowed .xres; lineResets = allowed .lines };
     silicon = b .silicon;
     safeSame = λ r m m′ e s. tt;
     safeOpen = λ r m e. tt;
     safeImage = λ r m e. tt;
+    safeSealed = λ r z m e. tt;
     caught = λ n s b l t some bad safe. bad tt;
     finished = λ b l w d t r quiet holds count calm few. absurd (omega (arith, far));
     wrongId = λ s w p a b l x d t safe h. false≢true (sym h ∙ right .idcode);
@@ -85,21 +86,21 @@ module _ (i : Image) (b : Target) (right : RightIds i (b .silicon)) where
   }
 
   -- the run passes a state where the call runs
-  passes : (r : Run) → Reaches short r → r .traffic .transfers ≤ allowed .room → record { n : ℕ; is : Reopens (b .memory) ((runAfter i n r) .target) }
+  passes : {z : Bool} (r : Run) → Reaches short z r → r .traffic .transfers ≤ allowed .room → record { n : ℕ; is : Reopens (b .memory) ((runAfter i n r) .target) }
   unfolding short runAfter
   passes r (here goal) few = record { n = 0; is = goal few }
   passes r (stop never) few = absurd never
-  passes r (step goes safe most clean more) few =
+  passes r (step goes safe most clean turn more) few =
       let z = passes (advance i r) more (rw (met-traffic i r goes) (most .transfers)) in
       record { n = suc (z .n); is = z .is }
 
   module _ (fx : Facts (i .geometry)) (two : b .memory .stored ≡ 2) where
-    any : (c : Target) → Lasting (short .Safe) c
+    any : (c : Target) → Lasting (short .Safe false) c
     unfolding short
     any c = record { now = tt; cut = λ r. tt }
 
     reopens : {n x k : ℕ} (later : List Move) {e : Env} {c : Target} → Acquired short (b .memory) k (core c) → Stands short FromProtected n lead later behind e
-        → Reaches short (sync FromProtected n 0 0 k c (idleAt x) e)
+        → Reaches short false (sync FromProtected n 0 0 k c (idleAt x) e)
     unfolding short write
     reopens later {c = c} p st =
         let g = i .geometry in
@@ -141,7 +142,7 @@ module _ (i : Image) (b : Target) (right : RightIds i (b .silicon)) where
     unfolding judge
     enters hb n h = rw (ids-read i (b .silicon) (b .memory) (b .memory .stored) hb, right .silicon, level-read (b .silicon) (b .memory .stored) hb (omega arith), two)
 
-    way : Bytes (b .silicon) → Fresh short (b .memory) 0 (core b) → Reaches short (started b none)
+    way : Bytes (b .silicon) → Fresh short (b .memory) 0 (core b) → Reaches short false (started b none)
     unfolding short opening silicon read withMoves
     way hb p =
         let g = i .geometry in
@@ -149,7 +150,7 @@ module _ (i : Image) (b : Target) (right : RightIds i (b .silicon)) where
         (split (acquire g) (silicon g EntryLevel) (afterwards i FromOpen) (withMoves lead behind) start) λ k₁ b₁ a₁ n₁ x₁ e₁ st₁.
         silicon-reaches short fx (b .memory) (inr two) tt hb (omega arith) EntryLevel a₁
         (split (call g 2 0 (key 0)) (read 2 (sysargOf g) Keep ++ read 2 (sysreqOf g) EntryLevel) (afterwards i FromOpen) (withMoves lead behind) st₁) λ b₂ same n₂ e₂ st₂.
-        subst (λ (s : SessionState). Reaches short (record {
+        subst (λ (s : SessionState). Reaches short false (record {
           session = s;
           target = b₂;
           lists = e₂ .lists;

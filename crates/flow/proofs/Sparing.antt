@@ -1,5 +1,5 @@
 -- A target of another part is left as it was. Assumes nothing.
-use mathlib.Core.Bool.{false}
+use mathlib.Core.Bool.{Bool, false}
 use mathlib.Core.Path.{_≡_, refl}
 use Prim.Native.Nat.{ℕ, zero, suc}
 use Rattle.flow.specs.Claim.{OtherPartSpared}
@@ -23,28 +23,29 @@ module _ (i : Image) (b : Target) (wrong : RightIds i (b .silicon) → ⊥) wher
   -- every step leaves the memory as it was at the start, and no step is done
   unfoldable sparing : Frame i
   sparing = record {
-    Safe = λ m. m ≡ b .memory;
+    Safe = λ z m. m ≡ b .memory;
     Still = ⊥;
-    Stop = Left;
-    Goal = λ r. ⊥;
+    Stop = λ z r. Left r;
+    Goal = λ z r. ⊥;
     planned = plan (i .geometry) (entryOf b);
     most = mostTraffic (i .geometry) (entryOf b);
     silicon = b .silicon;
     safeSame = λ right m m′ e s. absurd (wrong right);
     safeOpen = λ right m e. absurd (wrong right);
     safeImage = λ right m e. absurd (wrong right);
+    safeSealed = λ right z m e. absurd (wrong right);
     caught = λ n s b l t some bad safe. record { ended = refl; same = safe .now };
     finished = λ b l w d t right quiet holds count calm. wrong right;
     wrongId = λ s w p a b l x d t safe h. record { ended = refl; same = safe .now };
     wrongPart = λ s w p a b l x d t safe h. record { ended = refl; same = safe .now };
   }
 
-  spares : (n : ℕ) (r : Run) → Reaches sparing r → (runAfter i n r) .target .memory ≡ b .memory
+  spares : (n : ℕ) {z : Bool} (r : Run) → Reaches sparing z r → (runAfter i n r) .target .memory ≡ b .memory
   unfolding runAfter sparing
   spares n r (here done) = absurd done
   spares n r (stop left) = rw (stays i n r (left .ended)) (left .same)
-  spares zero r (step goes safe most clean more) = safe .now
-  spares (suc n) r (step goes safe most clean more) = spares n (advance i r) more
+  spares zero r (step goes safe most clean turn more) = safe .now
+  spares (suc n) r (step goes safe most clean turn more) = spares n (advance i r) more
 
 pub other-part-spared : OtherPartSpared
 unfolding sparing

@@ -23,7 +23,7 @@ use Rattle.flow.specs.declared.Purpose.{Purpose}
 use Rattle.flow.specs.declared.Request.{Request}
 use Rattle.flow.specs.declared.TransferOutcome.the-variants.{Clean}
 use Rattle.flow.proofs.Hearing.{Plain, aTar, aDrw, aRead, aCtrl, aSelect, aCsw, plain, meets, listsAfter, Heard, heardOkay, heardWait, heardError, heardErrorDone, hears}
-use Rattle.flow.proofs.Reaches.{Allowance, withTransfer, Env, sync, Frame, Lasting, Stood, at-move, at-next, Bounded, Reaches, stop, steps, clear}
+use Rattle.flow.proofs.Reaches.{Allowance, withTransfer, Env, sync, Frame, Lasting, Stood, at-move, at-next, Bounded, Turn, stays, same-running, Reaches, stop, Next, steps, clear}
 use Rattle.image.specs.Image.{Image}
 
 -- one transfer more
@@ -121,14 +121,15 @@ module _ {i : Image} (f : Frame i) where
       rw (at-move st, counts h (e .traffic)) (record { transfers = omega (arith, st .room); xresets = omega (arith, st .xres); lineResets = omega (arith, st .lines) })
 
   -- one exchange: `onWait` is where a WAIT leads to
-  once : {q : Request} → Plain q → {s : ℕ} {u : Purpose} {y : Entry} {n : ℕ} {ms : List Move} (v : ℕ) {κ : Allowance} {e : Env} (w p a k : ℕ) (b : Target) (t : Watch)
+  once : {z z′ : Bool} {q : Request} → Plain q → {s : ℕ} {u : Purpose} {y : Entry} {n : ℕ} {ms : List Move} (v : ℕ) {κ : Allowance} {e : Env} (w p a k : ℕ) (b : Target) (t : Watch)
       → Stood f y n (move s q u ∷ ms) (waiting v κ) e → killed b ≡ false → barred (i .geometry) q b ≡ false
-      → Lasting (f .Safe) b → ((o : ℕ) → Lasting (f .Safe) (carry (i .geometry) q o (nextOutcome (e .lists .calls)) b))
-      → (onWait : (f .Still → ⊥) → Reaches f (onward s q u y n w p a k b t (record { line = rest (e .lists .line); calls = e .lists .calls }) again e))
+      → Lasting (f .Safe z) b → ((o : ℕ) → Lasting (f .Safe z′) (carry (i .geometry) q o (nextOutcome (e .lists .calls)) b))
+      → ((o : ℕ) → Turn z b (carry (i .geometry) q o (nextOutcome (e .lists .calls)) b) z′)
+      → (onWait : (f .Still → ⊥) → Reaches f z (onward s q u y n w p a k b t (record { line = rest (e .lists .line); calls = e .lists .calls }) again e))
       → (next : (o : ℕ) → Stood f y (suc n) ms κ (passed (listsAfter (i .geometry) q b (e .lists)) e)
-      → Reaches f (okayed s q u y n p a k (gives q b) (carry (i .geometry) q o (nextOutcome (e .lists .calls)) b) t (passed (listsAfter (i .geometry) q b (e .lists)) e)))
-      → Reaches f (paused q y n w p a k b t e)
-  once {q} h {s} {u} {y} {n} {ms} v {κ} {e} w p a k b t st not-killed free safe safe′ onWait next =
+      → Reaches f z′ (okayed s q u y n p a k (gives q b) (carry (i .geometry) q o (nextOutcome (e .lists .calls)) b) t (passed (listsAfter (i .geometry) q b (e .lists)) e)))
+      → Reaches f z (paused q y n w p a k b t e)
+  once {z} {z′} {q} h {s} {u} {y} {n} {ms} v {κ} {e} w p a k b t st not-killed free safe safe′ turn onWait next =
       steps f (paused q y n w p a k b t e) met refl safe (bounded h v κ w p a k b t st) (clear (waitingFor q w) p a t (e .delays)) (arrives h w p a k b t st)
       (by (hears (i .geometry) (e .lists) b (plain h) (nextEvent (e .lists .line)) not-killed free))
     where
@@ -150,38 +151,44 @@ module _ {i : Image} (f : Frame i) where
             record { line = calm-rest (c .line); calls = calm-cond (callsOn (i .geometry) q b) (c .calls); none = c .none };
       }
 
-      by : Heard (i .geometry) q (nextEvent (e .lists .line)) (e .lists) b (metBy q b e) → Reaches f met
-      by (heardOkay hb hv hl) = rw (hb, hv, hl) (next ((nextEvent (e .lists .line)) .other) stood)
-      by (heardWait bad hb hv hl) = rw (hb, hv, hl) (onWait (not-calm bad))
-      by (heardError c hn bad hb hv) = rw (hb, hv) (stop (f .caught c s b _ (more (e .traffic)) hn (not-calm bad) safe))
-      by (heardErrorDone c hn bad hb hv) = rw (hb, hv) (stop (f .caught c s _ _ (more (e .traffic)) hn (not-calm bad) (safe′ ((nextEvent (e .lists .line)) .other))))
+      same : Turn z b b z
+      same = stays (same-running b b refl)
+
+      by : Heard (i .geometry) q (nextEvent (e .lists .line)) (e .lists) b (metBy q b e) → Next f z b met
+      by (heardOkay hb hv hl) = rw (hb, hv, hl) (record { after = z′; turn = turn ((nextEvent (e .lists .line)) .other); reaches = next ((nextEvent (e .lists .line)) .other) stood })
+      by (heardWait bad hb hv hl) = rw (hb, hv, hl) (record { after = z; turn = same; reaches = onWait (not-calm bad) })
+      by (heardError c hn bad hb hv) = rw (hb, hv) (record { after = z; turn = same; reaches = stop (f .caught c s b _ (more (e .traffic)) hn (not-calm bad) safe) })
+      by (heardErrorDone c hn bad hb hv) =
+          rw (hb, hv) (record { after = z′; turn = turn ((nextEvent (e .lists .line)) .other); reaches = stop (f .caught c s _ _ (more (e .traffic)) hn (not-calm bad) (safe′ ((nextEvent (e .lists .line)) .other))) })
 
   -- v more repeats are allowed
-  transfer-from : (v : ℕ) {q : Request} → Plain q → {s : ℕ} {u : Purpose} {y : Entry} {n : ℕ} {ms : List Move} {κ : Allowance} (e : Env) (w p a k : ℕ) (b : Target) (t : Watch)
+  transfer-from : (v : ℕ) {z z′ : Bool} {q : Request} → Plain q → {s : ℕ} {u : Purpose} {y : Entry} {n : ℕ} {ms : List Move} {κ : Allowance} (e : Env) (w p a k : ℕ) (b : Target) (t : Watch)
       → w + v ≡ 16
       → Stood f y n (move s q u ∷ ms) (waiting v κ) e → killed b ≡ false → barred (i .geometry) q b ≡ false
-      → Lasting (f .Safe) b → ((o : ℕ) → Lasting (f .Safe) (carry (i .geometry) q o (nextOutcome (e .lists .calls)) b))
+      → Lasting (f .Safe z) b → ((o : ℕ) → Lasting (f .Safe z′) (carry (i .geometry) q o (nextOutcome (e .lists .calls)) b))
+      → ((o : ℕ) → Turn z b (carry (i .geometry) q o (nextOutcome (e .lists .calls)) b) z′)
       → (next : (o : ℕ) (e′ : Env) → e′ .lists .calls ≡ cond (callsOn (i .geometry) q b) (rest (e .lists .calls)) (e .lists .calls) → Stood f y (suc n) ms κ e′
-      → Reaches f (okayed s q u y n p a k (gives q b) (carry (i .geometry) q o (nextOutcome (e .lists .calls)) b) t e′))
-      → Reaches f (paused q y n w p a k b t e)
-  transfer-from zero {q} h {s = s} e w p a k b t count st not-killed free safe safe′ next =
-      once h 0 w p a k b t st not-killed free safe safe′
+      → Reaches f z′ (okayed s q u y n p a k (gives q b) (carry (i .geometry) q o (nextOutcome (e .lists .calls)) b) t e′))
+      → Reaches f z (paused q y n w p a k b t e)
+  transfer-from zero {q} h {s = s} e w p a k b t count st not-killed free safe safe′ turn next =
+      once h 0 w p a k b t st not-killed free safe safe′ turn
       (λ bad. rw (waits-so-far q w, le-ltb w 16 (omega arith)) (stop (f .caught 27 s b _ (more (e .traffic)) (lit≤ tt) bad safe)))
       (λ o st′. next o _ refl st′)
-  transfer-from (suc v) {q} h {κ = κ} e w p a k b t count st not-killed free safe safe′ next =
-      once h (suc v) w p a k b t st not-killed free safe safe′
+  transfer-from (suc v) {q} h {κ = κ} e w p a k b t count st not-killed free safe safe′ turn next =
+      once h (suc v) w p a k b t st not-killed free safe safe′ turn
       (λ bad. rw (waits-so-far q w, lt-ltb w 16 (omega arith))
       (transfer-from v h (record { lists = record { line = rest (e .lists .line); calls = e .lists .calls }; delays = oneWait (e .delays); traffic = more (e .traffic) })
       (suc w) p a k b t (omega arith)
       (record { at = st .at; accounted = omega (arith, st .accounted); room = omega (arith, st .room); xres = st .xres; lines = st .lines; calm = λ still. absurd (bad still) })
-      not-killed free safe safe′ next))
+      not-killed free safe safe′ turn next))
       (λ o st′. next o _ refl st′)
 
   -- any transfer outside the attempts
-  pub transfer : {q : Request} → Plain q → {s : ℕ} {u : Purpose} {y : Entry} {n : ℕ} {ms : List Move} {κ : Allowance} {e : Env} {p a k : ℕ} {b : Target} {t : Watch}
+  pub transfer : {z z′ : Bool} {q : Request} → Plain q → {s : ℕ} {u : Purpose} {y : Entry} {n : ℕ} {ms : List Move} {κ : Allowance} {e : Env} {p a k : ℕ} {b : Target} {t : Watch}
       → Stood f y n (move s q u ∷ ms) (withTransfer κ) e → killed b ≡ false → barred (i .geometry) q b ≡ false
-      → Lasting (f .Safe) b → ((o : ℕ) → Lasting (f .Safe) (carry (i .geometry) q o (nextOutcome (e .lists .calls)) b))
+      → Lasting (f .Safe z) b → ((o : ℕ) → Lasting (f .Safe z′) (carry (i .geometry) q o (nextOutcome (e .lists .calls)) b))
+      → ((o : ℕ) → Turn z b (carry (i .geometry) q o (nextOutcome (e .lists .calls)) b) z′)
       → (next : (o : ℕ) (e′ : Env) → e′ .lists .calls ≡ cond (callsOn (i .geometry) q b) (rest (e .lists .calls)) (e .lists .calls) → Stood f y (suc n) ms κ e′
-      → Reaches f (okayed s q u y n p a k (gives q b) (carry (i .geometry) q o (nextOutcome (e .lists .calls)) b) t e′))
-      → Reaches f (sync y n p a k b t e)
-  transfer h {e = e} st not-killed free safe safe′ next = transfer-from 16 h e 0 _ _ _ _ _ refl st not-killed free safe safe′ next
+      → Reaches f z′ (okayed s q u y n p a k (gives q b) (carry (i .geometry) q o (nextOutcome (e .lists .calls)) b) t e′))
+      → Reaches f z (sync y n p a k b t e)
+  transfer h {e = e} st not-killed free safe safe′ turn next = transfer-from 16 h e 0 _ _ _ _ _ refl st not-killed free safe safe′ turn next

@@ -2,16 +2,16 @@
 use mathlib.Core.Bool.{Bool, true, false, false≢true}
 use mathlib.Core.List.{List}
 use mathlib.Core.Path.{_≡_, refl, sym}
-use Prim.Native.Nat.{ℕ, suc, _+_, _*_, _/_, _%_, _≤_, _<_}
+use Prim.Native.Nat.{ℕ, suc, _+_, _*_, _-_, _/_, _%_, _≤_, _<_}
 use native.Mathlib.Nat.{mul-le-mul-right, suc-mul}
 use native.Mathlib.Omega.{arith}
-use lib.Dec.{eqb}
-use borrow.Author.Tests.{eq-eqb}
+use lib.Dec.{eqb, eqb·suc-zero}
+use borrow.Author.Tests.{eq-eqb, ne-eqb}
 use Rattle.flow.specs.Exchange.{levelWord}
 use Rattle.flow.specs.Judge.{go, goIf, judge, levelShown}
 use Rattle.flow.specs.Map.{place}
 use Rattle.flow.specs.Monitor.{noticeRead}
-use Rattle.flow.specs.Sequence.{read, inTurn, compareWords, verifyRow, lockStart, verifyMacro}
+use Rattle.flow.specs.Sequence.{read, inTurn, compareWords, verifyRow, lockStart, lockMacro, verifyMacro, macroDown, lockAndVerify}
 use Rattle.flow.specs.Target.{Target, idle}
 use Rattle.flow.specs.declared.Entry.{Entry}
 use Rattle.flow.specs.declared.Move.{Move}
@@ -19,8 +19,10 @@ use Rattle.flow.specs.declared.Purpose.{Purpose}
 use Rattle.flow.specs.declared.Place.the-variants.{InFlash, InLocks, AtLevel}
 use Rattle.flow.specs.declared.Purpose.the-variants.{FlashWord, LockWord, StoredLevel}
 use Rattle.flow.proofs.Access.{aim, admits-open, read-still}
-use Rattle.flow.proofs.Legs.{Core, core, Known, Leg, leg-pieces}
-use Rattle.flow.proofs.Phases.{Level, isOpen, isProtected, isKill, Valid, Wrote, Locked, level-safe, wrote-all, locked-all, last-level}
+use Rattle.flow.proofs.Legs.{Core, core, Known, Leg, leg-append, leg-pieces}
+use Rattle.flow.proofs.Lists.{same-word}
+use Rattle.flow.proofs.Locking.{macro-leg}
+use Rattle.flow.proofs.Phases.{Level, isOpen, isProtected, isKill, Valid, Wrote, Locked, all-held, level-safe, wrote-all}
 use Rattle.flow.proofs.Places.{place-flash, place-locks, place-level}
 use Rattle.flow.proofs.Polling.{idleAt}
 use Rattle.flow.proofs.Reaches.{Allowance, withTransfer, withRead, withMoves, Env, sync, Frame, at-rest, Stood, Stands, Reaches}
@@ -67,24 +69,24 @@ takes-locks i m o h = record {
 }
 
 module _ {i : Image} (f : Frame i) (y : Entry) where
-  word-reaches : (s a w : ℕ) (u : Purpose) → Takes i u w → {n x k : ℕ} {later : List Move} {κ : Allowance} {e : Env} {b : Target} → Holds (i .geometry) (core b) a w → b .effect ≡ 1 → b .running ≡ idle → f .Safe (b .memory)
+  word-reaches : (s a w : ℕ) (u : Purpose) → Takes i u w → {z : Bool} {n x k : ℕ} {later : List Move} {κ : Allowance} {e : Env} {b : Target} → Holds (i .geometry) (core b) a w → b .effect ≡ 1 → b .running ≡ idle → f .Safe z (b .memory)
       → Stands f y n (read s a u) later κ e
-      → (next : (n′ : ℕ) (e′ : Env) → Stood f y n′ later κ e′ → Reaches f (sync y n′ 0 0 k (aim a w b) (idleAt a) e′))
-      → Reaches f (sync y n 0 0 k b (idleAt x) e)
+      → (next : (n′ : ℕ) (e′ : Env) → Stood f y n′ later κ e′ → Reaches f z (sync y n′ 0 0 k (aim a w b) (idleAt a) e′))
+      → Reaches f z (sync y n 0 0 k b (idleAt x) e)
   unfolding noticeRead withMoves read
-  word-reaches s a w u takes {k = k} {κ = κ} {b = b} (flashHolds o hp hw) he quiet safe st next =
-      read-still f s a u (rw (takes .cost κ) at st) (InFlash o) hp (admits-open (b .effect) (InFlash o) he) (at-rest (f .Safe) b quiet safe) (λ _. w) (λ _ _. rw hw) λ _ _ e′ h st′.
+  word-reaches s a w u takes {z = z} {k = k} {κ = κ} {b = b} (flashHolds o hp hw) he quiet safe st next =
+      read-still f s a u (rw (takes .cost κ) at st) (InFlash o) hp (admits-open (b .effect) (InFlash o) he) (at-rest (f .Safe z) b quiet safe) (λ _. w) (λ _ _. rw hw) λ _ _ e′ h st′.
       rw (takes .judged k) (next _ e′ st′)
-  word-reaches s a w u takes {k = k} {κ = κ} {b = b} (locksHold o hp hw) he quiet safe st next =
-      read-still f s a u (rw (takes .cost κ) at st) (InLocks o) hp (admits-open (b .effect) (InLocks o) he) (at-rest (f .Safe) b quiet safe) (λ _. w) (λ _ _. rw hw) λ _ _ e′ h st′.
+  word-reaches s a w u takes {z = z} {k = k} {κ = κ} {b = b} (locksHold o hp hw) he quiet safe st next =
+      read-still f s a u (rw (takes .cost κ) at st) (InLocks o) hp (admits-open (b .effect) (InLocks o) he) (at-rest (f .Safe z) b quiet safe) (λ _. w) (λ _ _. rw hw) λ _ _ e′ h st′.
       rw (takes .judged k) (next _ e′ st′)
 
   -- where P holds, OPEN is in effect, and the words from a on are those that u takes
-  words-leg : (s a n : ℕ) (u : ℕ → Purpose) (w : ℕ → ℕ) (P : Known) → ((j : ℕ) → j < n → Takes i (u (4 * j)) (w j))
+  words-leg : (s a n : ℕ) (u : ℕ → Purpose) (w : ℕ → ℕ) {z : Bool} (P : Known) → ((j : ℕ) → j < n → Takes i (u (4 * j)) (w j))
       → ((j : ℕ) → j < n → (k : ℕ) (c : Core) → P k c → Holds (i .geometry) c (a + 4 * j) (w j)) → ((k : ℕ) (c : Core) → P k c → c .effect ≡ 1) → ((k : ℕ) (c : Core) → P k c → c .running ≡ idle)
-      → ((k : ℕ) (c : Core) → P k c → f .Safe (c .memory)) → Leg f y (compareWords s a u n) P P
-  words-leg s a n u w P takes held opens quiets safes =
-      leg-pieces f y _ (λ j. P) _
+      → ((k : ℕ) (c : Core) → P k c → f .Safe z (c .memory)) → Leg f z z y (compareWords s a u n) P P
+  words-leg s a n u w {z} P takes held opens quiets safes =
+      leg-pieces f y _ (λ j. P) (λ j. z) _
       (λ j h. record {
         along = λ n x k later κ e b p st next.
             word-reaches s (a + 4 * j) (w j) (u (4 * j)) (takes j h) (held j h k (core b) p) (opens k (core b) p) (quiets k (core b) p) (safes k (core b) p) st λ n′ e′ st′. next k _ p n′ _ e′ st′;
@@ -93,7 +95,7 @@ module _ {i : Image} (f : Frame i) (y : Entry) where
 
   module _ (fx : Facts (i .geometry)) (v : Valid i) where
     -- step 6
-    row-leg : (r : ℕ) → r < rowsOf (i .geometry) → Leg f y (verifyRow (i .geometry) r) (Wrote f (rowsOf (i .geometry))) (Wrote f (rowsOf (i .geometry)))
+    row-leg : (r : ℕ) → r < rowsOf (i .geometry) → Leg f false false y (verifyRow (i .geometry) r) (Wrote f (rowsOf (i .geometry))) (Wrote f (rowsOf (i .geometry)))
     unfolding verifyRow flashSize
     row-leg r hr =
         words-leg 6 (r * rowBytes (i .geometry)) (rowBytes (i .geometry) / 4) (FlashWord r) (λ j. wordAt (i .flash) (r * rowBytes (i .geometry) + 4 * j)) (Wrote f (rowsOf (i .geometry)))
@@ -104,26 +106,40 @@ module _ {i : Image} (f : Frame i) (y : Entry) where
         within : r * rowBytes (i .geometry) + rowBytes (i .geometry) ≤ flashSize (i .geometry)
         within = let l : suc r * rowBytes (i .geometry) ≤ rowsOf (i .geometry) * rowBytes (i .geometry) = mul-le-mul-right (rowBytes (i .geometry)) hr in omega (arith, suc-mul r (rowBytes (i .geometry)))
 
-    pub flash-leg : Leg f y (inTurn (verifyRow (i .geometry)) 0 (rowsOf (i .geometry))) (Wrote f (rowsOf (i .geometry))) (Wrote f (rowsOf (i .geometry)))
-    flash-leg = leg-pieces f y (verifyRow (i .geometry)) (λ r. Wrote f (rowsOf (i .geometry))) _ row-leg (rowsOf (i .geometry)) 0 (omega arith)
+    pub flash-leg : Leg f false false y (inTurn (verifyRow (i .geometry)) 0 (rowsOf (i .geometry))) (Wrote f (rowsOf (i .geometry))) (Wrote f (rowsOf (i .geometry)))
+    flash-leg = leg-pieces f y (verifyRow (i .geometry)) (λ r. Wrote f (rowsOf (i .geometry))) (λ r. false) _ row-leg (rowsOf (i .geometry)) 0 (omega arith)
 
-    -- step 8
-    macro-leg : (m : ℕ) → m < macrosOf (i .geometry) → Leg f y (verifyMacro (i .geometry) m) (Locked f (macrosOf (i .geometry))) (Locked f (macrosOf (i .geometry)))
+    -- step 8 of a macro, straight after its lock call
+    verify-leg : (m : ℕ) → m < macrosOf (i .geometry) → Leg f (eqb m 0) (eqb m 0) y (verifyMacro (i .geometry) m) (Locked f m) (Locked f m)
     unfolding verifyMacro
-    macro-leg m hm =
-        words-leg 8 (locksAt (i .geometry) m) (locksIn (i .geometry) m / 4) (LockWord m) (λ j. wordAt (i .protection) (lockStart (i .geometry) m + 4 * j)) (Locked f (macrosOf (i .geometry)))
+    verify-leg m hm =
+        words-leg 8 (locksAt (i .geometry) m) (locksIn (i .geometry) m / 4) (LockWord m) (λ j. wordAt (i .protection) (lockStart (i .geometry) m + 4 * j)) (Locked f m)
         (λ j h. takes-locks i m (4 * j) (omega (arith, fx .lockQuads m)))
-        (λ j h k c p. locksHold (lockStart (i .geometry) m + 4 * j) (place-locks (i .geometry) fx _ m (4 * j) refl hm (omega (arith, fx .lockQuads m))) (rw (locked-all v fx p)))
-        (λ k c p. p .opened .effect) (λ k c p. p .opened .quiet) (λ k c p. level-safe f (p .opened .right) (macrosOf (i .geometry)) (c .memory) (p .level))
+        (λ j h k c p. locksHold (lockStart (i .geometry) m + 4 * j) (place-locks (i .geometry) fx _ m (4 * j) refl hm (omega (arith, fx .lockQuads m)))
+        (same-word (c .memory .locks) (i .protection) (lockStart (i .geometry) m) (4 * j) (p .done)))
+        (λ k c p. p .opened .effect) (λ k c p. p .opened .quiet) (λ k c p. level-safe f m p)
 
-    pub locks-leg : Leg f y (inTurn (verifyMacro (i .geometry)) 0 (macrosOf (i .geometry))) (Locked f (macrosOf (i .geometry))) (Locked f (macrosOf (i .geometry)))
-    locks-leg = leg-pieces f y (verifyMacro (i .geometry)) (λ m. Locked f (macrosOf (i .geometry))) _ macro-leg (macrosOf (i .geometry)) 0 (omega arith)
+    -- steps 7 and 8, from the highest macro down to 0
+    pub macros-leg : Leg f false true y (inTurn (λ k. lockAndVerify i (macroDown (i .geometry) k)) 0 (macrosOf (i .geometry))) (Locked f (macrosOf (i .geometry))) (Locked f 0)
+    macros-leg =
+        let l = leg-pieces f y (λ k. lockAndVerify i (macroDown (i .geometry) k)) (λ k. Locked f (macrosOf (i .geometry) - k)) (λ k. eqb (macrosOf (i .geometry) - k) 0) (macrosOf (i .geometry)) each (macrosOf (i .geometry)) 0 (omega arith) in
+        let a : macrosOf (i .geometry) - 0 ≡ macrosOf (i .geometry) = omega arith in
+        let z : macrosOf (i .geometry) - macrosOf (i .geometry) ≡ 0 = omega arith in
+        let y₀ : eqb (macrosOf (i .geometry)) 0 ≡ false = ne-eqb (macrosOf (i .geometry)) 0 (λ q. omega (arith, fx .any)) in
+        rw (a, z, y₀) at l
+      where
+        each : (k : ℕ) → k < macrosOf (i .geometry)
+            → Leg f (eqb (macrosOf (i .geometry) - k) 0) (eqb (macrosOf (i .geometry) - suc k) 0) y (lockAndVerify i (macroDown (i .geometry) k)) (Locked f (macrosOf (i .geometry) - k)) (Locked f (macrosOf (i .geometry) - suc k))
+        each k h =
+            let m = macroDown (i .geometry) k in
+            let e : macrosOf (i .geometry) - k ≡ suc (macrosOf (i .geometry) - suc k) = omega arith in
+            rw (e, eqb·suc-zero) (leg-append f y (lockMacro i m) (verifyMacro (i .geometry) m) (macro-leg f fx v m (omega arith) y) (verify-leg m (omega arith)))
 
-    pub level-leg : Leg f y (read 8 (levelAt (i .geometry)) StoredLevel) (Locked f (macrosOf (i .geometry))) (Locked f (macrosOf (i .geometry)))
+    pub level-leg : Leg f true true y (read 8 (levelAt (i .geometry)) StoredLevel) (Locked f 0) (Locked f 0)
     unfolding judge noticeRead withMoves read
     level-leg = record {
       along = λ n x k later κ e b p st next.
           read-still f 8 (levelAt (i .geometry)) StoredLevel st AtLevel (place-level (i .geometry) fx) (admits-open (b .effect) AtLevel (p .opened .effect))
-          (at-rest (f .Safe) b (p .opened .quiet) (level-safe f (p .opened .right) (macrosOf (i .geometry)) (b .memory) (p .level))) (levelWord (i .header .level)) (λ o z. rw (last-level fx p)) λ o o′ e′ h st′.
+          (at-rest (f .Safe true) b (p .opened .quiet) (f .safeSealed (p .opened .right) true (b .memory) (all-held p))) (levelWord (i .header .level)) (λ o z. rw (p .level)) λ o o′ e′ h st′.
           rw (level-read (v .level) o) (next k _ p _ _ e′ st′);
     }

@@ -14,10 +14,14 @@ pub mod Machine
 pub mod Terms
 pub mod Run
 pub mod Claim
+pub mod Sealing
+pub mod SealedRuns
 pub mod Examples
 pub mod Mishaps
 pub mod BoardExamples
 pub mod CutExamples
+pub mod SealingExamples
+pub mod OrderExamples
 pub mod Starts
 pub mod Judgements
 pub mod SessionExamples

@@ -103,7 +103,7 @@ verifyRow g r = compareWords 6 (r * rowBytes g) (FlashWord r) (rowBytes g / 4)
 abbrev pub lockStart : Geometry → (m : ℕ) → ℕ
 lockStart g m = m * (rowsPerMacro g / 8)
 
--- '7. For macros from 0 up: listed call 4, list k + macro × 2^24, PB - 1, the macro's protection bytes; call 0x0D with
+-- '7. For macros .. : listed call 4, list k + macro × 2^24, PB - 1, the macro's protection bytes; call 0x0D with
 -- k + level × 2^16 + macro × 2^24.'
 unfoldable pub lockMacro : Image → (m : ℕ) → List Move
 lockMacro i m =
@@ -114,6 +114,14 @@ lockMacro i m =
 unfoldable pub verifyMacro : Geometry → (m : ℕ) → List Move
 verifyMacro g m = compareWords 8 (locksAt g m) (LockWord m) (locksIn g m / 4)
 
+-- document 02, One: 'Step 7 now goes from the highest macro down to 0'; the k-th of them
+abbrev pub macroDown : Geometry → (k : ℕ) → ℕ
+macroDown g k = macrosOf g - suc k
+
+-- 'and step 8 for each higher macro is done straight after its lock call'; macro 0's follows its own in the same way
+abbrev pub lockAndVerify : Image → (m : ℕ) → List Move
+lockAndVerify i m = lockMacro i m ++ verifyMacro (i .geometry) m
+
 -- steps 4 to 9; '9. As 4; (this sum - that sum) mod 65536 equals the image's sum.'
 unfoldable pub program : Image → List Move
 program i =
@@ -121,10 +129,9 @@ program i =
     privileged g 4 Keep
     ++ (inTurn (programRow i) 0 (rowsOf g)
     ++ (inTurn (verifyRow g) 0 (rowsOf g)
-    ++ (inTurn (lockMacro i) 0 (macrosOf g)
-    ++ (inTurn (verifyMacro g) 0 (macrosOf g)
+    ++ (inTurn (λ k. lockAndVerify i (macroDown g k)) 0 (macrosOf g)
     ++ (read 8 (levelAt g) StoredLevel
-    ++ privileged g 9 LastSum)))))
+    ++ privileged g 9 LastSum))))
 
 -- steps 1 and 2, after which the entry is known
 unfoldable pub opening : Image → List Move

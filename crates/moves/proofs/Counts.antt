@@ -5,7 +5,7 @@ use Prim.Native.Nat.{ℕ, _+_, _*_, _/_}
 use native.Mathlib.Omega.{arith}
 use lib.ListN.{length, length-append}
 use Rattle.flow.proofs.Counting.{length-words}
-use Rattle.flow.specs.Sequence.{key, write, read, call, writes, listed, inTurn, imoCall, privileged, latchList, programRow, compareWord, compareWords, verifyRow, lockStart, lockMacro, verifyMacro, program, opening, afterwards, sequence}
+use Rattle.flow.specs.Sequence.{key, write, read, call, writes, listed, inTurn, imoCall, privileged, latchList, programRow, compareWord, compareWords, verifyRow, lockStart, lockMacro, verifyMacro, macroDown, lockAndVerify, program, opening, afterwards, sequence}
 use Rattle.flow.specs.declared.Entry.{Entry}
 use Rattle.flow.specs.declared.Entry.the-variants.{FromOpen, FromProtected}
 use Rattle.flow.specs.declared.Purpose.{Purpose}
@@ -66,12 +66,15 @@ module _ (i : Image) where
   unfolding verifyRow
   length-verify = length-pieces (verifyRow g) (words * 3) (λ r. length-compared 6 (r * rowBytes g) (FlashWord r) words) 0 (rowsOf g)
 
-  pub length-locks : length (inTurn (lockMacro i) 0 (macrosOf g)) ≡ macrosOf g * (24 + 2 * locks)
-  length-locks = length-pieces (lockMacro i) (24 + 2 * locks) length-lock 0 (macrosOf g)
-
-  pub length-checks : length (inTurn (verifyMacro g) 0 (macrosOf g)) ≡ macrosOf g * (locks * 3)
+  length-check : (m : ℕ) → length (verifyMacro g m) ≡ locks * 3
   unfolding verifyMacro locksIn
-  length-checks = length-pieces (verifyMacro g) (locks * 3) (λ m. length-compared 8 (locksAt g m) (LockWord m) locks) 0 (macrosOf g)
+  length-check m = length-compared 8 (locksAt g m) (LockWord m) locks
+
+  pub length-macro : (m : ℕ) → length (lockAndVerify i m) ≡ 24 + 5 * locks
+  length-macro m = length-append (lockMacro i m) (verifyMacro g m) ∙ omega (arith, length-lock m, length-check m)
+
+  pub length-macros : length (inTurn (λ k. lockAndVerify i (macroDown g k)) 0 (macrosOf g)) ≡ macrosOf g * (24 + 5 * locks)
+  length-macros = length-pieces (λ k. lockAndVerify i (macroDown g k)) (24 + 5 * locks) (λ k. length-macro (macroDown g k)) 0 (macrosOf g)
 
   pub length-program : length (program i) ≡ 29 + rowsOf g * (26 + 5 * words) + macrosOf g * (24 + 5 * locks)
   unfolding program
@@ -82,8 +85,7 @@ module _ (i : Image) where
         length-privileged g 4 Keep,
         length-rows,
         length-verify,
-        length-locks,
-        length-checks,
+        length-macros,
         length-read 8 (levelAt g) StoredLevel,
         length-privileged g 9 LastSum,
       ))

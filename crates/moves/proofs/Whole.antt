@@ -4,13 +4,13 @@ use mathlib.Core.Path.{_≡_, sym, ap, _∙_}
 use Prim.Native.Nat.{ℕ, _+_, _-_, _*_, _/_, _<_, _≤_}
 use native.Mathlib.Omega.{arith}
 use lib.ListN.{length, getD, length-append}
-use Rattle.flow.specs.Sequence.{key, read, call, listed, inTurn, acquire, silicon, privileged, programRow, verifyRow, lockMacro, verifyMacro, program, opening, afterwards, sequence, endMove}
+use Rattle.flow.specs.Sequence.{key, read, call, listed, inTurn, acquire, silicon, privileged, programRow, verifyRow, macroDown, lockAndVerify, program, opening, afterwards, sequence, endMove}
 use Rattle.flow.specs.declared.Entry.{Entry}
 use Rattle.flow.specs.declared.Entry.the-variants.{FromOpen, FromProtected}
 use Rattle.flow.specs.declared.Move.{Move}
 use Rattle.flow.specs.declared.Purpose.the-variants.{Keep, EntryLevel, Reopened, StoredLevel, LastSum}
 use Rattle.image.specs.Image.{Image}
-use Rattle.moves.proofs.Counts.{length-privileged, length-rows, length-verify, length-locks, length-checks, length-listed, opening-counted}
+use Rattle.moves.proofs.Counts.{length-privileged, length-rows, length-verify, length-macros, length-listed, opening-counted}
 use Rattle.moves.proofs.Joined.{at-first, at-second, within, onward}
 use Rattle.moves.proofs.Steps.{length-call, length-read, length-silicon}
 use Rattle.moves.specs.Moves.{openingCount}
@@ -33,11 +33,8 @@ module _ (i : Image) where
   abbrev verify : List Move
   verify = inTurn (verifyRow g) 0 (rowsOf g)
 
-  abbrev locks : List Move
-  locks = inTurn (lockMacro i) 0 (macrosOf g)
-
-  abbrev checks : List Move
-  checks = inTurn (verifyMacro g) 0 (macrosOf g)
+  abbrev macros : List Move
+  macros = inTurn (λ k. lockAndVerify i (macroDown g k)) 0 (macrosOf g)
 
   abbrev level : List Move
   level = read 8 (levelAt g) StoredLevel
@@ -47,49 +44,43 @@ module _ (i : Image) where
 
   pub program-sum : (j : ℕ) → j < 13 → getD (program i) j endMove ≡ getD (privileged g 4 Keep) j endMove
   unfolding program
-  program-sum j h = at-first (privileged g 4 Keep) (rows ++ (verify ++ (locks ++ (checks ++ (level ++ sum))))) endMove 13 j (length-privileged g 4 Keep) h
+  program-sum j h = at-first (privileged g 4 Keep) (rows ++ (verify ++ (macros ++ (level ++ sum)))) endMove 13 j (length-privileged g 4 Keep) h
 
-  after-sum : (j : ℕ) → 13 ≤ j → getD (program i) j endMove ≡ getD (rows ++ (verify ++ (locks ++ (checks ++ (level ++ sum))))) (j - 13) endMove
+  after-sum : (j : ℕ) → 13 ≤ j → getD (program i) j endMove ≡ getD (rows ++ (verify ++ (macros ++ (level ++ sum)))) (j - 13) endMove
   unfolding program
-  after-sum j h = at-second (privileged g 4 Keep) (rows ++ (verify ++ (locks ++ (checks ++ (level ++ sum))))) endMove 13 j (length-privileged g 4 Keep) h
+  after-sum j h = at-second (privileged g 4 Keep) (rows ++ (verify ++ (macros ++ (level ++ sum)))) endMove 13 j (length-privileged g 4 Keep) h
 
   module _ (j a b : ℕ) (r : a ≡ 13 + rowsOf g * (26 + 2 * words)) (v : b ≡ a + rowsOf g * (words * 3)) where
     pub program-rows : 13 ≤ j → j < a → getD (program i) j endMove ≡ getD rows (j - 13) endMove
     program-rows l h =
-        after-sum j l ∙ within rows (verify ++ (locks ++ (checks ++ (level ++ sum)))) endMove 13 a j (omega (arith, length-rows i)) l h
+        after-sum j l ∙ within rows (verify ++ (macros ++ (level ++ sum))) endMove 13 a j (omega (arith, length-rows i)) l h
 
-    after-rows : a ≤ j → getD (program i) j endMove ≡ getD (verify ++ (locks ++ (checks ++ (level ++ sum)))) (j - a) endMove
+    after-rows : a ≤ j → getD (program i) j endMove ≡ getD (verify ++ (macros ++ (level ++ sum))) (j - a) endMove
     after-rows l =
-        after-sum j (omega arith) ∙ onward rows (verify ++ (locks ++ (checks ++ (level ++ sum)))) endMove 13 a j (omega (arith, length-rows i)) l
+        after-sum j (omega arith) ∙ onward rows (verify ++ (macros ++ (level ++ sum))) endMove 13 a j (omega (arith, length-rows i)) l
 
     pub program-verify : a ≤ j → j < b → getD (program i) j endMove ≡ getD verify (j - a) endMove
     program-verify l h =
-        after-rows l ∙ within verify (locks ++ (checks ++ (level ++ sum))) endMove a b j (omega (arith, length-verify i)) l h
+        after-rows l ∙ within verify (macros ++ (level ++ sum)) endMove a b j (omega (arith, length-verify i)) l h
 
-    after-verify : b ≤ j → getD (program i) j endMove ≡ getD (locks ++ (checks ++ (level ++ sum))) (j - b) endMove
+    after-verify : b ≤ j → getD (program i) j endMove ≡ getD (macros ++ (level ++ sum)) (j - b) endMove
     after-verify l =
-        after-rows (omega arith) ∙ onward verify (locks ++ (checks ++ (level ++ sum))) endMove a b j (omega (arith, length-verify i)) l
+        after-rows (omega arith) ∙ onward verify (macros ++ (level ++ sum)) endMove a b j (omega (arith, length-verify i)) l
 
-    module _ (d e : ℕ) (k : d ≡ b + macrosOf g * (24 + 2 * quads)) (c : e ≡ d + macrosOf g * (quads * 3)) where
-      pub program-locks : b ≤ j → j < d → getD (program i) j endMove ≡ getD locks (j - b) endMove
-      program-locks l h = after-verify l ∙ within locks (checks ++ (level ++ sum)) endMove b d j (omega (arith, length-locks i)) l h
+    module _ (e : ℕ) (c : e ≡ b + macrosOf g * (24 + 5 * quads)) where
+      pub program-macros : b ≤ j → j < e → getD (program i) j endMove ≡ getD macros (j - b) endMove
+      program-macros l h = after-verify l ∙ within macros (level ++ sum) endMove b e j (omega (arith, length-macros i)) l h
 
-      after-locks : d ≤ j → getD (program i) j endMove ≡ getD (checks ++ (level ++ sum)) (j - d) endMove
-      after-locks l = after-verify (omega arith) ∙ onward locks (checks ++ (level ++ sum)) endMove b d j (omega (arith, length-locks i)) l
-
-      pub program-checks : d ≤ j → j < e → getD (program i) j endMove ≡ getD checks (j - d) endMove
-      program-checks l h = after-locks l ∙ within checks (level ++ sum) endMove d e j (omega (arith, length-checks i)) l h
-
-      after-checks : e ≤ j → getD (program i) j endMove ≡ getD (level ++ sum) (j - e) endMove
-      after-checks l = after-locks (omega arith) ∙ onward checks (level ++ sum) endMove d e j (omega (arith, length-checks i)) l
+      after-macros : e ≤ j → getD (program i) j endMove ≡ getD (level ++ sum) (j - e) endMove
+      after-macros l = after-verify (omega arith) ∙ onward macros (level ++ sum) endMove b e j (omega (arith, length-macros i)) l
 
       pub program-level : e ≤ j → j < e + 3 → getD (program i) j endMove ≡ getD level (j - e) endMove
-      program-level l h = after-checks l ∙ within level sum endMove e (e + 3) j (omega (arith, length-read 8 (levelAt g) StoredLevel)) l h
+      program-level l h = after-macros l ∙ within level sum endMove e (e + 3) j (omega (arith, length-read 8 (levelAt g) StoredLevel)) l h
 
       pub program-last : e + 3 ≤ j → getD (program i) j endMove ≡ getD sum (j - e - 3) endMove
       program-last l =
           let t : j - e - 3 ≡ j - (e + 3) = omega arith in
-          after-checks (omega arith)
+          after-macros (omega arith)
           ∙ onward level sum endMove e (e + 3) j (omega (arith, length-read 8 (levelAt g) StoredLevel)) l
           ∙ ap (λ (x : ℕ). getD sum x endMove) (sym t)
 

@@ -5,10 +5,9 @@ use Rattle.moves.specs.declared.Ends.{Ends}
 use Rattle.parts.specs.Sizes.{rowBytes, macrosOf, rowsPerMacro, rowsOf}
 use Rattle.parts.specs.declared.Geometry.{Geometry}
 
--- each section from the end of the one before: 13 moves of step 4, then 5, 6, 7, and the locks of 8
+-- each section from the end of the one before: 13 moves of step 4, then 5, 6, and 7 with the locks of 8
 pub record Ended (g : Geometry) (e : Ends) : Type 0 where
   pub rows : e .rows ≡ 13 + rowsOf g * (26 + 2 * (rowBytes g / 4))
   pub words : e .words ≡ e .rows + rowsOf g * (rowBytes g / 4 * 3)
-  pub locks : e .locks ≡ e .words + macrosOf g * (24 + 2 * (rowsPerMacro g / 8 / 4))
-  pub checks : e .checks ≡ e .locks + macrosOf g * (rowsPerMacro g / 8 / 4 * 3)
-  pub small : e .checks ≤ 100000000
+  pub macros : e .macros ≡ e .words + macrosOf g * (24 + 5 * (rowsPerMacro g / 8 / 4))
+  pub small : e .macros ≤ 100000000

@@ -27,9 +27,8 @@ use flow::Move;
 use flow::Purpose;
 use image::Header;
 use parts::Geometry;
-use rows::checks_move;
-use rows::lock_moves;
-use rows::locks_move;
+use rows::macro_moves;
+use rows::macros_move;
 use rows::row_moves;
 use rows::rows_move;
 use rows::verify_move;
@@ -42,12 +41,11 @@ fn opening_moves(g: Geometry) -> u32
     30 + imo_moves(p.imo)
 }
 
-// Where, among the moves of steps 4 to 9, the rows end, the flash's words, the locks, and the locks' words.
+// Where, among the moves of steps 4 to 9, the rows end, the flash's words, and the macros: steps 5, 6, and 7 with the locks of 8.
 struct Ends {
     rows: u32,
     words: u32,
-    locks: u32,
-    checks: u32,
+    macros: u32,
 }
 
 fn ends_of(g: Geometry) -> Ends
@@ -59,12 +57,10 @@ fn ends_of(g: Geometry) -> Ends
     let m = g.macros as u32;
     let rows = 13 + n * row_moves(g);
     let words = rows + n * ((p.row_bytes as u32) / 4 * 3);
-    let locks = words + m * lock_moves(g);
     Ends {
         rows: rows,
         words: words,
-        locks: locks,
-        checks: locks + m * ((p.rows_per_macro as u32) / 8 / 4 * 3),
+        macros: words + m * macro_moves(g),
     }
 }
 
@@ -84,16 +80,13 @@ fn program_move(g: Geometry, h: Header, bytes: &[u8], j: u32) -> Move
     if j < e.words {
         return verify_move(g, j - e.rows);
     }
-    if j < e.locks {
-        return locks_move(g, h, bytes, j - e.words);
+    if j < e.macros {
+        return macros_move(g, h, bytes, j - e.words);
     }
-    if j < e.checks {
-        return checks_move(g, j - e.locks);
+    if j < e.macros + 3 {
+        return read_move(8, p.level_word, Purpose::StoredLevel, j - e.macros);
     }
-    if j < e.checks + 3 {
-        return read_move(8, p.level_word, Purpose::StoredLevel, j - e.checks);
-    }
-    privileged_move(p.sysreq, 9, Purpose::LastSum, j - e.checks - 3)
+    privileged_move(p.sysreq, 9, Purpose::LastSum, j - e.macros - 3)
 }
 
 // Step 3 from OPEN, and what follows.

@@ -3,7 +3,7 @@ ghost use mathlib.Core.List.{[], _∷_, _++_};
 ghost use mathlib.Core.Path.{_≡_};
 ghost use Prim.Native.Nat.{_+_, _*_, _/_, _<_, _≤_};
 ghost use lib.ListN.{length, getD};
-ghost use Rattle.flow.specs.Sequence.{key, call, listed, inTurn, latchList, programRow, verifyRow, lockMacro, verifyMacro, endMove};
+ghost use Rattle.flow.specs.Sequence.{key, call, listed, inTurn, latchList, programRow, verifyRow, verifyMacro, macroDown, lockAndVerify, endMove};
 ghost use Rattle.image.specs.Image.{imageOf};
 ghost use Rattle.moves.specs.Handled.{Handled};
 ghost use Rattle.moves.specs.Stands.{Stands};
@@ -129,34 +129,52 @@ pub(crate) fn lock_moves(g: Geometry) -> u32
     24 + 2 * ((p.rows_per_macro as u32) / 8 / 4)
 }
 
-// Step 7.
-pub(crate) fn locks_move(g: Geometry, h: Header, bytes: &[u8], j: u32) -> Move
-    requires { ⌜ Handled g ⌝ ∗ ⌜ length (now bytes) ≡ imageSize g ⌝ ∗ ⌜ j < macrosOf g * (24 + 2 * (rowsPerMacro g / 8 / 4)) ⌝ }
-    ensures { λ t. ⌜ t ≡ getD (inTurn (lockMacro (imageOf g h (now (bytes .entry)))) 0 (macrosOf g)) j endMove ⌝ }
+// Step 8 of macro m.
+pub(crate) fn check_move(g: Geometry, m: u32, j: u32) -> Move
+    requires { ⌜ Handled g ⌝ ∗ ⌜ m < macrosOf g ⌝ ∗ ⌜ j < rowsPerMacro g / 8 / 4 * 3 ⌝ }
+    ensures { λ t. ⌜ t ≡ getD (verifyMacro g m) j endMove ⌝ }
 {
     let p = g.part;
-    let size = (p.rows_per_macro as u32) / 8;
-    let each = lock_moves(g);
-    let m = j / each;
-    let start = parts::flash_size(g) + ((m * size) as usize);
-    let end = start + (size as usize);
-    lock_move(&bytes[start..end], p.sysreq, m, h.level, j % each)
-}
-
-// Step 8 but for the level.
-pub(crate) fn checks_move(g: Geometry, j: u32) -> Move
-    requires { ⌜ Handled g ⌝ ∗ ⌜ j < macrosOf g * (rowsPerMacro g / 8 / 4 * 3) ⌝ }
-    ensures { λ t. ⌜ t ≡ getD (inTurn (verifyMacro g) 0 (macrosOf g)) j endMove ⌝ }
-{
-    let p = g.part;
-    let size = (p.rows_per_macro as u32) / 8;
-    let each = size / 4 * 3;
-    let m = j / each;
-    let at = 4 * (j % each / 3);
+    let at = 4 * (j / 3);
     read_move(
         8,
         p.locks + m * p.locks_step + at,
         Purpose::LockWord(m, at),
-        j % each % 3,
+        j % 3,
     )
+}
+
+// The moves of a macro in steps 7 and 8.
+pub(crate) fn macro_moves(g: Geometry) -> u32
+    ensures { λ n. ⌜ n ≡ 24 + 5 * (rowsPerMacro g / 8 / 4) ⌝ ∗ ⌜ n < 32800 ⌝ }
+{
+    let p = g.part;
+    24 + 5 * ((p.rows_per_macro as u32) / 8 / 4)
+}
+
+// Step 7 of macro m, then step 8 of it.
+pub(crate) fn macro_move(g: Geometry, h: Header, bytes: &[u8], m: u32, j: u32) -> Move
+    requires { ⌜ Handled g ⌝ ∗ ⌜ length (now bytes) ≡ imageSize g ⌝ ∗ ⌜ m < macrosOf g ⌝ ∗ ⌜ j < 24 + 5 * (rowsPerMacro g / 8 / 4) ⌝ }
+    ensures { λ t. ⌜ t ≡ getD (lockAndVerify (imageOf g h (now (bytes .entry))) m) j endMove ⌝ }
+{
+    let n = lock_moves(g);
+    if n <= j {
+        return check_move(g, m, j - n);
+    }
+    let p = g.part;
+    let size = (p.rows_per_macro as u32) / 8;
+    let start = parts::flash_size(g) + ((m * size) as usize);
+    let end = start + (size as usize);
+    lock_move(&bytes[start..end], p.sysreq, m, h.level, j)
+}
+
+// Steps 7 and 8 but for the level, from the highest macro down to 0.
+pub(crate) fn macros_move(g: Geometry, h: Header, bytes: &[u8], j: u32) -> Move
+    requires { ⌜ Handled g ⌝ ∗ ⌜ length (now bytes) ≡ imageSize g ⌝ ∗ ⌜ j < macrosOf g * (24 + 5 * (rowsPerMacro g / 8 / 4)) ⌝ }
+    ensures { λ t. ⌜ t ≡ getD (inTurn (λ k. lockAndVerify (imageOf g h (now (bytes .entry))) (macroDown g k)) 0 (macrosOf g)) j endMove ⌝ }
+{
+    let each = macro_moves(g);
+    let top = (g.macros as u32) - 1;
+    let k = j / each;
+    macro_move(g, h, bytes, top - k, j % each)
 }

@@ -1,9 +1,9 @@
 -- Each section from the one before. Assumes nothing.
-use mathlib.Core.Path.{refl, ap, _∙_}
+use mathlib.Core.Path.{ap, _∙_}
 use Prim.Native.Nat.{ℕ, _+_, _*_, _/_, _≤_}
 use native.Mathlib.Omega.{arith}
 use borrow.Author.Needs.{needs}
-use Rattle.moves.proofs.Sections.{rows-small, words-small, locks-small, checks-small}
+use Rattle.moves.proofs.Sections.{rows-small, words-small, macros-small}
 use Rattle.parts.specs.Sizes.{macrosOf, rowsOf}
 use Rattle.moves.proofs.ends_of.Statement.{statement}
 use Rattle.moves.proofs.ends_of.Tie as tie
@@ -14,8 +14,8 @@ rows c = rw (c .before .before .rows .ensures, c .row-moves .ensures .0) (rows-s
 words : (c : tie.After-row-moves) → c .before .before .rows .result * (c .before .before .before .before .args .g .part .«row_bytes» / 4 * 3) ≤ 50331648
 words c = rw (c .before .before .rows .ensures) (words-small (c .before .before .before .before .args .g) (c .before .before .before .before .pre))
 
-locks : (c : tie.After-lock-moves) → macrosOf (c .before .before .before .before .before .before .args .g) * c .lock-moves .result ≤ 4480
-locks c = rw (c .lock-moves .ensures .0) (locks-small (c .before .before .before .before .before .before .args .g) (c .before .before .before .before .before .before .pre))
+macros : (c : tie.After-macro-moves) → macrosOf (c .before .before .before .before .before .before .args .g) * c .macro-moves .result ≤ 10624
+macros c = rw (c .macro-moves .ensures .0) (macros-small (c .before .before .before .before .before .before .args .g) (c .before .before .before .before .before .before .pre))
 
 pub ends-of-spec : {M : Type 1} → statement M
 ends-of-spec =
@@ -31,19 +31,14 @@ ends-of-spec =
     (λ c. omega (arith, words (c .before)))
     (λ c. omega (arith, rows (c .before), words (c .before)))
     (λ c κs. search needs)
-    (λ c. omega (arith, locks c))
-    (λ c. omega (arith, rows (c .before .before), words (c .before .before), locks c))
-    (λ c. search needs)
-    (λ c. search needs)
-    (λ c. omega (arith, checks-small (c .before .before .before .before .before .before .before .args .g) (c .before .before .before .before .before .before .before .pre)))
-    (λ c. omega (arith, rows (c .before .before .before), words (c .before .before .before), locks (c .before), checks-small (c .before .before .before .before .before .before .before .args .g) (c .before .before .before .before .before .before .before .pre)))
+    (λ c. omega (arith, macros c))
+    (λ c. omega (arith, rows (c .before .before), words (c .before .before), macros c))
     (λ c.
-    let s = c .before .before .before .before .before .before .before in
-    let r = c .before .before .before .before .before .rows .ensures in
+    let s = c .before .before .before .before .before .before in
+    let r = c .before .before .before .before .rows .ensures in
     record {
-      rows = ap (λ (x : ℕ). 13 + x * c .before .before .before .row-moves .result) r ∙ ap (λ (x : ℕ). 13 + rowsOf (s .args .g) * x) (c .before .before .before .row-moves .ensures .0);
+      rows = ap (λ (x : ℕ). 13 + x * c .before .before .row-moves .result) r ∙ ap (λ (x : ℕ). 13 + rowsOf (s .args .g) * x) (c .before .before .row-moves .ensures .0);
       words = rw r;
-      locks = rw (c .before .lock-moves .ensures .0);
-      checks = refl;
-      small = omega (arith, rows (c .before .before .before), words (c .before .before .before), locks (c .before), checks-small (c .before .before .before .before .before .before .before .args .g) (c .before .before .before .before .before .before .before .pre));
+      macros = rw (c .macro-moves .ensures .0);
+      small = omega (arith, rows (c .before .before), words (c .before .before), macros c);
     }))

@@ -4,7 +4,7 @@ use native.Mathlib.Omega.{arith}
 use borrow.Author.Needs.{needs}
 use denote.Ref.{now}
 use Rattle.image.specs.Image.{imageOf}
-use Rattle.moves.proofs.Whole.{program-sum, program-rows, program-verify, program-locks, program-checks, program-level, program-last}
+use Rattle.moves.proofs.Whole.{program-sum, program-rows, program-verify, program-macros, program-level, program-last}
 use Rattle.moves.proofs.program_move.Statement.{statement}
 use Rattle.moves.proofs.program_move.Tie as tie
 
@@ -29,33 +29,26 @@ program-move-spec =
     let o = c .before .before .before .before .before .before .before .ends-of .ensures in
     let i = imageOf (s .args .g) (s .args .h) (now (s .args .bytes)) in
     c .verify-move .ensures ∙ sym (program-verify i (s .args .j) (e .rows) (e .words) (o .rows) (o .words) (c .before .before .before .before .if2 .left) (c .before .before .if3 .taken)))
-    (λ c κs. let s = c .before .before .before .before .before .before .before .before .before .before .before in (s .pre .0, (s .pre .1, omega (arith, (c .before .before .before .before .before .before .before .before .ends-of .ensures) .locks))))
+    (λ c κs. let s = c .before .before .before .before .before .before .before .before .before .before .before in (s .pre .0, (s .pre .1, omega (arith, (c .before .before .before .before .before .before .before .before .ends-of .ensures) .macros))))
     (λ c.
     let s = c .before .before .before .before .before .before .before .before .before .before .before .before in
     let e = c .before .before .before .before .before .before .before .before .before .ends-of .result in
     let o = c .before .before .before .before .before .before .before .before .before .ends-of .ensures in
     let i = imageOf (s .args .g) (s .args .h) (now (s .args .bytes)) in
-    c .locks-move .ensures ∙ sym (program-locks i (s .args .j) (e .rows) (e .words) (o .rows) (o .words) (e .locks) (e .checks) (o .locks) (o .checks) (c .before .before .before .before .if3 .left) (c .before .before .if4 .taken)))
-    (λ c κs. let s = c .before .before .before .before .before .before .before .before .before .before .before .before .before in (s .pre .0, omega (arith, (c .before .before .before .before .before .before .before .before .before .before .ends-of .ensures) .checks)))
+    c .macros-move .ensures ∙ sym (program-macros i (s .args .j) (e .rows) (e .words) (o .rows) (o .words) (e .macros) (o .macros) (c .before .before .before .before .if3 .left) (c .before .before .if4 .taken)))
+    (λ c. omega (arith, (c .before .before .before .before .before .before .before .before .ends-of .ensures) .small))
+    (λ c κs. search needs)
     (λ c.
     let s = c .before .before .before .before .before .before .before .before .before .before .before .before .before .before in
     let e = c .before .before .before .before .before .before .before .before .before .before .before .ends-of .result in
     let o = c .before .before .before .before .before .before .before .before .before .before .before .ends-of .ensures in
     let i = imageOf (s .args .g) (s .args .h) (now (s .args .bytes)) in
-    c .checks-move .ensures ∙ sym (program-checks i (s .args .j) (e .rows) (e .words) (o .rows) (o .words) (e .locks) (e .checks) (o .locks) (o .checks) (c .before .before .before .before .if4 .left) (c .before .before .if5 .taken)))
-    (λ c. omega (arith, (c .before .before .before .before .before .before .before .before .before .before .ends-of .ensures) .small))
-    (λ c κs. search needs)
-    (λ c.
-    let s = c .before .before .before .before .before .before .before .before .before .before .before .before .before .before .before .before in
-    let e = c .before .before .before .before .before .before .before .before .before .before .before .before .before .ends-of .result in
-    let o = c .before .before .before .before .before .before .before .before .before .before .before .before .before .ends-of .ensures in
-    let i = imageOf (s .args .g) (s .args .h) (now (s .args .bytes)) in
-    c .read-move .ensures ∙ sym (program-level i (s .args .j) (e .rows) (e .words) (o .rows) (o .words) (e .locks) (e .checks) (o .locks) (o .checks) (c .before .before .before .before .if5 .left) (c .before .before .if6 .taken)))
+    c .read-move .ensures ∙ sym (program-level i (s .args .j) (e .rows) (e .words) (o .rows) (o .words) (e .macros) (o .macros) (c .before .before .before .before .if4 .left) (c .before .before .if5 .taken)))
     (λ c. search needs)
-    (λ c κs. (c .before .before .before .before .before .before .before .before .before .before .before .before .before .before .before .pre .0) .sysreq)
+    (λ c κs. (c .before .before .before .before .before .before .before .before .before .before .before .before .before .pre .0) .sysreq)
     (λ c.
-    let s = c .before .before .before .before .before .before .before .before .before .before .before .before .before .before .before .before in
-    let e = c .before .before .before .before .before .before .before .before .before .before .before .before .before .ends-of .result in
-    let o = c .before .before .before .before .before .before .before .before .before .before .before .before .before .ends-of .ensures in
+    let s = c .before .before .before .before .before .before .before .before .before .before .before .before .before .before in
+    let e = c .before .before .before .before .before .before .before .before .before .before .before .ends-of .result in
+    let o = c .before .before .before .before .before .before .before .before .before .before .before .ends-of .ensures in
     let i = imageOf (s .args .g) (s .args .h) (now (s .args .bytes)) in
-    c .privileged-move2 .ensures (s .args .g) refl ∙ sym (program-last i (s .args .j) (e .rows) (e .words) (o .rows) (o .words) (e .locks) (e .checks) (o .locks) (o .checks) (c .before .before .if6 .left))))
+    c .privileged-move2 .ensures (s .args .g) refl ∙ sym (program-last i (s .args .j) (e .rows) (e .words) (o .rows) (o .words) (e .macros) (o .macros) (c .before .before .if5 .left))))

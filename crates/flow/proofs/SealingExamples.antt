@@ -1,0 +1,45 @@
+-- The examples of step 7's call for macro 0 hold. Assumes nothing.
+use mathlib.Core.Bool.{Bool, true, false}
+use mathlib.Core.List.{List}
+use mathlib.Core.Path.{_≡_, refl, ap, _∙_}
+use Prim.Native.Nat.{ℕ}
+use native.Mathlib.Omega.{arith}
+use lib.ListN.{getD}
+use Rattle.flow.proofs.Hearing.{plain, aTar, aRead, meets}
+use Rattle.flow.specs.BoardExamples.{none, onLine}
+use Rattle.flow.specs.Calls.{effectOf, sysargAfter, sysreqAfter, afterFailure, finish, reset}
+use Rattle.flow.specs.Examples.{partOne}
+use Rattle.flow.specs.Exchange.{Met, decode, carry, barred, transferred, meet}
+use Rattle.flow.specs.Judge.{succeeded}
+use Rattle.flow.specs.Map.{search, regions, lockRegions}
+use Rattle.flow.specs.Sealing.{seals}
+use Rattle.flow.specs.SealingExamples.{locking, sealedBy, SealingExamples}
+use Rattle.flow.specs.Target.{Target, Lists, nextEvent}
+use Rattle.flow.specs.declared.Request.the-variants.{ReadDrw, WriteTar}
+use Rattle.flow.specs.declared.TransferOutcome.the-variants.{Silent}
+use Rattle.parts.specs.Sizes.{rowsOf, locksIn, flashSize}
+
+byRead : (l : Lists) (b : Target) (y : Bool) → seals b ((transferred partOne ReadDrw (nextEvent (l .line)) l b) .target) ≡ y → sealedBy ReadDrw l b ≡ y
+byRead l b y e = ap (λ (m : Met). seals b (m .target)) (meets partOne (plain aRead) l b) ∙ e
+
+byTar : (a : ℕ) (l : Lists) (b : Target) (y : Bool) → seals b ((transferred partOne (WriteTar a) (nextEvent (l .line)) l b) .target) ≡ y → sealedBy (WriteTar a) l b ≡ y
+byTar a l b y e = ap (λ (m : Met). seals b (m .target)) (meets partOne (plain aTar) l b) ∙ e
+
+pub sealing-examples : SealingExamples
+unfolding transferred carry barred search regions lockRegions rowsOf locksIn flashSize finish effectOf sysargAfter sysreqAfter afterFailure reset meet decode succeeded
+sealing-examples = record {
+  succeeds = byRead none (locking 1 0x2E0B6 0 true) true refl;
+  unheard = byRead (onLine (Silent true)) (locking 1 0x2E0B6 0 true) true refl;
+  notCarried = byRead (onLine (Silent false)) (locking 1 0x2E0B6 0 true) false refl;
+  busyStill = byRead none (locking 1 0x2E0B6 1 true) false refl;
+  fails = byRead none (locking 1 0x2E0B6 0 false) false refl;
+  dropped = refl;
+  otherMacro = byRead none (locking 1 0x102E0B6 0 true) false refl;
+  reopens = byRead none (locking 2 0x1E0B6 0 true) false refl;
+  sendsOpen = byRead none (locking 1 0x1E0B6 0 true) true refl;
+  tar = byTar 0 none (locking 1 0x2E0B6 0 true) false refl;
+  holds = record { flash = refl; locks = refl; level = refl };
+  otherFlash = λ h. omega (arith, ap (λ (l : List ℕ). getD l 3 0) (h .flash));
+  otherLocks = λ h. omega (arith, ap (λ (l : List ℕ). getD l 3 0) (h .locks));
+  otherLevel = λ h. omega (arith, h .level);
+}

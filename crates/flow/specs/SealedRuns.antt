@@ -1,0 +1,41 @@
+-- One over a run of the session and the target, whatever the free lists hold. `SealedCallsHold` of crate sealing is the claim over calls;
+-- this one is what its proof rests on. Assumes nothing.
+use mathlib.Core.Bool.{true}
+use mathlib.Core.List.{List}
+use mathlib.Core.Path.{_≡_}
+use Prim.Native.Nat.{ℕ, suc, _+_, _≤_}
+use Rattle.flow.specs.Run.{Run, runAfter, started}
+use Rattle.flow.specs.Sealing.{seals, HoldsThroughCut}
+use Rattle.flow.specs.Session.{reported}
+use Rattle.flow.specs.Target.{Target, Lists}
+use Rattle.flow.specs.Terms.{Passes, Startable}
+use Rattle.image.specs.Image.{Image, imageOf}
+use Rattle.image.specs.declared.Header.{Header}
+use Rattle.parts.specs.declared.Geometry.{Geometry}
+
+-- 'whatever the line did before or does after': n steps, the one in which the call succeeds, then k
+abbrev pub SealedHolds : Type 0
+SealedHolds =
+    (g : Geometry) (h : Header) (bytes : List ℕ) → Passes g h bytes → (b : Target) → Startable g b → (l : Lists) (n k : ℕ)
+    → seals ((runAfter (imageOf g h bytes) n (started b l)) .target) ((runAfter (imageOf g h bytes) (suc n) (started b l)) .target) ≡ true
+    → HoldsThroughCut (imageOf g h bytes) ((runAfter (imageOf g h bytes) (suc n + k) (started b l)) .target)
+
+-- the step of a run in which the board is sealed, one of the first n
+pub record SealedWithin (i : Image) (r : Run) (n : ℕ) : Type 0 where
+  pub before : ℕ
+  pub within : suc before ≤ n
+  pub seals : seals ((runAfter i before r) .target) ((runAfter i (suc before) r) .target) ≡ true
+
+-- it comes to that in every session that says done
+abbrev pub DoneSealed : Type 0
+DoneSealed =
+    (g : Geometry) (h : Header) (bytes : List ℕ) → Passes g h bytes → (b : Target) → Startable g b → (l : Lists) (n step sent : ℕ)
+    → (runAfter (imageOf g h bytes) n (started b l)) .session ≡ reported 0 step sent → SealedWithin (imageOf g h bytes) (started b l) n
+
+-- the same step unheard: carried out and answered by silence, so that the session reports 29
+pub record SealedUnheard (i : Image) (b : Target) (n : ℕ) : Type 0 where
+  pub lists : Lists
+  pub seals : seals ((runAfter i n (started b lists)) .target) ((runAfter i (suc n) (started b lists)) .target) ≡ true
+  pub step : ℕ
+  pub sent : ℕ
+  pub reports : (runAfter i (suc n) (started b lists)) .session ≡ reported 29 step sent
