@@ -79,7 +79,7 @@ module _ {g : Geometry} (x : Start g) (b : Target) (may : Startable g b) (right 
 -- ---- from a PROTECTED board on which done can be reached
 
 -- with leave no image that passes is refused
-granted : (h : Header) (bytes : List ℕ) → imageFault h bytes ≡ 0 → (n : ℕ) → ¬ ((startOf h bytes true) .outcome ≡ Refused n)
+pub granted : (h : Header) (bytes : List ℕ) → imageFault h bytes ≡ 0 → (n : ℕ) → ¬ ((startOf h bytes true) .outcome ≡ Refused n)
 unfolding startOf
 granted h bytes good n e = by (eqb (h .level) 4) refl
   where
