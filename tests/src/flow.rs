@@ -188,23 +188,32 @@ impl<T: FnMut(Request) -> Answer> Flow<'_, T> {
         Ok(())
     }
 
-    /// Step 7.
-    fn protect(&mut self, protection: &[u8]) -> Result<(), u8> {
+    /// Step 7 for one macro.
+    fn protect(&mut self, number: usize, bytes: &[u8]) -> Result<(), u8> {
         self.step = 7;
-        for (number, bytes) in protection.chunks_exact(self.sizes.lock_bytes()).enumerate() {
-            self.listed(LOAD_LATCH, &latch_list(number, bytes))?;
-            let argument = (u32::from(self.header.level) << 16) + ((number as u32) << 24);
-            self.call(WRITE_PROTECTION, key(WRITE_PROTECTION) + argument)?;
-        }
-        Ok(())
+        self.listed(LOAD_LATCH, &latch_list(number, bytes))?;
+        let argument = (u32::from(self.header.level) << 16) + ((number as u32) << 24);
+        self.call(WRITE_PROTECTION, key(WRITE_PROTECTION) + argument)
     }
 
-    /// Step 8.
-    fn verify_protection(&mut self, protection: &[u8]) -> Result<(), u8> {
+    /// Step 8 for one macro.
+    fn verify_locks(&mut self, number: usize, bytes: &[u8]) -> Result<(), u8> {
         self.step = 8;
-        for (number, bytes) in protection.chunks_exact(self.sizes.lock_bytes()).enumerate() {
-            self.compare(LOCKS + number as u32 * LOCKS_STEP, bytes, 23)?;
+        self.compare(LOCKS + number as u32 * LOCKS_STEP, bytes, 23)
+    }
+
+    /// Document 02, One: "Step 7 now goes from the highest macro down to 0, and step 8 for each higher
+    /// macro is done straight after its lock call."
+    fn lock(&mut self, protection: &[u8]) -> Result<(), u8> {
+        for (number, bytes) in protection.chunks_exact(self.sizes.lock_bytes()).enumerate().rev() {
+            self.protect(number, bytes)?;
+            self.verify_locks(number, bytes)?;
         }
+        self.verify_level()
+    }
+
+    /// Step 8's level.
+    fn verify_level(&mut self) -> Result<(), u8> {
         let stored = (self.read(self.sizes.part.level_word)? >> 24) as u8 & 0xF;
         if exchanged(stored) != self.header.level {
             return Err(24);
@@ -226,9 +235,7 @@ impl<T: FnMut(Request) -> Answer> Flow<'_, T> {
         self.step = 6;
         self.compare(0, flash, 22)?;
 
-        self.protect(protection)?;
-
-        self.verify_protection(protection)?;
+        self.lock(protection)?;
 
         self.step = 9;
         let sum = self.checksum()?;

@@ -123,12 +123,17 @@ fn second_macro_in_numbers() {
     assert_eq!(holds(&[0x2000_0100, 0x0200_D9B6]), 1);
     assert_eq!(holds(&[0x2000_0100, 0x03FF_D9B6]), 1);
     assert_eq!(holds(&[0x2000_0100, 0x0400_D9B6]), 0);
-    // Macro 1's locks: latch, 0x0D with level and macro, then its own address.
-    assert_eq!(holds(&[0x2000_0100, 0x0100_D7B6, 0x2000_0104, 63, 0x2000_0108, 0x43]), 1);
-    assert_eq!(holds(&[0x4010_0008, 0x0001_E0B6]), 2);
-    assert_eq!(holds(&[0x4010_0008, 0x0101_E0B6]), 1);
-    assert_eq!(holds(&[0x0FFF_F03C, 0x0FFF_F400, 0x0FFF_F404]), 1);
-    assert_eq!(holds(&[0x0FFF_F43C, 0x0FFF_F07C, 0x4010_0008, 0x8000_DEB6]), 1);
+    // After step 6 macro 1's locks: latch, 0x0D with level and macro, then its own address.
+    assert_eq!(holds(&[0x0001_FFFC, 0x2000_0100, 0x0100_D7B6, 0x2000_0104, 63, 0x2000_0108, 0x43]), 1);
+    let rest = [0x4010_0004, 0x8000_000D, 0x4010_0004, 0x4010_0008];
+    let call = |argument, next: [u32; 2]| [&[0x4010_0008, argument], &rest[..], &next].concat();
+    assert_eq!(holds(&call(0x0101_E0B6, [0x0FFF_F400, 0x0FFF_F404])), 1);
+    // Then macro 0's in the same way, the level once, step 9.
+    assert_eq!(holds(&[0x0FFF_F43C, 0x2000_0100, 0x0000_D7B6, 0x2000_0104, 63, 0x2000_0108, 0]), 1);
+    assert_eq!(holds(&call(0x0001_E0B6, [0x0FFF_F000, 0x0FFF_F004])), 1);
+    assert_eq!(holds(&[0x0FFF_F03C, 0x0FFF_F07C, 0x4010_0008, 0x8000_DEB6]), 1);
+    assert_eq!((holds(&[0x4010_0008, 0x0001_E0B6]), holds(&[0x4010_0008, 0x0101_E0B6])), (2, 1));
+    assert_eq!(holds(&[0x0FFF_F07C]), 1);
     // No erasing after reopening.
     assert_eq!(holds(&[0x8000_000A]), 0);
 }

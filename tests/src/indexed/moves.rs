@@ -129,17 +129,21 @@ impl List<'_> {
         }
         self.step = 6;
         self.compare(0, flash, 22);
-        self.step = 7;
-        let level = u32::from(self.header.level) << 16;
-        for (number, bytes) in protection.chunks_exact(locks).enumerate() {
-            self.listed(LOAD_LATCH, &latch_list(number, bytes));
-            self.call(WRITE_PROTECTION, key(WRITE_PROTECTION) + level + ((number as u32) << 24));
-        }
-        self.step = 8;
-        for (number, bytes) in protection.chunks_exact(locks).enumerate() {
-            self.compare(LOCKS + number as u32 * LOCKS_STEP, bytes, 23);
+        // "from the highest macro down to 0, and step 8 ... straight after its lock call"
+        for (number, bytes) in protection.chunks_exact(locks).enumerate().rev() {
+            self.lock(number, bytes);
         }
         self.read(part.level_word, Purpose::StoredLevel);
+    }
+
+    /// Steps 7 and 8 for one macro.
+    fn lock(&mut self, number: usize, bytes: &[u8]) {
+        let (level, number_sent) = (u32::from(self.header.level) << 16, (number as u32) << 24);
+        self.step = 7;
+        self.listed(LOAD_LATCH, &latch_list(number, bytes));
+        self.call(WRITE_PROTECTION, key(WRITE_PROTECTION) + level + number_sent);
+        self.step = 8;
+        self.compare(LOCKS + number as u32 * LOCKS_STEP, bytes, 23);
     }
 }
 

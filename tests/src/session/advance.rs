@@ -95,10 +95,8 @@ impl Session {
             Call::ProgramRow(row) if usize::from(row) + 1 < sizes.rows() => begin(Call::LoadRow(row + 1)),
             Call::ProgramRow(_) => Place::VerifyFlash(0),
             Call::LoadLocks(number) => begin(Call::Protect(number)),
-            Call::Protect(number) if usize::from(number) + 1 < sizes.macros => {
-                begin(Call::LoadLocks(number + 1))
-            }
-            Call::Protect(_) => Place::VerifyLocks(0, 0),
+            // "step 8 for each higher macro is done straight after its lock call"
+            Call::Protect(number) => Place::VerifyLocks(number, 0),
             Call::LastSum => Place::ReadLastSum,
         }
     }
@@ -111,10 +109,12 @@ fn next_word(sizes: &Sizes, image: &[u8], index: u32, given: u32) -> Result<Plac
         return Err(22);
     }
     let last = at + 4 == sizes.flash();
-    Ok(if last { begin(Call::LoadLocks(0)) } else { Place::VerifyFlash(index + 1) })
+    // "Step 7 now goes from the highest macro down to 0"
+    let highest = sizes.macros as u8 - 1;
+    Ok(if last { begin(Call::LoadLocks(highest)) } else { Place::VerifyFlash(index + 1) })
 }
 
-/// Step 8's locks: the next word to compare, the next macro, or the level.
+/// Step 8's locks: the next word to compare, step 7 for the macro below, or the level after macro 0.
 fn next_lock(sizes: &Sizes, image: &[u8], number: u8, index: u8, given: u32) -> Result<Place, u8> {
     let offset = 4 * usize::from(index);
     let at = sizes.flash() + usize::from(number) * sizes.lock_bytes() + offset;
@@ -123,8 +123,8 @@ fn next_lock(sizes: &Sizes, image: &[u8], number: u8, index: u8, given: u32) -> 
     }
     Ok(if offset + 4 < sizes.lock_bytes() {
         Place::VerifyLocks(number, index + 1)
-    } else if usize::from(number) + 1 < sizes.macros {
-        Place::VerifyLocks(number + 1, 0)
+    } else if number > 0 {
+        begin(Call::LoadLocks(number - 1))
     } else {
         Place::VerifyLevel
     })
