@@ -41,7 +41,33 @@ fn session_cases_are_as_made() {
     assert!(cases_session::stdin(&cases).as_bytes() == program("cases_session/stdin"));
     let lines: String = cases.iter().map(|case| cases_session::outcome(case) + "\n").collect();
     assert!(lines.as_bytes() == program("cases_session/stdout"));
+    let names: String = cases.iter().map(|case| case.name.clone() + "\n").collect();
+    assert!(names.as_bytes() == program("cases_session/names"));
     assert!(cases.iter().all(|case| case.overrides.len() <= 2 && case.length <= 131_200));
+}
+
+/// Document 02, One: number, step and transfers of reports in steps 7 and 8 of two macros, macro 1 first.
+#[test]
+fn macro_0_goes_last() {
+    let reports = [
+        ("locks' status, macro 1", "19 7", 190_573),
+        ("locks 1 at 0", "23 8", 190_576),
+        ("silence where macro 0's call ends, carried out", "29 7", 190_673),
+        ("locks' status, macro 0", "19 7", 190_677),
+        ("locks 0 at 60", "23 8", 190_725),
+        ("level", "24 8", 190_728),
+    ];
+    let [names, lines] = ["names", "stdout"].map(|file| program(&format!("cases_session/{file}")));
+    let [names, lines] = [names, lines].map(|text| String::from_utf8(text).unwrap());
+    // "from PROTECTED 26 + 10 × IMO more", and part 3 has no IMO.
+    for (entry, more) in [("OPEN", 0), ("PROTECTED", 26)] {
+        for (name, number_and_step, transfers) in reports {
+            let name = format!("part 3, M 2, {entry}: {name}");
+            let found: Vec<_> = names.lines().zip(lines.lines()).filter(|(n, _)| *n == name).collect();
+            let report = format!("report {number_and_step} {} ", transfers + more);
+            assert!(found.len() == 1 && found[0].1.starts_with(&report), "{report}: {found:?}");
+        }
+    }
 }
 
 #[test]

@@ -21,6 +21,7 @@ pub fn cases() -> Vec<Case> {
     maker.limits();
     maker.line(1, 1, OPEN);
     maker.line(2, 1, PROTECTED);
+    maker.locking();
     maker.cases
 }
 

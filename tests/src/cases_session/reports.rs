@@ -71,6 +71,12 @@ impl Reads {
         let tests = reads_of(&case, TEST_MODE);
         Reads { case, sizes, imo, args, requests, tests }
     }
+
+    /// Where step 8 reads the level, and the image's as it is stored.
+    fn level(&self) -> (u32, u32) {
+        let stored = u32::from(flow::exchanged(self.case.header.level)) << 24;
+        (reads_of(&self.case, self.sizes.part.level_word)[0], stored)
+    }
 }
 
 impl Maker {
@@ -145,6 +151,17 @@ impl Maker {
         let reads = Reads::of(self.base(part, macros, OPEN));
         self.statuses(&reads);
         self.comparisons(&reads);
+        if macros == 2 {
+            self.unheard(&reads);
+        }
+    }
+
+    /// Steps 7 and 8 of two macros from PROTECTED.
+    pub(super) fn locking(&mut self) {
+        let reads = Reads::of(self.base(3, 2, PROTECTED));
+        self.lock_statuses(&reads);
+        self.lock_comparisons(&reads);
+        self.unheard(&reads);
     }
 
     fn statuses(&mut self, reads: &Reads) {
@@ -156,8 +173,25 @@ impl Maker {
         add("latch status, row 0", 5, sum + 2, 0);
         add("row status, row 0", 5, sum + 3, 0x2000_0000);
         add("latch status, locks", 7, sum + 2 + 2 * sizes.rows(), 0);
-        add("locks' status, last macro", 7, last - 2, 0xF000_0009);
-        add("last sum's status", 9, last - 1, 0xF000_0009);
+        self.lock_statuses(reads);
+        self.add("last sum's status", (19, 9), case, &[word(args[last - 1], 0xF000_0009)]);
+    }
+
+    /// Step 7's 0x0D for each macro. The last Reads of SYSARG: latch and 0x0D for macro 1, for macro 0, step 9's two.
+    fn lock_statuses(&mut self, reads: &Reads) {
+        let Reads { case, sizes, args, .. } = reads;
+        for number in (0..sizes.macros).rev() {
+            let status = word(args[args.len() - 3 - 2 * number], 0xF000_0009);
+            self.add(&format!("locks' status, macro {number}"), (19, 7), case, &[status]);
+        }
+    }
+
+    /// Macro 0's 0x0D succeeds on the board, and the session hears nothing.
+    fn unheard(&mut self, reads: &Reads) {
+        let Reads { case, requests, .. } = reads;
+        // The last poll but one is that call's, and its stale read ends it.
+        let ends = requests[requests.len() - 2] - 1;
+        self.add("silence where macro 0's call ends, carried out", (29, 7), case, &[wrong(ends, 7)]);
     }
 
     fn comparisons(&mut self, reads: &Reads) {
@@ -169,21 +203,30 @@ impl Maker {
             let turned = in_image(at) ^ 1 << (at % 31);
             add(&format!("flash at {at}"), (22, 6), word(reads_of(case, at as u32)[0], turned));
         }
-        for (number, at) in [(0, 0), (sizes.macros - 1, sizes.lock_bytes() - 4)] {
-            let place = reads_of(case, LOCKS + number as u32 * 0x400 + at as u32)[0];
-            let turned = in_image(sizes.flash() + number * sizes.lock_bytes() + at) ^ 0x8000_0000;
-            add(&format!("locks {number} at {at}"), (23, 8), word(place, turned));
-        }
-        let level = reads_of(case, sizes.part.level_word)[0];
-        let stored = u32::from(flow::exchanged(case.header.level)) << 24;
-        add("level", (24, 8), word(level, stored ^ 0x0100_0000));
+        self.lock_comparisons(reads);
+        let mut add = |name: &str, expected, answer| self.add(name, expected, case, &[answer]);
         let (privileged, first, last) = (0xA000_0000 | case.privileged, args[imo + 4], args[args.len() - 1]);
         add("first sum", (25, 9), word(first, privileged ^ 0x8000));
         add("last sum", (25, 9), word(last, privileged));
         if sizes.part.number == 1 {
             add("first sum's top half is free", (0, 9), word(first, privileged ^ 0x5FFF_0000));
+            let (level, stored) = reads.level();
             add("level's other bits are free", (0, 9), word(level, stored | 0xF0FF_FFFF));
         }
+    }
+
+    /// Step 8: the first word of the locks and the last, in the order in which they are read, then the level.
+    fn lock_comparisons(&mut self, reads: &Reads) {
+        let Reads { case, sizes, .. } = reads;
+        let image = image_bytes(case.seed, case.length);
+        for (number, at) in [(sizes.macros - 1, 0), (0, sizes.lock_bytes() - 4)] {
+            let place = reads_of(case, LOCKS + number as u32 * 0x400 + at as u32)[0];
+            let locks = &image[sizes.flash() + number * sizes.lock_bytes() + at..];
+            let turned = word(place, crate::image::word(locks) ^ 0x8000_0000);
+            self.add(&format!("locks {number} at {at}"), (23, 8), case, &[turned]);
+        }
+        let (level, stored) = reads.level();
+        self.add("level", (24, 8), case, &[word(level, stored ^ 0x0100_0000)]);
     }
 
     /// Both sides of each limit.
