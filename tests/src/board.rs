@@ -3,10 +3,12 @@
 mod calls;
 mod cut;
 mod ids;
+mod kind;
 mod lists;
 mod port;
 
 pub use ids::Ids;
+pub use kind::Kind;
 pub use lists::{CallOutcome, FreeLists, Line, LineEvent, Lists, Running};
 
 use crate::flow::{exchanged, BIT_31, LOW_28};
@@ -88,6 +90,12 @@ impl Board {
         board.privileged = rng.word() & LOW_28;
         board.level_rest = rng.word();
         board
+    }
+
+    /// Whether flash, locks and stored level are the image's.
+    pub fn holds(&self, header: &Header, image: &[u8]) -> bool {
+        let (flash, locks) = image.split_at(self.sizes.flash());
+        self.flash == flash && self.locks == locks && self.stored == header.level
     }
 
     pub fn place(&self, address: u32) -> Place {

@@ -60,8 +60,7 @@ impl Claims {
         match (report.number, monitor.mishap) {
             (0, _) => {
                 // "the board's every flash byte, row lock and chip level are the image's"
-                let (flash, locks) = image.split_at(self.sizes.flash());
-                assert!(board.flash == flash && board.locks == locks && board.stored == header.level);
+                assert!(board.holds(header, image));
                 assert_eq!(report.step, 9);
                 // "a done report counts exactly plan when nothing waits or is busy"
                 assert_eq!(monitor.transfers, plan(&self.sizes, self.entry) + monitor.delays());

@@ -6,7 +6,7 @@ mod tally;
 
 pub use tally::{Cuts, KINDS};
 
-use crate::board::{Board, CallOutcome};
+use crate::board::{Board, CallOutcome, Kind};
 use crate::claims::{entry_of, Claims};
 use crate::counts::plan;
 use crate::cross::Core;
@@ -18,7 +18,7 @@ use crate::rng::Rng;
 use crate::session::Outcome;
 use crate::texts::sample_image;
 use crate::wire::{Answer, Request};
-use place::{disturbed, slow, Kind, Place};
+use place::{disturbed, slow, Place};
 
 /// A plain board that meets requests and can be cut: ours, or ours with the bench board beside it.
 pub trait Powered {
@@ -158,9 +158,7 @@ impl<C: Core, T: Powered> Chain<'_, C, T> {
         if self.closed.is_some() {
             return self.stays_closed();
         }
-        let (flash, locks) = self.image.split_at(sizes.flash());
-        let board = self.target.board();
-        assert!(board.flash == flash && board.locks == locks && board.stored == self.header.level);
+        assert!(self.target.board().holds(&self.header, &self.image));
     }
 
     fn play(&mut self) {

@@ -1,35 +1,13 @@
 //! Where the power goes in a session, and what the lists hold until then.
 
-use crate::board::{Board, Line, Place as At};
+use crate::board::{Board, Kind, Line, Place as At};
 use crate::claims::entry_of;
 use crate::counts::{acquisitions, loops, plan, Entry};
-use crate::flow::{CHECKSUM, ERASE_ALL, LOAD_LATCH, PROGRAM_ROW, SET_IMO, SILICON_ID, WRITE_PROTECTION};
-use crate::parts::{Sizes, KILL, OPEN, PROTECTED};
+use crate::flow::{CHECKSUM, ERASE_ALL, LOAD_LATCH, PROGRAM_ROW, SET_IMO, SILICON_ID};
+use crate::parts::{Sizes, KILL};
 use crate::play::RandomLists;
 use crate::rng::Rng;
 use crate::wire::{Register, Request};
-
-/// What a running call is: what a cut may leave depends on it.
-#[derive(Clone, Copy, PartialEq, Eq, Debug)]
-pub enum Kind {
-    /// Any but 0x0D.
-    Call(u32),
-    /// 0x0D on this macro.
-    Locks(usize),
-    /// Step 3's 0x0D, "with PROTECTED in effect and OPEN sent".
-    Reopening,
-}
-
-impl Kind {
-    pub fn of(board: &Board) -> Option<Kind> {
-        let (level, number) = board.sent();
-        Some(match board.running?.command {
-            WRITE_PROTECTION if board.in_effect == PROTECTED && level == OPEN => Kind::Reopening,
-            WRITE_PROTECTION => Kind::Locks(number),
-            command => Kind::Call(command),
-        })
-    }
-}
 
 #[derive(Clone, Copy, Debug)]
 enum Aim {

@@ -1,7 +1,7 @@
 //! What the cuts fell into: every kind must be reached.
 
-use super::{Before, Kind};
-use crate::board::CallOutcome;
+use super::Before;
+use crate::board::{CallOutcome, Kind};
 use crate::cross::{add, Counts};
 use crate::flow::{CHECKSUM, ERASE_ALL, LOAD_LATCH, PROGRAM_ROW, SET_IMO, SILICON_ID};
 use crate::image::Header;
