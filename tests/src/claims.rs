@@ -1,4 +1,4 @@
-//! Demand 3's claims, asserted of one list of steps on a plain board.
+//! Demand 3's claims, asserted of one list of steps on a plain board, and document 02, One: what a sealed board holds.
 
 use crate::board::Board;
 use crate::counts::{acquisitions, bound, plan, Entry};
@@ -6,6 +6,7 @@ use crate::flow::Report;
 use crate::image::Header;
 use crate::monitor::Monitor;
 use crate::parts::{Sizes, PROTECTED, VIRGIN};
+use crate::seal::Seal;
 use crate::wire::{Answer, Request};
 
 /// How step 3 will find a board.
@@ -17,19 +18,24 @@ pub fn entry_of(board: &Board) -> Entry {
     }
 }
 
-pub struct Claims {
+#[derive(Clone)]
+pub struct Claims<'a> {
     pub monitor: Monitor,
+    pub seal: Seal,
+    header: &'a Header,
+    image: &'a [u8],
     sizes: Sizes,
     entry: Entry,
     right: bool,
 }
 
-impl Claims {
+impl<'a> Claims<'a> {
     /// Of a board as it is before the first request.
-    pub fn new(header: &Header, board: &Board) -> Claims {
+    pub fn new(header: &'a Header, image: &'a [u8], board: &Board) -> Claims<'a> {
         let sizes = header.sizes().expect("a part of the table");
-        let right = board.ids.right_for(header);
-        Claims { monitor: Monitor::new(&sizes), sizes, entry: entry_of(board), right }
+        let (monitor, seal) = (Monitor::new(&sizes), Seal::of(board));
+        let (entry, right) = (entry_of(board), board.ids.right_for(header));
+        Claims { monitor, seal, header, image, sizes, entry, right }
     }
 
     /// "A report comes within document 01's count of transfers and resets", and "no list of demand 3
@@ -45,10 +51,25 @@ impl Claims {
     pub fn answered(&mut self, request: Request, answer: Answer, board: &Board) {
         self.monitor.observe(request, answer);
         assert_ne!(board.stored, VIRGIN);
+        self.seal.met(board);
+        // The whole memory at each packet: no more than 70 follow the sealing one, but for WAITs and busy polls.
+        self.holds_if_sealed(board);
     }
 
-    pub fn reported(&self, report: Report, header: &Header, image: &[u8], board: &Board) {
+    /// The power went, before the report or after it.
+    pub fn cut(&mut self, board: &Board) {
+        self.seal.cut();
+        self.holds_if_sealed(board);
+    }
+
+    /// "has the image's flash, level and all its locks ... even where the session reports a failure"
+    fn holds_if_sealed(&self, board: &Board) {
+        assert!(!self.seal.sealed || board.holds(self.header, self.image), "sealed without the image");
+    }
+
+    pub fn reported(&self, report: Report, board: &Board) {
         let monitor = &self.monitor;
+        self.holds_if_sealed(board);
         assert_ne!(board.stored, VIRGIN);
         assert_eq!(board.malformed, 0);
         // "The report's transfers are those handed out in the list."
@@ -60,7 +81,7 @@ impl Claims {
         match (report.number, monitor.mishap) {
             (0, _) => {
                 // "the board's every flash byte, row lock and chip level are the image's"
-                assert!(board.holds(header, image));
+                assert!(self.seal.sealed && board.holds(self.header, self.image));
                 assert_eq!(report.step, 9);
                 // "a done report counts exactly plan when nothing waits or is busy"
                 assert_eq!(monitor.transfers, plan(&self.sizes, self.entry) + monitor.delays());

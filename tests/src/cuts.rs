@@ -28,6 +28,10 @@ pub trait Powered {
     fn cut(&mut self, residue: CallOutcome, rng: &mut Rng);
     /// Where there are two boards, their memories are the same.
     fn assert_alike(&self) {}
+    /// Whether flash, locks and stored level are the image's, of both where there are two.
+    fn holds(&self, header: &Header, image: &[u8]) -> bool {
+        self.board().holds(header, image)
+    }
 }
 
 impl Powered for Board {
@@ -81,16 +85,15 @@ impl<C: Core, T: Powered> Chain<'_, C, T> {
     }
 
     /// Steps a session to its report or to the cut's place; demand 3's claims hold as far as it goes.
-    fn session(&mut self, mut lists: RandomLists, mut place: Place) -> End {
+    fn session(&mut self, claims: &mut Claims, mut lists: RandomLists, mut place: Place) -> End {
         let Chain { core, rng, tally, target, header, image, .. } = self;
-        let mut claims = Claims::new(header, target.board());
         let (mut session, mut outcome) = core.start(header, image, true);
         let mut transfers = 0;
         loop {
             let request = match outcome {
                 Outcome::Request(request) => request,
                 Outcome::Report(report) => {
-                    claims.reported(report, header, image, target.board());
+                    claims.reported(report, target.board());
                     return End { report: Some(report), transfers };
                 }
                 Outcome::Refused(number) => panic!("refused with {number}"),
@@ -113,9 +116,11 @@ impl<C: Core, T: Powered> Chain<'_, C, T> {
     /// A session that is cut, and what must hold of the board then.
     fn cut_session(&mut self) {
         self.choose_image();
+        let (header, image) = (self.header, self.image.clone());
         let board = self.target.board();
         let (lists, place) = (disturbed(self.rng, board), Place::any(self.rng, board));
-        let end = self.session(lists, place);
+        let mut claims = Claims::new(&header, &image, board);
+        let end = self.session(&mut claims, lists, place);
         if let Some(report) = end.report {
             assert!(self.closed.is_none() || report == CLOSED, "{report:?}");
             *self.tally.numbers.entry(report.number).or_default() += 1;
@@ -123,10 +128,12 @@ impl<C: Core, T: Powered> Chain<'_, C, T> {
         let before = Before::of(self.target.board());
         let residue = RandomLists::failure(self.rng);
         self.target.cut(residue, self.rng);
+        claims.cut(self.target.board());
         let stored = self.target.board().stored;
         assert!([OPEN, PROTECTED, KILL].contains(&stored));
         self.tally.see_cut(&before, &residue, stored);
         self.tally.see_end(end.transfers, end.report.is_some(), before.kind.is_some());
+        self.tally.see_seal(claims.seal, end.report);
         self.stays_closed();
     }
 
@@ -142,12 +149,14 @@ impl<C: Core, T: Powered> Chain<'_, C, T> {
     /// "a fresh session ... without mishap reports done, unless KILL had been stored".
     fn fresh_session(&mut self) {
         self.choose_image();
+        let (header, image) = (self.header, self.image.clone());
         let board = self.target.board();
         let (sizes, entry) = (board.sizes, entry_of(board));
+        let mut claims = Claims::new(&header, &image, board);
         self.tally.found(board.stored);
         let calm = self.rng.bit();
         let lists = if calm { RandomLists::calm(self.rng.draw()) } else { slow(self.rng, board) };
-        let end = self.session(lists, Place::never());
+        let end = self.session(&mut claims, lists, Place::never());
         // Calm, it takes the plan; what WAITs and busy polls add to it is in the claims.
         let taken =
             end.report.filter(|_| !calm).map_or(plan(&sizes, entry) as u32, |report| report.transfers);
@@ -158,7 +167,7 @@ impl<C: Core, T: Powered> Chain<'_, C, T> {
         if self.closed.is_some() {
             return self.stays_closed();
         }
-        assert!(self.target.board().holds(&self.header, &self.image));
+        assert!(self.target.holds(&header, &image));
     }
 
     fn play(&mut self) {

@@ -20,6 +20,7 @@ pub mod monitor;
 pub mod parts;
 pub mod play;
 pub mod rng;
+pub mod seal;
 pub mod session;
 pub mod texts;
 pub mod wire;

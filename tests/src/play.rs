@@ -101,6 +101,7 @@ pub struct Played {
     pub report: Report,
     /// FNV-1a over all requests, as `hash_request` feeds them.
     pub requests: u64,
+    pub sealed: bool,
     pub monitor: Monitor,
     pub board: Board,
 }
@@ -173,7 +174,7 @@ fn after_report(session: &mut Session, image: &[u8], report: Report) {
 
 /// Plays a session on a plain board and asserts demand 3. The board starts OPEN or PROTECTED.
 pub fn play(header: &Header, image: &[u8], board: &Board, lists: &RandomLists) -> Played {
-    let mut claims = Claims::new(header, board);
+    let mut claims = Claims::new(header, image, board);
     let (mut met, mut left) = (board.clone(), lists.clone());
     let mut rng = Rng(lists.rng.0 ^ 0x5EED);
     let (report, requests) = step_through(header, image, Some((&mut rng, 5_000)), |request| {
@@ -182,9 +183,9 @@ pub fn play(header: &Header, image: &[u8], board: &Board, lists: &RandomLists) -
         claims.answered(request, answer, &met);
         answer
     });
-    claims.reported(report, header, image, &met);
+    claims.reported(report, &met);
     assert_same_as_flow(header, image, board, lists, report, requests);
-    Played { report, requests, monitor: claims.monitor, board: met }
+    Played { report, requests, sealed: claims.seal.sealed, monitor: claims.monitor, board: met }
 }
 
 /// The waiting programme hands out the same requests and ends with the same report.

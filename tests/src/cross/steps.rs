@@ -68,14 +68,14 @@ pub fn one_session(core: &impl Core, rng: &mut Rng, run: &Run, tally: &mut Tally
     let (mut theirs, got) = core.start(header, image, leave);
     assert_eq!(got, outcome);
     let mut transport = Transport::of(run);
-    let mut claims = run.is_plain().then(|| Claims::new(header, &run.board));
+    let mut claims = run.is_plain().then(|| Claims::new(header, image, &run.board));
     tally.plain += u64::from(run.is_plain());
     loop {
         let request = match outcome {
             Outcome::Refused(number) => return number,
             Outcome::Report(report) => {
                 if let Some(claims) = &claims {
-                    claims.reported(report, header, image, &transport.board);
+                    claims.reported(report, &transport.board);
                 }
                 tally.refused += refused(core, rng, &mut ours, &mut theirs, image);
                 return report.number;

@@ -3,9 +3,10 @@
 use super::Before;
 use crate::board::{CallOutcome, Kind};
 use crate::cross::{add, Counts};
-use crate::flow::{CHECKSUM, ERASE_ALL, LOAD_LATCH, PROGRAM_ROW, SET_IMO, SILICON_ID};
+use crate::flow::{Report, CHECKSUM, ERASE_ALL, LOAD_LATCH, PROGRAM_ROW, SET_IMO, SILICON_ID};
 use crate::image::Header;
 use crate::parts::{KILL, OPEN, PROTECTED, SIZES};
+use crate::seal::Seal;
 use std::collections::BTreeMap;
 
 /// What a call other than 0, 0x0B and 0x15 left.
@@ -13,7 +14,7 @@ const LEFT: [&str; 2] = ["flash and locks left as anything", "flash and locks le
 const LENGTHS: [&str; 4] = ["chains of 1 cut", "of 2 cuts", "of 3 cuts", "of 4 cuts"];
 
 /// Each kind, in the order in which they are shown.
-pub const KINDS: [&str; 25] = [
+pub const KINDS: [&str; 27] = [
     "nothing running",
     "in 0x15",
     "in 0x00",
@@ -32,6 +33,8 @@ pub const KINDS: [&str; 25] = [
     "before the first transfer",
     "after the report",
     "after the report, a call running",
+    "sealed, before the report",
+    "sealed, after the report",
     LENGTHS[0],
     LENGTHS[1],
     LENGTHS[2],
@@ -92,6 +95,15 @@ impl Cuts {
         }
         if reported && running {
             self.count("after the report, a call running");
+        }
+    }
+
+    /// Of a board that macro 0's call had sealed.
+    pub(super) fn see_seal(&mut self, seal: Seal, report: Option<Report>) {
+        match report {
+            _ if !seal.sealed => {}
+            None => self.count("sealed, before the report"),
+            Some(_) => self.count("sealed, after the report"),
         }
     }
 

@@ -198,6 +198,12 @@ impl Pair {
         self.params.clone_from(&self.ours.params);
     }
 
+    /// Whether the bench board's own buffers have the image's flash, locks and level.
+    fn theirs_holds(&self, header: &Header, image: &[u8]) -> bool {
+        let (flash, locks) = image.split_at(self.flash.len());
+        self.flash == flash && self.locks == locks && self.board[12] == header.level
+    }
+
     /// Flash, locks, latch and PARAMS; the rest is compared at each request.
     pub fn assert_memory_alike(&self) {
         let Board { flash, locks, latch, params, .. } = &self.ours;
@@ -226,5 +232,9 @@ impl Powered for Pair {
 
     fn assert_alike(&self) {
         self.assert_memory_alike();
+    }
+
+    fn holds(&self, header: &Header, image: &[u8]) -> bool {
+        self.ours.holds(header, image) && self.theirs_holds(header, image)
     }
 }
