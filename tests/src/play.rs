@@ -47,6 +47,11 @@ impl RandomLists {
         }
     }
 
+    /// The next call comes to this.
+    pub fn next_call(&mut self, outcome: CallOutcome) {
+        self.calls.insert(self.call, outcome);
+    }
+
     /// Fills in what is free beside the event.
     pub fn event(rng: &mut Rng, line: Line) -> LineEvent {
         let silence = loop {

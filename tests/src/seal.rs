@@ -2,6 +2,10 @@
 //! its locks, whatever the line did before or does after, even where the session reports a failure". Such a board is
 //! sealed.
 
+mod places;
+
+pub use places::{places, sealing_read, Places, Sealed};
+
 use crate::board::{Board, Kind};
 use crate::flow::Report;
 

@@ -103,6 +103,7 @@ fn answer_bytes(answer: Answer, used: u8) -> [u8; bench::ANSWER] {
 pub type Met = (Answer, Option<LineEvent>, Option<CallOutcome>);
 
 /// Both boards.
+#[derive(Clone)]
 pub struct Pair {
     pub ours: Board,
     part: u8,

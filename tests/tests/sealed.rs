@@ -1,0 +1,51 @@
+//! Document 02, One: what a board has once step 7's call 0x0D for macro 0 has succeeded on it.
+
+use reference::board::{Board, Line, LineEvent};
+use reference::claims::entry_of;
+use reference::cross::Reference;
+use reference::flow::Report;
+use reference::image::Header;
+use reference::parts::{KILL, OPEN, PROTECTED};
+use reference::play::{play, Played, RandomLists};
+use reference::rng::Rng;
+use reference::seal::{places, sealing_read};
+use reference::texts::sample_image;
+
+#[test]
+fn at_every_place_of_steps_7_to_9() {
+    let places = places::<_, Board>(&Reference, 81);
+    println!("{places:?}");
+    places.assert_all_reached();
+}
+
+/// Part 3, M 2: this happens to the read in which macro 0's call ends, on a board of any contents.
+fn at_the_sealing_read(level: u8, stored: u8, line: Line) -> (Header, Vec<u8>, Played) {
+    let mut rng = Rng(82);
+    let (header, image) = sample_image(&mut rng, 3, 2);
+    let header = Header { level, ..header };
+    let board = Board::any(&mut rng, &header, stored);
+    let mut lists = RandomLists::calm(rng.draw());
+    lists.line.insert(sealing_read(&board.sizes, entry_of(&board)), LineEvent::of(line));
+    let played = play(&header, &image, &board, &lists);
+    (header, image, played)
+}
+
+/// The session hears nothing and reports 29 at step 7: carried out, the board has all of the image; not carried out,
+/// macro 0's locks and the level are as step 3 left them.
+#[test]
+fn silence_where_macro_0s_call_ends() {
+    for (stored, transfers) in [(OPEN, 190_673), (PROTECTED, 190_699)] {
+        for level in [OPEN, PROTECTED, KILL] {
+            let silent = Report { number: 29, step: 7, transfers };
+            let (header, image, played) = at_the_sealing_read(level, stored, Line::SilentCarriedOut);
+            assert_eq!((played.report, played.sealed), (silent, true));
+            assert!(played.board.holds(&header, &image));
+
+            let (_, image, played) = at_the_sealing_read(level, stored, Line::SilentLost);
+            assert_eq!((played.report, played.sealed), (silent, false));
+            let (flash, locks) = image.split_at(131_072);
+            assert_eq!((played.board.stored, &played.board.locks[..64]), (OPEN, &[0; 64][..]));
+            assert!(played.board.flash == flash && played.board.locks[64..] == locks[64..]);
+        }
+    }
+}
