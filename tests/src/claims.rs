@@ -6,7 +6,7 @@ use crate::flow::Report;
 use crate::image::Header;
 use crate::monitor::Monitor;
 use crate::parts::{Sizes, PROTECTED, VIRGIN};
-use crate::seal::Seal;
+use crate::seal::{reported, Seal, Sealed};
 use crate::wire::{Answer, Request};
 
 /// How step 3 will find a board.
@@ -60,6 +60,14 @@ impl<'a> Claims<'a> {
     pub fn cut(&mut self, board: &Board) {
         self.seal.cut();
         self.holds_if_sealed(board);
+    }
+
+    /// Counts the board, if it is sealed, by what is reported of it.
+    pub fn count_sealed(&self, report: Report, sealed: &mut Sealed) {
+        if self.seal.sealed {
+            let key = (self.header.macros, self.entry == Entry::Protected, reported(report));
+            *sealed.entry(key).or_default() += 1;
+        }
     }
 
     /// "has the image's flash, level and all its locks ... even where the session reports a failure"

@@ -4,10 +4,11 @@
 
 mod places;
 
-pub use places::{places, sealing_read, Places, Sealed};
+pub use places::{places, sealing_read, Places};
 
 use crate::board::{Board, Kind};
 use crate::flow::Report;
+use std::collections::BTreeMap;
 
 /// Watches the board of one session, packet by packet.
 #[derive(Clone, Copy, Debug)]
@@ -51,6 +52,30 @@ pub fn reported(report: Report) -> &'static str {
         (0, _) => REPORTED[0],
         (_, 7) => REPORTED[2],
         _ => REPORTED[1],
+    }
+}
+
+/// Sealed boards by M, entry from PROTECTED, and which of `REPORTED`.
+pub type Sealed = BTreeMap<(u32, bool, &'static str), u64>;
+
+/// M and entry, in the order in which they are shown.
+const BOARDS: [(u32, bool); 4] = [(1, false), (1, true), (2, false), (2, true)];
+
+/// A line for each M and entry: the count of each of `REPORTED`.
+pub fn lines(sealed: &Sealed) -> Vec<String> {
+    let count = |m, protected, what| sealed.get(&(m, protected, what)).copied().unwrap_or_default();
+    let line = |(m, protected)| {
+        let entry = if protected { "PROTECTED" } else { "OPEN" };
+        let counts = REPORTED.map(|what| format!("{what} {}", count(m, protected, what)));
+        format!("sealed, M {m}, from {entry}: {}", counts.join("; "))
+    };
+    BOARDS.map(line).to_vec()
+}
+
+/// This was reported of a sealed board of each M, from each entry.
+pub fn assert_sealed(sealed: &Sealed, reported: &'static str) {
+    for (m, protected) in BOARDS {
+        assert!(sealed.contains_key(&(m, protected, reported)), "M {m}, {protected}: never {reported}");
     }
 }
 

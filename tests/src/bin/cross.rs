@@ -4,6 +4,7 @@
 use reference::cross::{rows, sessions, texts, Counts, Tally, TextTally};
 use reference::cuts::{chains, Cuts};
 use reference::linked::{boards, edges, forged, tools, Boards, Forged, Linked, Pair, ENDS};
+use reference::seal::{self, assert_sealed, places, Places, Sealed, REPORTED};
 use std::time::Instant;
 use std::{env, thread};
 
@@ -83,6 +84,24 @@ fn check_sessions(seed: u64, sizes: &Sizes) {
         assert!(*done > 0 && done < all);
     }
     assert_eq!(tally.kinds.len(), 4 * 2 * 3);
+    show_sealed(&tally.sealed);
+    assert_sealed(&tally.sealed, REPORTED[0]);
+    assert!(tally.sealed.keys().any(|(.., reported)| *reported != REPORTED[0]));
+}
+
+fn show_sealed(sealed: &Sealed) {
+    seal::lines(sealed).iter().for_each(|line| println!("  {line}"));
+}
+
+fn check_sealed(seed: u64) {
+    let mut sum = Places::default();
+    shared(seed, |seed| places::<_, Pair>(&Linked, seed)).iter().for_each(|part| sum.add(part));
+    let Places { unsealed, cut: [sealed, not], .. } = sum;
+    let all = sum.sealed.values().sum::<u64>() + unsealed;
+    println!("macro 0 last: {all} sessions on the bench board, one disturbed at each place of steps 7 to 9, {unsealed} not sealed");
+    show_sealed(&sum.sealed);
+    println!("  cut at each of these places: {sealed} sealed, {not} not");
+    sum.assert_all_reached();
 }
 
 fn check_forged(seed: u64, sizes: &Sizes) {
@@ -153,6 +172,7 @@ fn main() {
     check_forged(seed, sizes);
     check_texts(seed, sizes);
     check_sessions(seed, sizes);
+    check_sealed(seed);
     check_boards(seed, sizes);
     check_cuts(seed, sizes);
     println!("cross-checks passed in {:.0} s, seed {seed}", start.elapsed().as_secs_f64());

@@ -2,7 +2,7 @@
 
 use crate::board::{Board, CallOutcome, Ids, Line};
 use crate::claims::entry_of;
-use crate::counts::{loops, plan};
+use crate::counts::{acquisitions, loops, plan};
 use crate::image::Header;
 use crate::parts::{LOCKS, OPEN, PROTECTED, TEST_MODE};
 use crate::play::RandomLists;
@@ -50,28 +50,35 @@ impl Run {
     fn disturb(&mut self, rng: &mut Rng) {
         let sizes = self.header.sizes().unwrap();
         let entry = entry_of(&self.board);
-        let (transfers, calls) = (plan(&sizes, entry), loops(&sizes, entry));
-        // An early place half of the time, so that every step has its failures.
-        let near = rng.bit();
-        let place = |rng: &mut Rng, most: u64| rng.below(if near { 100 } else { most as usize }) as u64;
+        // A call has one loop, and each acquisition one without a call.
+        let (transfers, calls) = (plan(&sizes, entry), loops(&sizes, entry) - acquisitions(entry));
+        // An early place, one of the last or any, so that every step has its failures.
+        let when = rng.below(3);
+        let place = |rng: &mut Rng, most: u64, last: usize| match when {
+            0 => rng.below(100) as u64,
+            1 => most - 1 - rng.below(last) as u64,
+            _ => rng.below(most as usize) as u64,
+        };
+        // Steps 7 to 9 are the last 240 transfers of two macros, and the last 5 calls.
+        let (last_transfers, last_calls) = (150, 5);
         let all = [Line::Wait, Line::Fault, Line::SilentCarriedOut, Line::SilentLost, Line::WrongParity];
         match rng.below(9) {
             0 => self.lists.wait_one_in = 20 + rng.below(200),
             1 => (self.lists.busy_one_in, self.lists.most_busy) = (1 + rng.below(5), 1 + rng.below(40)),
             2 | 3 => {
-                let (at, line) = (place(rng, transfers), *rng.pick(&all[1..]));
+                let (at, line) = (place(rng, transfers, last_transfers), *rng.pick(&all[1..]));
                 self.lists.line.insert(at, RandomLists::event(rng, line));
             }
             4 => {
-                let (at, run) = (place(rng, transfers), 10 + rng.below(14) as u64);
+                let (at, run) = (place(rng, transfers, last_transfers), 10 + rng.below(14) as u64);
                 self.lists.line.extend((at..at + run).map(|at| (at, RandomLists::event(rng, Line::Wait))));
             }
             5 => {
-                let at = place(rng, calls);
+                let at = place(rng, calls, last_calls);
                 self.lists.calls.insert(at, RandomLists::failure(rng));
             }
             6 => {
-                let (at, busy) = (place(rng, calls), 19_990 + rng.below(20) as u32);
+                let (at, busy) = (place(rng, calls, last_calls), 19_990 + rng.below(20) as u32);
                 self.lists.calls.insert(at, CallOutcome { busy, ..CallOutcome::OK });
             }
             7 => {

@@ -2,11 +2,12 @@
 //! board is plain, demand 3's claims hold.
 
 use super::runs::{random_run, Run, Transport};
-use super::{Core, Counts};
+use super::{add, Core, Counts};
 use crate::claims::{entry_of, Claims};
 use crate::counts::Entry;
 use crate::parts::SIZES;
 use crate::rng::Rng;
+use crate::seal::Sealed;
 use crate::session::{self, Outcome, Session};
 use crate::wire::Answer;
 use std::collections::BTreeMap;
@@ -22,6 +23,8 @@ pub struct Tally {
     pub requests: u64,
     /// Steps refused with 12 or 14 in between.
     pub refused: u64,
+    /// Of the plain boards.
+    pub sealed: Sealed,
 }
 
 impl Tally {
@@ -38,6 +41,7 @@ impl Tally {
         self.plain += other.plain;
         self.requests += other.requests;
         self.refused += other.refused;
+        add(&mut self.sealed, &other.sealed);
     }
 }
 
@@ -76,6 +80,7 @@ pub fn one_session(core: &impl Core, rng: &mut Rng, run: &Run, tally: &mut Tally
             Outcome::Report(report) => {
                 if let Some(claims) = &claims {
                     claims.reported(report, &transport.board);
+                    claims.count_sealed(report, &mut tally.sealed);
                 }
                 tally.refused += refused(core, rng, &mut ours, &mut theirs, image);
                 return report.number;

@@ -10,9 +10,11 @@ use crate::board::{Board, FreeLists, Ids, Line, Running};
 use crate::claims::entry_of;
 use crate::counts::{loops, plan};
 use crate::cross::{add, random_run, Core, Counts, Run};
+use crate::cuts::Powered;
 use crate::parts::{KILL, OPEN, PROTECTED, SIZES};
 use crate::play::RandomLists;
 use crate::rng::Rng;
+use crate::seal::Seal;
 use crate::session::Outcome;
 use crate::texts::sample_image;
 use crate::wire::Request;
@@ -137,17 +139,19 @@ fn session(rng: &mut Rng, tally: &mut Tally, part: u32, macros: u32) {
     *tally.sum.kinds.entry((part, macros, board.stored, header.level)).or_default() += 1;
     let mut pair = Pair::of(&header, board);
     let (mut session, mut outcome) = Linked.start(&header, &image, true);
-    let mut disturbed = [false; 2];
+    let (mut disturbed, mut seal) = ([false; 2], Seal::of(&pair.ours));
     while let Outcome::Request(request) = outcome {
         assert!(!is_open_read(&pair.ours, request));
         let (answer, event, call) = tally.meet(&mut pair, request, &mut lists);
         outcome = Linked.step(&mut session, &image, answer);
+        seal.met(&pair.ours);
         disturbed[0] |= event.is_some_and(|event| event.line != Line::Ok);
         disturbed[1] |= call.is_some_and(|call| call.busy > 0 || !call.success);
         tally.sum.packets[0] += 1;
     }
     let Outcome::Report(report) = outcome else { panic!("{outcome:?}") };
     pair.assert_memory_alike();
+    assert!(!seal.sealed || pair.holds(&header, &image));
     *tally.sum.numbers.entry(report.number).or_default() += 1;
     tally.sum.sessions += 1;
     tally.sum.disturbed += u64::from(disturbed == [true; 2]);

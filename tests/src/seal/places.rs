@@ -1,7 +1,7 @@
 //! Every transfer of steps 7 to 9 meets every event of the line, every call of them fails, and the power goes before
 //! each: the board is sealed from the read in which macro 0's call ends, and has the image from there on.
 
-use super::{reported, REPORTED};
+use super::{assert_sealed, Sealed, REPORTED};
 use crate::board::{Board, Line, LineEvent};
 use crate::claims::Claims;
 use crate::counts::{plan, Entry};
@@ -15,10 +15,6 @@ use crate::rng::Rng;
 use crate::session::Outcome;
 use crate::texts::sample_image;
 use crate::wire::{Register, Request};
-use std::collections::BTreeMap;
-
-/// Sealed boards by M, entry from PROTECTED, and which of `REPORTED`.
-pub type Sealed = BTreeMap<(u32, bool, &'static str), u64>;
 
 /// What the sessions came to, each disturbed or cut at one place.
 #[derive(Clone, Default, Debug)]
@@ -37,11 +33,7 @@ impl Places {
     }
 
     pub fn assert_all_reached(&self) {
-        for (macros, protected) in [(1, false), (1, true), (2, false), (2, true)] {
-            for end in REPORTED {
-                assert!(self.sealed.contains_key(&(macros, protected, end)), "{macros} {protected} {end}");
-            }
-        }
+        REPORTED.iter().for_each(|reported| assert_sealed(&self.sealed, reported));
         assert!(self.unsealed > 0 && self.cut.iter().all(|&count| count > 0));
     }
 }
@@ -164,14 +156,10 @@ impl Round<'_> {
         let Outcome::Report(report) = walk.outcome else { panic!("{:?}", walk.outcome) };
         walk.claims.reported(report, walk.target.board());
         assert_eq!(walk.claims.seal.sealed, sealed || report.number == 0, "{report:?}");
-        if walk.claims.seal.sealed {
-            assert!(walk.target.holds(self.header, self.image));
-            let key = (self.header.macros, self.entry == Entry::Protected, reported(report));
-            *self.places.sealed.entry(key).or_default() += 1;
-        } else {
-            self.places.unsealed += 1;
-        }
+        assert!(!walk.claims.seal.sealed || walk.target.holds(self.header, self.image));
         walk.target.assert_alike();
+        walk.claims.count_sealed(report, &mut self.places.sealed);
+        self.places.unsealed += u64::from(!walk.claims.seal.sealed);
         self.goes_dark(walk);
     }
 
