@@ -91,9 +91,8 @@ fn last_transfers() {
     assert!(transfers().ends_with(&last));
 }
 
-/// The second macro of part 3, its rows and locks, and reopening, in numbers alone.
-#[test]
-fn second_macro_in_numbers() {
+/// What a session of part 3 with two macros writes, from PROTECTED.
+fn words_of_two_macros() -> Vec<u32> {
     let mut image = vec![0; 131_200];
     image[65_536] = 0x21;
     image[131_072 + 64] = 0x43;
@@ -111,7 +110,19 @@ fn second_macro_in_numbers() {
         }
         board.answer(request, &mut lists)
     });
-    let holds = |part: &[u32]| words.windows(part.len()).filter(|window| *window == part).count();
+    words
+}
+
+/// How often the words come one after the other.
+fn count(words: &[u32], part: &[u32]) -> usize {
+    words.windows(part.len()).filter(|window| *window == part).count()
+}
+
+/// The second macro's rows, and reopening, in numbers alone.
+#[test]
+fn second_macro_in_numbers() {
+    let words = words_of_two_macros();
+    let holds = |part: &[u32]| count(&words, part);
     // Reopening: SYSARG is k + 0x10000, then the set-up again.
     assert_eq!(
         holds(&[0x4010_0008, 0x0001_E0B6, 0x4010_0004, 0x8000_000D, 0x4010_0004, 0x4010_0008, 0x5400_0000]),
@@ -123,6 +134,15 @@ fn second_macro_in_numbers() {
     assert_eq!(holds(&[0x2000_0100, 0x0200_D9B6]), 1);
     assert_eq!(holds(&[0x2000_0100, 0x03FF_D9B6]), 1);
     assert_eq!(holds(&[0x2000_0100, 0x0400_D9B6]), 0);
+    // No erasing after reopening.
+    assert_eq!(holds(&[0x8000_000A]), 0);
+}
+
+/// Document 02, One: "from the highest macro down to 0", in numbers alone.
+#[test]
+fn macro_0_last_in_numbers() {
+    let words = words_of_two_macros();
+    let holds = |part: &[u32]| count(&words, part);
     // After step 6 macro 1's locks: latch, 0x0D with level and macro, then its own address.
     assert_eq!(holds(&[0x0001_FFFC, 0x2000_0100, 0x0100_D7B6, 0x2000_0104, 63, 0x2000_0108, 0x43]), 1);
     let rest = [0x4010_0004, 0x8000_000D, 0x4010_0004, 0x4010_0008];
@@ -134,6 +154,4 @@ fn second_macro_in_numbers() {
     assert_eq!(holds(&[0x0FFF_F03C, 0x0FFF_F07C, 0x4010_0008, 0x8000_DEB6]), 1);
     assert_eq!((holds(&[0x4010_0008, 0x0001_E0B6]), holds(&[0x4010_0008, 0x0101_E0B6])), (2, 1));
     assert_eq!(holds(&[0x0FFF_F07C]), 1);
-    // No erasing after reopening.
-    assert_eq!(holds(&[0x8000_000A]), 0);
 }

@@ -2,10 +2,11 @@
 
 use reference::board::{Board, Line, LineEvent};
 use reference::claims::entry_of;
+use reference::counts::Entry;
 use reference::cross::Reference;
 use reference::flow::Report;
 use reference::image::Header;
-use reference::parts::{KILL, OPEN, PROTECTED};
+use reference::parts::{Sizes, KILL, OPEN, PROTECTED, SIZES};
 use reference::play::{play, Played, RandomLists};
 use reference::rng::Rng;
 use reference::seal::{places, sealing_read};
@@ -16,6 +17,16 @@ fn at_every_place_of_steps_7_to_9() {
     let places = places::<_, Board>(&Reference, 81);
     println!("{places:?}");
     places.assert_all_reached();
+}
+
+/// Its place from 0: part 3's with two macros is transfer 190,673, from PROTECTED 26 later.
+#[test]
+fn the_sealing_read() {
+    let reads = SIZES.map(|(part, macros)| {
+        let sizes = Sizes::of(part, macros).unwrap();
+        [Entry::Open, Entry::Protected].map(|entry| sealing_read(&sizes, entry))
+    });
+    assert_eq!(reads, [[27_234, 27_270], [47_704, 47_730], [95_336, 95_362], [190_672, 190_698]]);
 }
 
 /// Part 3, M 2: this happens to the read in which macro 0's call ends, on a board of any contents.

@@ -46,39 +46,53 @@ pub fn random_run(rng: &mut Rng, part: u32, macros: u32) -> Run {
     run
 }
 
+/// Where a disturbance comes, so that every step has its failures.
+#[derive(Clone, Copy)]
+enum When {
+    Early,
+    Late,
+    Any,
+}
+
+impl When {
+    /// Of so many places: one of the first hundred, one of the last, or any.
+    fn place(self, rng: &mut Rng, most: u64, last: usize) -> u64 {
+        match self {
+            When::Early => rng.below(100) as u64,
+            When::Late => most - 1 - rng.below(last) as u64,
+            When::Any => rng.below(most as usize) as u64,
+        }
+    }
+}
+
 impl Run {
     fn disturb(&mut self, rng: &mut Rng) {
         let sizes = self.header.sizes().unwrap();
         let entry = entry_of(&self.board);
         // A call has one loop, and each acquisition one without a call.
         let (transfers, calls) = (plan(&sizes, entry), loops(&sizes, entry) - acquisitions(entry));
-        // An early place, one of the last or any, so that every step has its failures.
-        let when = rng.below(3);
-        let place = |rng: &mut Rng, most: u64, last: usize| match when {
-            0 => rng.below(100) as u64,
-            1 => most - 1 - rng.below(last) as u64,
-            _ => rng.below(most as usize) as u64,
-        };
-        // Steps 7 to 9 are the last 240 transfers of two macros, and the last 5 calls.
-        let (last_transfers, last_calls) = (150, 5);
+        let when = *rng.pick(&[When::Early, When::Late, When::Any]);
+        // Steps 7 to 9 of two macros are 240 transfers, and 5 calls.
+        let transfer = |rng: &mut Rng| when.place(rng, transfers, 150);
+        let call = |rng: &mut Rng| when.place(rng, calls, 5);
         let all = [Line::Wait, Line::Fault, Line::SilentCarriedOut, Line::SilentLost, Line::WrongParity];
         match rng.below(9) {
             0 => self.lists.wait_one_in = 20 + rng.below(200),
             1 => (self.lists.busy_one_in, self.lists.most_busy) = (1 + rng.below(5), 1 + rng.below(40)),
             2 | 3 => {
-                let (at, line) = (place(rng, transfers, last_transfers), *rng.pick(&all[1..]));
+                let (at, line) = (transfer(rng), *rng.pick(&all[1..]));
                 self.lists.line.insert(at, RandomLists::event(rng, line));
             }
             4 => {
-                let (at, run) = (place(rng, transfers, last_transfers), 10 + rng.below(14) as u64);
+                let (at, run) = (transfer(rng), 10 + rng.below(14) as u64);
                 self.lists.line.extend((at..at + run).map(|at| (at, RandomLists::event(rng, Line::Wait))));
             }
             5 => {
-                let at = place(rng, calls, last_calls);
+                let at = call(rng);
                 self.lists.calls.insert(at, RandomLists::failure(rng));
             }
             6 => {
-                let (at, busy) = (place(rng, calls, last_calls), 19_990 + rng.below(20) as u32);
+                let (at, busy) = (call(rng), 19_990 + rng.below(20) as u32);
                 self.lists.calls.insert(at, CallOutcome { busy, ..CallOutcome::OK });
             }
             7 => {

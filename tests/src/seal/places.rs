@@ -7,7 +7,7 @@ use crate::claims::Claims;
 use crate::counts::{plan, Entry};
 use crate::cross::{add, Core};
 use crate::cuts::Powered;
-use crate::flow::BIT_31;
+use crate::flow::{Report, BIT_31};
 use crate::image::Header;
 use crate::parts::{Sizes, KILL, OPEN, PROTECTED, SIZES};
 use crate::play::RandomLists;
@@ -136,9 +136,13 @@ impl Round<'_> {
             let at = calm.place();
             if at >= first {
                 for (line, carried_out) in LINES {
-                    self.ends(calm.fork().meets(line), at > sealing || at == sealing && carried_out);
+                    let sealed = at > sealing || at == sealing && carried_out;
+                    let report = self.ends(calm.fork().meets(line), sealed);
+                    if at == sealing && matches!(line, Line::SilentCarriedOut | Line::SilentLost) {
+                        assert_eq!(report, Report { number: 29, step: 7, transfers: at as u32 + 1 });
+                    }
                 }
-                self.is_cut(calm.fork(), at > sealing);
+                self.cut_before_the_report(calm.fork(), at > sealing);
             }
             if at >= first && calm.starts_a_call() {
                 let mut failing = calm.fork();
@@ -150,8 +154,8 @@ impl Round<'_> {
         self.ends(calm, true);
     }
 
-    /// Steps on to the report: sealed as said, or done.
-    fn ends<C: Core, T: Powered + Clone>(&mut self, mut walk: Walk<C, T>, sealed: bool) {
+    /// Steps on to the report, which is given: sealed as said, or done.
+    fn ends<C: Core, T: Powered + Clone>(&mut self, mut walk: Walk<C, T>, sealed: bool) -> Report {
         while walk.step() {}
         let Outcome::Report(report) = walk.outcome else { panic!("{:?}", walk.outcome) };
         walk.claims.reported(report, walk.target.board());
@@ -160,17 +164,18 @@ impl Round<'_> {
         walk.target.assert_alike();
         walk.claims.count_sealed(report, &mut self.places.sealed);
         self.places.unsealed += u64::from(!walk.claims.seal.sealed);
-        self.goes_dark(walk);
+        self.cut(walk);
+        report
     }
 
-    fn is_cut<C: Core, T: Powered + Clone>(&mut self, walk: Walk<C, T>, sealed: bool) {
+    fn cut_before_the_report<C: Core, T: Powered + Clone>(&mut self, walk: Walk<C, T>, sealed: bool) {
         assert_eq!(walk.claims.seal.sealed, sealed);
         self.places.cut[usize::from(!sealed)] += 1;
-        self.goes_dark(walk);
+        self.cut(walk);
     }
 
     /// The power goes: what is sealed stays.
-    fn goes_dark<C: Core, T: Powered + Clone>(&mut self, mut walk: Walk<C, T>) {
+    fn cut<C: Core, T: Powered + Clone>(&mut self, mut walk: Walk<C, T>) {
         walk.target.cut(RandomLists::failure(self.rng), self.rng);
         walk.claims.cut(walk.target.board());
     }

@@ -73,6 +73,13 @@ fn not_before_it() {
 fn not_while_busy() {
     let board = locking(PROTECTED, 0, CallOutcome { busy: 2, ..CallOutcome::OK });
     assert_eq!(after(board, &[(READ, Line::Ok); 4]), [false, false, true, true]);
+    // SYSARG alone is no success, should someone write it meanwhile.
+    let board = locking(PROTECTED, 0, CallOutcome { busy: 2, ..CallOutcome::OK });
+    let write = [
+        Request::write(Register::Tar, board.sizes.part.sysarg()),
+        Request::write(Register::Drw, 0xA000_0000),
+    ];
+    assert_eq!(after(board, &write.map(|request| (request, Line::Ok))), [false; 2]);
 }
 
 /// Not a call that fails, also where it stores the level.
