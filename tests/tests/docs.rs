@@ -206,18 +206,20 @@ fn lines_of(file: &str) -> usize {
     source.lines().filter(|l| !l.trim().is_empty() && !l.starts_with("use ")).count()
 }
 
-/// What Eleven adds to the list has as many lines as said.
+/// What One and Eleven add to the list has as many lines as said.
 #[test]
-fn eleven_adds_so_many_lines() {
+fn requests_add_so_many_lines() {
     let page = promises();
-    let from = page.find("**For Eleven**").expect("its paragraph");
-    let paragraph = page[from..].split("\n\n").next().unwrap();
-    let files = quoted(paragraph);
-    assert_eq!(files.len(), 3);
-    for file in files {
-        let after = paragraph.split(file).nth(1).unwrap();
-        let said = after.split(|c: char| !c.is_ascii_digit()).find(|digits| !digits.is_empty());
-        assert_eq!(said, Some(lines_of(file).to_string().as_str()), "{file}");
+    for (request, count) in [("**For One**", 5), ("**For Eleven**", 3)] {
+        let from = page.find(request).expect("its paragraph");
+        let paragraph = page[from..].split("\n\n").next().unwrap();
+        let files = quoted(paragraph);
+        assert_eq!(files.len(), count, "{request}");
+        for file in files {
+            let after = paragraph.split(file).nth(1).unwrap();
+            let said = after.split(|c: char| !c.is_ascii_digit()).find(|digits| !digits.is_empty());
+            assert_eq!(said, Some(lines_of(file).to_string().as_str()), "{file}");
+        }
     }
 }
 
