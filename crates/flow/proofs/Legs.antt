@@ -28,7 +28,7 @@ core b = record { silicon = b .silicon; memory = b .memory; effect = b .effect; 
 abbrev pub Known : Type 1
 Known = ℕ → Core → Type 0
 
--- from rest to rest over ms: P held before, Q holds after
+-- from rest to rest over ms: P held before, Q holds after; z and z′: the board is sealed before, and after
 pub record Leg {i : Image} (f : Frame i) (z z′ : Bool) (y : Entry) (ms : List Move) (P Q : Known) : Type 0 where
   pub along : (n x k : ℕ) (later : List Move) (κ : Allowance) (e : Env) (b : Target) → P k (core b) → Stands f y n ms later κ e
       → ((k′ : ℕ) (b′ : Target) → Q k′ (core b′) → (n′ x′ : ℕ) (e′ : Env) → Stood f y n′ later κ e′ → Reaches f z′ (sync y n′ 0 0 k′ b′ (idleAt x′) e′))

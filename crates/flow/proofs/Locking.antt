@@ -1,4 +1,4 @@
--- Step 7: a macro's locks, and all macros'. Assumes nothing.
+-- Step 7 of a macro. Assumes nothing.
 use mathlib.Core.Bool.{Bool, true, false, _&&_, cond}
 use mathlib.Core.List.{List, _++_}
 use mathlib.Core.Logic.{inl}

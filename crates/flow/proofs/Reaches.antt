@@ -112,8 +112,8 @@ Lasting S b = record { now : S (b .memory); cut : (r : Residue) → S (cutMemory
 pub at-rest : (S : Memory → Type 0) (b : Target) → b .running ≡ idle → S (b .memory) → Lasting S b
 at-rest S b quiet safe = record { now = safe; cut = λ r. rw quiet safe }
 
--- whether the board is sealed, before a step and after it
-pub data Turn : Bool → Target → Target → Bool → Type 0 where
+-- whether the board is sealed (document 02, One), before a step and after it
+pub data Turn : (before : Bool) → Target → Target → (after : Bool) → Type 0 where
   unsealed : {b b′ : Target} → seals b b′ ≡ false → Turn false b b′ false
   sealing : {b b′ : Target} → seals b b′ ≡ true → Turn false b b′ true
   sealed : {b b′ : Target} → Turn true b b′ true
@@ -141,13 +141,13 @@ same-running b b′ e = rw e (by (b .running))
     by idle = refl
     by (busy n x y c) = and-false (locksMacro0 (busy n x y c) (b .effect) (b .sysarg))
 
--- what a run is held to: Safe of the memory at each step, Stop where it ends early, Goal where it is to come; Still says that the
--- lists were calm at the start
+-- what a run is held to: Safe of the memory at each step, Stop where it ends early, Goal where it is to come, each by whether the board is
+-- sealed by then; Still says that the lists were calm at the start
 pub record Frame (i : Image) : Type 1 where
-  pub Safe : Bool → Memory → Type 0
+  pub Safe : (sealed : Bool) → Memory → Type 0
   pub Still : Type 0
-  pub Stop : Bool → Run → Type 0
-  pub Goal : Bool → Run → Type 0
+  pub Stop : (sealed : Bool) → Run → Type 0
+  pub Goal : (sealed : Bool) → Run → Type 0
   pub planned : ℕ
   pub most : Traffic
   pub silicon : Silicon
@@ -221,7 +221,7 @@ going (running y n w p a k h) = true
 going (reported x s h) = false
 
 -- the session comes to Goal, or stops for a reason; on the way the memory is safe, and no more is handed out than is allowed
-pub data Reaches {i : Image} (f : Frame i) : Bool → Run → Type 0 where
+pub data Reaches {i : Image} (f : Frame i) : (sealed : Bool) → Run → Type 0 where
   here : {z : Bool} {r : Run} → f .Goal z r → Reaches f z r
   stop : {z : Bool} {r : Run} → f .Stop z r → Reaches f z r
   step : {z z′ : Bool} {r : Run} → going (r .session) ≡ true → Lasting (f .Safe z) (r .target) → Bounded f (handedOut i r) → NoError (r .monitor)
@@ -230,7 +230,7 @@ pub data Reaches {i : Image} (f : Frame i) : Bool → Run → Type 0 where
 pub clear : (w : Waits) (p a : ℕ) (t : Watch) (d : Delays) → NoError (watching w p a t d)
 clear w p a t d n e = let no : _≡_ {A = ℕ} 0 1 = cc in omega arith
 
--- where a step leads from b
+-- where a step leads from b, and whether the board is sealed there
 pub record Next {i : Image} (f : Frame i) (z : Bool) (b : Target) (r : Run) : Type 0 where
   pub after : Bool
   pub turn : Turn z b (r .target) after

@@ -1,4 +1,4 @@
--- Words read and compared: steps 6 and 8. Assumes nothing.
+-- Words read and compared: step 6, and step 8 of a macro straight after its step 7. Assumes nothing.
 use mathlib.Core.Bool.{Bool, true, false, false≢true}
 use mathlib.Core.List.{List}
 use mathlib.Core.Path.{_≡_, refl, sym}

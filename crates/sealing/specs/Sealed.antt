@@ -15,7 +15,7 @@ use Rattle.session.specs.Given.{stepWith}
 use Rattle.session.specs.declared.Outcome.the-variants.{Ask, Reported}
 use Rattle.session.specs.declared.Report.{Report}
 
--- a packet p stands in s, and in the board's answer to it step 7's call 0x0D for macro 0 succeeds; what the session makes of the answer
+-- a packet stands in s, and in the board's answer to it step 7's call 0x0D for macro 0 succeeds; what the session makes of the answer
 -- doesn't count
 pub record Succeeds (g : Geometry) (s : State) : Type 0 where
   pub packet : Packet
@@ -32,7 +32,7 @@ SealedCallsHold =
     (g : Geometry) (x : Start g) (b : Target) → Startable g b → (l : Lists) (n k : ℕ) (s : State) → Leads x b l n k s → (y : Succeeds g s)
     → (n′ k′ : ℕ) (u : State) → Steps g (x .bytes) n′ k′ (onward x (y .packet) s) u → HoldsThroughCut (imageIn x) (u .target)
 
--- a list of calls to u in which it succeeds
+-- a list of calls to u, in one of whose answers it succeeds
 pub record Sealed {g : Geometry} (x : Start g) (b : Target) (l : Lists) (u : State) : Type 0 where
   pub answers : ℕ
   pub others : ℕ
@@ -43,7 +43,7 @@ pub record Sealed {g : Geometry} (x : Start g) (b : Target) (l : Lists) (u : Sta
   pub othersAfter : ℕ
   pub after : Steps g (x .bytes) answersAfter othersAfter (onward x (succeeds .packet) state) u
 
--- every session that says done is one
+-- every list of calls after which the report says done is one
 abbrev pub DoneSealedCalls : Type 0
 DoneSealedCalls =
     (g : Geometry) (x : Start g) (b : Target) → Startable g b → (l : Lists) (n k : ℕ) (u : State) → Leads x b l n k u
