@@ -11,7 +11,7 @@ use Rattle.flow.specs.Judge.{judge}
 use Rattle.flow.specs.Map.{place}
 use Rattle.flow.specs.Monitor.{noWaits, watching, Watch, Delays, noticed, noticeRead, noticeStore}
 use Rattle.flow.specs.Run.{Run}
-use Rattle.flow.specs.Sealing.{seals}
+use Rattle.flow.specs.Sealing.{succeeds0}
 use Rattle.flow.specs.Sequence.{write, read}
 use Rattle.flow.specs.Session.{running, judgedTo}
 use Rattle.flow.specs.Target.{Target, CallOutcome, nextOutcome, rest, setTar, setSysarg, setTestMode}
@@ -22,7 +22,7 @@ use Rattle.flow.specs.declared.Place.the-variants.{InFlash, InLocks, InP
 use Rattle.flow.specs.declared.Purpose.{Purpose}
 use Rattle.flow.specs.declared.Request.the-variants.{ReadDrw, WriteTar, WriteDrw}
 use Rattle.flow.proofs.Hearing.{aTar, aDrw, aRead}
-use Rattle.flow.proofs.Reaches.{Allowance, withTransfer, withMoves, Env, sync, Frame, Lasting, Stood, Stands, Turn, stays, same-running, not-idle, Reaches}
+use Rattle.flow.proofs.Reaches.{Allowance, withTransfer, withMoves, Env, sync, Frame, Lasting, Stood, Stands, Turn, without, same-running, not-idle, Reaches}
 use Rattle.flow.proofs.Transfer.{transfer}
 use Rattle.image.specs.Image.{Image}
 use Rattle.parts.specs.declared.Geometry.{Geometry}
@@ -87,11 +87,11 @@ barred-write g w b pc h a = rw h (by (eqb (b .effect) 2) (a .free))
     by false e = refl
 
 -- a write ends no call
-begin-ends : (y : Bool) (w : ℕ) (o : CallOutcome) (b : Target) → seals b (begin y w o b) ≡ false
+begin-ends : (y : Bool) (w : ℕ) (o : CallOutcome) (b : Target) → succeeds0 b (begin y w o b) ≡ false
 begin-ends true w o b = not-idle b (begin true w o b) refl
 begin-ends false w o b = same-running b (begin false w o b) refl
 
-store-ends : (w : ℕ) (o : CallOutcome) (pc : Place) (b : Target) → seals b (store w o pc b) ≡ false
+store-ends : (w : ℕ) (o : CallOutcome) (pc : Place) (b : Target) → succeeds0 b (store w o pc b) ≡ false
 store-ends w o (InFlash a) b = same-running b b refl
 store-ends w o (InLocks a) b = same-running b b refl
 store-ends w o (InParams k) b = same-running b (store w o (InParams k) b) refl
@@ -146,9 +146,9 @@ module _ {i : Image} (f : Frame i) where
         → Reaches f z (sync y n p c k b t e)
     unfolding write withMoves carry judge noticed
     write-any st pc hp ok safe safe′ next =
-        transfer f aTar st (ok .not-killed) (barred-tar (i .geometry) a b) safe (λ o. safe) (λ o. stays (same-running b (setTar a b) refl)) λ o₁ e₁ h₁ st₁.
+        transfer f aTar st (ok .not-killed) (barred-tar (i .geometry) a b) safe (λ o. safe) (λ o. without (same-running b (setTar a b) refl)) λ o₁ e₁ h₁ st₁.
         transfer f aDrw st₁ (ok .not-killed) (barred-write (i .geometry) w (setTar a b) pc hp ok) safe (λ o. rw (hp, h₁) safe′)
-        (λ o. stays (store-ends w (nextOutcome (e₁ .lists .calls)) (place (i .geometry) a) (setTar a b))) λ o₂ e₂ h₂ st₂.
+        (λ o. without (store-ends w (nextOutcome (e₁ .lists .calls)) (place (i .geometry) a) (setTar a b))) λ o₂ e₂ h₂ st₂.
         rw (hp, h₁) (next e₂ (rw (hp, h₁) at h₂) st₂)
 
     -- a Write elsewhere than SYSREQ
@@ -175,13 +175,13 @@ module _ {i : Image} (f : Frame i) where
         → ((o : ℕ) → fetch (i .geometry) o pc (setTar a b) ≡ b₁ o) → ((o o′ : ℕ) → fetch (i .geometry) o′ pc (b₁ o) ≡ b₂ o o′)
         → ((o : ℕ) → (b₁ o) .tar ≡ a) → ((o : ℕ) → (b₁ o) .effect ≡ b .effect)
         → ((o : ℕ) → Lasting (f .Safe z₁) (b₁ o)) → ((o o′ : ℕ) → Lasting (f .Safe z₂) (b₂ o o′))
-        → ((o : ℕ) → Turn z (setTar a b) (b₁ o) z₁) → ((o o′ : ℕ) → Turn z₁ (b₁ o) (b₂ o o′) z₂)
+        → ((o : ℕ) → Turn s z (setTar a b) (b₁ o) z₁) → ((o o′ : ℕ) → Turn s z₁ (b₁ o) (b₂ o o′) z₂)
         → (next : (o o′ : ℕ) (e′ : Env) → e′ .lists .calls ≡ e .lists .calls → Stood f y (suc (suc (suc n))) ms κ e′
         → Reaches f z₂ (readRun s u y (suc (suc n)) p c k ((b₁ o) .posted) pc (b₂ o o′) (aimed a t) e′))
         → Reaches f z (sync y n p c k b t e)
     unfolding read withMoves judge noticed
     read-any {z₁} {z₂} st pc hp ok safe b₁ b₂ h₁ h₂ ht he safe₁ safe₂ turn₁ turn₂ next =
-        let first : (o : ℕ) → Turn z b (carry (i .geometry) (WriteTar a) o (nextOutcome (e .lists .calls)) b) z = unfold carry in (λ o. stays (same-running b (setTar a b) refl)) in
+        let first : (o : ℕ) → Turn s z b (carry (i .geometry) (WriteTar a) o (nextOutcome (e .lists .calls)) b) z = unfold carry in (λ o. without (same-running b (setTar a b) refl)) in
         let keeps : (o : ℕ) → Lasting (f .Safe z) (carry (i .geometry) (WriteTar a) o (nextOutcome (e .lists .calls)) b) = unfold carry in (λ o. safe) in
         transfer f aTar st (ok .not-killed) (barred-tar (i .geometry) a b) safe keeps first λ _ e₁ k₁ st₁.
         unfold carry in
@@ -202,4 +202,4 @@ module _ {i : Image} (f : Frame i) where
         → Reaches f z (sync y n p c k b t e)
     read-still st pc hp ok safe v still next =
         read-any st pc hp ok safe (λ o. aim a (v o) b) (λ o o′. aim a (v o′) b) (λ o. still o (b .posted)) (λ o o′. still o′ (v o)) (λ o. refl) (λ o. refl) (λ o. safe) (λ o o′. safe)
-        (λ o. stays (same-running (setTar a b) (aim a (v o) b) refl)) (λ o o′. stays (same-running (aim a (v o) b) (aim a (v o′) b) refl)) next
+        (λ o. without (same-running (setTar a b) (aim a (v o) b) refl)) (λ o o′. without (same-running (aim a (v o) b) (aim a (v o′) b) refl)) next

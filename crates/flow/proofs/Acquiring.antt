@@ -30,7 +30,7 @@ use Rattle.flow.proofs.Legs.{Core, core, Leg}
 use Rattle.flow.proofs.Phases.{call15, same-core}
 use Rattle.flow.proofs.Places.{place-sysreq, place-sysarg, place-test}
 use Rattle.flow.proofs.Polling.{idleAt, poll-idle}
-use Rattle.flow.proofs.Reaches.{Allowance, withTransfer, withRead, withRequest, withMoves, Env, sync, rightSilicon, Frame, Lasting, at-rest, Stood, Stands, less-room, unsealed, same-running, Reaches}
+use Rattle.flow.proofs.Reaches.{Allowance, withTransfer, withRead, withRequest, withMoves, Env, sync, rightSilicon, Frame, Lasting, at-rest, Stood, Stands, less-room, without, same-running, Reaches}
 use Rattle.flow.proofs.Table.{Facts}
 use Rattle.flow.proofs.Transfer.{transfer}
 use Rattle.image.specs.Image.{Image}
@@ -116,9 +116,9 @@ module _ {i : Image} (f : Frame i) (fx : Facts (i .geometry)) (y : Entry) (m : M
         let lasting : Lasting (f .Safe false) (setReset b) = record { now = sf; cut = λ r. sf } in
         xres-reaches f st sf (p .quiet) λ st₁.
         attempts f 29 1 0 k (setReset b) (idleAt x) refl (thirty (withMoves setup κ) st₁) not-killed lasting (p .silicon) λ id e₂ st₂.
-        transfer f aCtrl st₂ not-killed (barred-off (i .geometry) (WriteSetup CtrlStat 0x54000000) (setReset b) refl) lasting (λ o. lasting) (λ o. unsealed (same-running (setReset b) (setReset b) refl)) λ _ e₃ _ st₃.
-        transfer f aSelect st₃ not-killed (barred-off (i .geometry) (WriteSetup Select 0) (setReset b) refl) lasting (λ o. lasting) (λ o. unsealed (same-running (setReset b) (setReset b) refl)) λ _ e₄ _ st₄.
-        transfer f aCsw st₄ not-killed (barred-off (i .geometry) (WriteSetup Csw 2) (setReset b) refl) lasting (λ o. lasting) (λ o. unsealed (same-running (setReset b) (setReset b) refl)) λ _ e₅ _ st₅.
+        transfer f aCtrl st₂ not-killed (barred-off (i .geometry) (WriteSetup CtrlStat 0x54000000) (setReset b) refl) lasting (λ o. lasting) (λ o. without (same-running (setReset b) (setReset b) refl)) λ _ e₃ _ st₃.
+        transfer f aSelect st₃ not-killed (barred-off (i .geometry) (WriteSetup Select 0) (setReset b) refl) lasting (λ o. lasting) (λ o. without (same-running (setReset b) (setReset b) refl)) λ _ e₄ _ st₄.
+        transfer f aCsw st₄ not-killed (barred-off (i .geometry) (WriteSetup Csw 2) (setReset b) refl) lasting (λ o. lasting) (λ o. without (same-running (setReset b) (setReset b) refl)) λ _ e₅ _ st₅.
         write-reaches f 1 TEST-MODE 0x80000000 st₅ AtTestMode (place-test (i .geometry) fx) (admits (b .memory .stored) AtTestMode refl answers) lasting lasting refl λ e₆ _ st₆.
         read-still f 1 TEST-MODE TestBit st₆ AtTestMode (place-test (i .geometry) fx) (admits (b .memory .stored) AtTestMode refl answers) lasting (λ o. 0x80000000) (λ o z. refl) λ _ _ e₇ _ st₇.
         poll-idle f (place-sysreq (i .geometry) fx) 1 _ (one-poll (withMoves (imoCall (i .geometry) (imoOf (i .geometry))) κ) st₇) (admits (b .memory .stored) AtSysreq refl answers) sf refl free-zero λ e₈ _ st₈.

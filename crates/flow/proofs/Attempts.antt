@@ -26,7 +26,7 @@ use Rattle.flow.specs.declared.Request.the-variants.{Xres, LineReset, Re
 use Rattle.flow.specs.declared.Silicon.{Silicon}
 use Rattle.flow.specs.declared.TransferOutcome.the-variants.{Clean}
 use Rattle.flow.proofs.Hearing.{attempt, meets, listsAfter, Heard, heardOkay, heardWait, heardError, heardErrorDone, hears}
-use Rattle.flow.proofs.Reaches.{Allowance, Env, sync, Frame, Lasting, at-rest, Stood, at-move, at-next, Turn, stays, same-running, Reaches, stop, Next, steps, clear}
+use Rattle.flow.proofs.Reaches.{Allowance, Env, sync, Frame, Lasting, at-rest, Stood, at-move, at-next, Turn, without, same-running, Reaches, stop, Next, steps, clear}
 use Rattle.flow.proofs.Transfer.{more, passed, calm-event, calm-rest}
 use Rattle.image.specs.Image.{Image}
 use Rattle.parts.specs.declared.Geometry.{Geometry}
@@ -45,8 +45,8 @@ abbrev pub reset-by : Request → Env → Env
 reset-by q e = record { lists = e .lists; delays = e .delays; traffic = counting q (e .traffic) }
 
 module _ {i : Image} (f : Frame i) where
-  going-on : {z : Bool} {b : Target} {r : Run} → Turn z b (r .target) z → Reaches f z r → Next f z b r
-  going-on {z} t l = record { after = z; turn = t; reaches = l }
+  going-on : {s : ℕ} {z : Bool} {b : Target} {r : Run} → Turn s z b (r .target) z → Reaches f z r → Next f s z b r
+  going-on {z = z} t l = record { after = z; turn = t; reaches = l }
 
   -- XRES, with nothing under way
   pub xres-reaches : {z : Bool} {s : ℕ} {u : Purpose} {y : Entry} {n k : ℕ} {ms : List Move} {κ : Allowance} {e : Env} {b : Target} {t : Watch}
@@ -54,9 +54,9 @@ module _ {i : Image} (f : Frame i) where
       → (Stood f y (suc n) ms κ (reset-by Xres e) → Reaches f z (sync y (suc n) 0 0 k (setReset b) t (reset-by Xres e)))
       → Reaches f z (sync y n 0 0 k b t e)
   xres-reaches {z} {s} {u} {y} {n} {k} {ms} {κ} {e} {b} {t} st safe quiet next =
-      steps f (sync y n 0 0 k b t e) (sync y (suc n) 0 0 k (setReset b) t (reset-by Xres e)) refl (at-rest (f .Safe z) b quiet safe)
+      steps f (sync y n 0 0 k b t e) (sync y (suc n) 0 0 k (setReset b) t (reset-by Xres e)) refl (ap (λ (m : Move). m .step) (at-move st)) (at-rest (f .Safe z) b quiet safe)
       (rw (at-move st) (record { transfers = omega (arith, st .room); xresets = omega (arith, st .xres); lineResets = omega (arith, st .lines) })) (clear noWaits 0 0 t (e .delays))
-      arrives (going-on (stays (rw quiet refl))
+      arrives (going-on (without (rw quiet refl))
       (next (record { at = at-next st; accounted = st .accounted; room = st .room; xres = omega (arith, st .xres); lines = st .lines; calm = λ still. let c = st .calm still in record { line = c .line; calls = c .calls; none = c .none } })))
     where
       arrives : advance i (sync y n 0 0 k b t e) ≡ sync y (suc n) 0 0 k (setReset b) t (reset-by Xres e)
@@ -67,9 +67,9 @@ module _ {i : Image} (f : Frame i) where
       → (Stood f y (suc n) ms κ (reset-by LineReset e) → Reaches f z (sync y (suc n) 0 a k b t (reset-by LineReset e)))
       → Reaches f z (sync y n 0 a k b t e)
   line-reaches {z} {s} {u} {y} {n} {a} {k} {ms} {κ} {e} {b} {t} st safe next =
-      steps f (sync y n 0 a k b t e) (sync y (suc n) 0 a k b t (reset-by LineReset e)) refl safe
+      steps f (sync y n 0 a k b t e) (sync y (suc n) 0 a k b t (reset-by LineReset e)) refl (ap (λ (m : Move). m .step) (at-move st)) safe
       (rw (at-move st) (record { transfers = omega (arith, st .room); xresets = omega (arith, st .xres); lineResets = omega (arith, st .lines) })) (clear noWaits 0 a t (e .delays))
-      arrives (going-on (stays (same-running b b refl))
+      arrives (going-on (without (same-running b b refl))
       (next (record { at = at-next st; accounted = st .accounted; room = st .room; xres = st .xres; lines = omega (arith, st .lines); calm = λ still. let c = st .calm still in record { line = c .line; calls = c .calls; none = c .none } })))
     where
       arrives : advance i (sync y n 0 a k b t e) ≡ sync y (suc n) 0 a k b t (reset-by LineReset e)
@@ -110,7 +110,7 @@ module _ {i : Image} (f : Frame i) where
   unfolding carry judge noticed
   attempt-once m s {z} {y} {n} {ms} {κ} {e} a k b t st not-killed safe own onMiss next =
       line-reaches (record { at = st .at; accounted = st .accounted; room = st .room; xres = st .xres; lines = omega (arith, st .lines); calm = st .calm }) safe λ st₁.
-      steps f (sync y (suc n) 0 a k b t e₁) met refl safe
+      steps f (sync y (suc n) 0 a k b t e₁) met refl (ap (λ (m : Move). m .step) (at-move st₁)) safe
       (rw (at-move st₁) (record { transfers = omega (arith, st₁ .room); xresets = omega (arith, st₁ .xres); lineResets = omega (arith, st₁ .lines) })) (clear noWaits 0 a t (e .delays))
       (arrives a k b t st₁) (by st₁ (hears (i .geometry) (e .lists) b attempt (nextEvent (e .lists .line)) not-killed (barred-off (i .geometry) ReadIdcode b refl)))
     where
@@ -147,10 +147,10 @@ module _ {i : Image} (f : Frame i) where
       fit st₁ true h = next (mine true h) (passed (listsAfter (i .geometry) ReadIdcode b (e .lists)) e₁) (stood st₁)
       fit st₁ false h = stop (f .wrongId s noWaits 0 0 b _ t (e .delays) _ safe (mine false h))
 
-      same : Turn z b b z
-      same = stays (same-running b b refl)
+      same : Turn s z b b z
+      same = without (same-running b b refl)
 
-      by : Stood f y (suc n) (move s ReadIdcode Idcode ∷ ms) (afterLine m κ) e₁ → Heard (i .geometry) ReadIdcode (nextEvent (e .lists .line)) (e .lists) b (metBy b e₁) → Next f z b met
+      by : Stood f y (suc n) (move s ReadIdcode Idcode ∷ ms) (afterLine m κ) e₁ → Heard (i .geometry) ReadIdcode (nextEvent (e .lists .line)) (e .lists) b (metBy b e₁) → Next f s z b met
       by st₁ (heardOkay hb hv hl) = rw (hb, hv, hl) (going-on same (fit st₁ (eqb (b .silicon .idcode) 0x0BB11477) refl))
       by st₁ (heardWait bad hb hv hl) = rw (hb, hv, hl) (going-on same (onMiss (not-calm bad) _ st₁))
       by st₁ (heardError c hn bad hb hv) = rw (hb, hv) (going-on same (onMiss (not-calm bad) _ st₁))

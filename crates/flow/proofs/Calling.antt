@@ -10,7 +10,7 @@ use Rattle.flow.specs.Terms.{CalmCalls, callsEnd, calmCall}
 use Rattle.flow.specs.Exchange.{isCall}
 use Rattle.flow.specs.Judge.{free, succeeded, judge}
 use Rattle.flow.specs.Monitor.{Watch, noticeRead}
-use Rattle.flow.specs.Sealing.{locksMacro0, seals}
+use Rattle.flow.specs.Sealing.{onMacro0, succeeds0, reopens}
 use Rattle.flow.specs.Sequence.{call, poll, read, write}
 use Rattle.flow.specs.Target.{Target, Residue, CallOutcome, idle, busy, nextOutcome}
 use Rattle.flow.specs.declared.Entry.{Entry}
@@ -20,7 +20,7 @@ use Rattle.flow.specs.declared.Purpose.the-variants.{Status}
 use Rattle.flow.proofs.Access.{aim, Answering, admits, write-reaches, call-reaches, read-still}
 use Rattle.flow.proofs.Places.{place-sysreq, place-sysarg}
 use Rattle.flow.proofs.Polling.{idleAt, during, looping, loopAt, poll-busy}
-use Rattle.flow.proofs.Reaches.{Allowance, withTransfer, withMoves, Env, sync, Frame, at-rest, Stood, Stands, less-room, Turn, stays, sealing, and-false, Reaches, stop}
+use Rattle.flow.proofs.Reaches.{Allowance, withTransfer, withMoves, Env, sync, Frame, at-rest, Stood, Stands, less-room, Turn, without, reopening, sealing, and-false, Reaches, stop}
 use Rattle.flow.proofs.Table.{Facts}
 use Rattle.image.specs.Image.{Image}
 use Rattle.parts.specs.Sizes.{sysreqOf, sysargOf}
@@ -86,27 +86,30 @@ unfolding free
 free-zero = refl
 
 -- SYSARG of a failed call says no success
-fails-unsealed : (g : Geometry) (r : Residue) (c a v a′ v′ : ℕ) (b : Target) → seals (aim a v (during (busy 0 false r c) b)) (aim a′ v′ (finish g false r c b)) ≡ false
+fails-without : (g : Geometry) (r : Residue) (c a v a′ v′ : ℕ) (b : Target) → succeeds0 (aim a v (during (busy 0 false r c) b)) (aim a′ v′ (finish g false r c b)) ≡ false
 unfolding finish
-fails-unsealed g r c a v a′ v′ b = rw (failed (r .sysarg)) (and-false (locksMacro0 (busy 0 false r c) (b .effect) (b .sysarg)))
+fails-without g r c a v a′ v′ b = rw (failed (r .sysarg)) (and-false (onMacro0 (busy 0 false r c) (b .sysarg)))
 
--- a call that seals nothing, or the one that locks macro 0
-pub data Ends (c : ℕ) (b : Target) : Bool → Bool → Type 0 where
-  ordinary : {z : Bool} → ((r : Residue) → locksMacro0 (busy 0 true r c) (b .effect) (b .sysarg) ≡ false) → Ends c b z z
-  locking : ((r : Residue) → locksMacro0 (busy 0 true r c) (b .effect) (b .sysarg) ≡ true) → Ends c b false true
+-- a call of step s that is no 0x0D for macro 0, step 3's, or step 7's: whether the board is sealed before it, and once it has succeeded
+pub data Ends (s c : ℕ) (b : Target) : Bool → Bool → Type 0 where
+  ordinary : {z : Bool} → ((r : Residue) → onMacro0 (busy 0 true r c) (b .sysarg) ≡ false) → Ends s c b z z
+  unlocking : reopens b ≡ true → s ≡ 3 → Ends s c b false false
+  locking : ((r : Residue) → onMacro0 (busy 0 true r c) (b .sysarg) ≡ true) → reopens b ≡ false → s ≡ 7 → Ends s c b false true
 
-end-turn : (g : Geometry) {c : ℕ} {b : Target} {z z′ : Bool} → Ends c b z z′ → succeeded (sysargAfter c (b .silicon) (b .memory)) ≡ true → (r : Residue) (a v a′ v′ : ℕ)
-    → Turn z (aim a v (during (busy 0 true r c) b)) (aim a′ v′ (finish g true r c b)) z′
+end-turn : (g : Geometry) {s c : ℕ} {b : Target} {z z′ : Bool} → Ends s c b z z′ → succeeded (sysargAfter c (b .silicon) (b .memory)) ≡ true → (r : Residue) (a v a′ v′ : ℕ)
+    → Turn s z (aim a v (during (busy 0 true r c) b)) (aim a′ v′ (finish g true r c b)) z′
 unfolding finish
-end-turn g (ordinary h) good r a v a′ v′ = stays (rw (h r))
-end-turn g {c} {b} (locking h) good r a v a′ v′ = sealing {b = aim a v (during (busy 0 true r c) b)} {b′ = aim a′ v′ (finish g true r c b)} (rw (h r, good))
+end-turn g {c = c} {b = b} (ordinary h) good r a v a′ v′ = without {b = aim a v (during (busy 0 true r c) b)} {b′ = aim a′ v′ (finish g true r c b)} (rw (h r))
+end-turn g {c = c} {b = b} (unlocking h e) good r a v a′ v′ =
+    reopening {b = aim a v (during (busy 0 true r c) b)} {b′ = aim a′ v′ (finish g true r c b)} (rw h (and-false (succeeds0 (aim a v (during (busy 0 true r c) b)) (aim a′ v′ (finish g true r c b))))) e
+end-turn g {c = c} {b = b} (locking h k e) good r a v a′ v′ = sealing {b = aim a v (during (busy 0 true r c) b)} {b′ = aim a′ v′ (finish g true r c b)} (rw (h r, good, k)) e
 
 module _ {i : Image} (f : Frame i) (fx : Facts (i .geometry)) where
   -- from the poll on
   call-tail : {z z′ : Bool} (s₀ : Bool) (r₀ : Residue) (q c s : ℕ) {y : Entry} {n : ℕ} {ms : List Move} {κ : Allowance} {e : Env} {k : ℕ} (b : Target) (x u : ℕ) {v : Bool}
       → Stood f y n (poll (i .geometry) s ++ (read s (sysargOf (i .geometry)) Status ++ ms)) (looping 9999 (withTransfer (withTransfer (withTransfer κ)))) e
       → Answering (b .effect) → f .Safe z (b .memory) → ((r : Residue) → f .Safe z′ ((finish (i .geometry) true r c b) .memory)) → ((r : Residue) → f .Safe z ((finish (i .geometry) false r c b) .memory))
-      → Ends c b z z′
+      → Ends s c b z z′
       → (f .Still → q ≡ 0) → (f .Still → s₀ ≡ true)
       → free (sysreqAfter c (b .silicon) (b .effect)) ≡ true → succeeded (sysargAfter c (b .silicon) (b .memory)) ≡ true
       → (next : (b′ : Target) → Returned (i .geometry) c (b .sysarg) b b′ → (n′ : ℕ) (e′ : Env) → Stood f y n′ ms κ e′
@@ -114,13 +117,13 @@ module _ {i : Image} (f : Frame i) (fx : Facts (i .geometry)) where
       → Reaches f z (sync y n 0 0 k (aim x u (during (busy q s₀ r₀ c) b)) (loopAt x v true) e)
   unfolding finish judge noticeRead
   call-tail true r₀ q c s b x u st answering safe won lost ends idles wins ready good next =
-      poll-busy f (place-sysreq (i .geometry) fx) true r₀ c b (admits (b .effect) AtSysreq refl answering) safe lost (won r₀) ready (λ a v a′ v′. end-turn (i .geometry) ends good r₀ a v a′ v′) q 9999 s 0 x u refl st idles λ e₁ h₁ st₁.
+      poll-busy f (place-sysreq (i .geometry) fx) s true r₀ c b (admits (b .effect) AtSysreq refl answering) safe lost (won r₀) ready (λ a v a′ v′. end-turn (i .geometry) ends good r₀ a v a′ v′) q 9999 0 x u refl st idles λ e₁ h₁ st₁.
       read-still f s (sysargOf (i .geometry)) Status st₁ AtSysarg (place-sysarg (i .geometry) fx) (admits (b .effect) AtSysarg refl answering) (record { now = won r₀; cut = λ r. won r₀ })
       (λ o. sysargAfter c (b .silicon) (b .memory)) (λ o z. refl) λ o o′ e₂ h₂ st₂.
       rw (good, status-is (sysargAfter c (b .silicon) (b .memory)), good) (
       next _ (record { silicon = refl; effect = refl; params = refl; memory = refl; sysarg = refl; sysreq = refl; ended = refl }) _ e₂ st₂)
   call-tail false r₀ q c s b x u st answering safe won lost ends idles wins ready good next =
-      poll-busy f (place-sysreq (i .geometry) fx) false r₀ c b (admits (b .effect) AtSysreq refl answering) safe lost (lost r₀) free-zero (λ a v a′ v′. stays (fails-unsealed (i .geometry) r₀ c a v a′ v′ b)) q 9999 s 0 x u refl st idles λ e₁ h₁ st₁.
+      poll-busy f (place-sysreq (i .geometry) fx) s false r₀ c b (admits (b .effect) AtSysreq refl answering) safe lost (lost r₀) free-zero (λ a v a′ v′. without (fails-without (i .geometry) r₀ c a v a′ v′ b)) q 9999 0 x u refl st idles λ e₁ h₁ st₁.
       read-still f s (sysargOf (i .geometry)) Status st₁ AtSysarg (place-sysarg (i .geometry) fx) (admits (b .effect) AtSysarg refl answering) (record { now = lost r₀; cut = λ r. lost r₀ })
       (λ o. failedArg (r₀ .sysarg)) (λ o z. refl) λ o o′ e₂ h₂ st₂.
       rw (failed (r₀ .sysarg), status-is (failedArg (r₀ .sysarg)), failed (r₀ .sysarg)) (
@@ -140,7 +143,7 @@ module _ {i : Image} (f : Frame i) (fx : Facts (i .geometry)) where
   pub calling : {z z′ : Bool} (s c w : ℕ) {y : Entry} {n : ℕ} {ms : List Move} {κ : Allowance} {e : Env} {k : ℕ} {b : Target} {t : Watch}
       → Command c → Stands f y n (call (i .geometry) s c w) ms κ e
       → Answering (b .effect) → b .running ≡ idle → f .Safe z (b .memory) → ((r : Residue) → f .Safe z′ ((finish (i .geometry) true r c (asked c w b)) .memory)) → ((r : Residue) → f .Safe z ((finish (i .geometry) false r c (asked c w b)) .memory))
-      → Ends c (asked c w b) z z′
+      → Ends s c (asked c w b) z z′
       → free (sysreqAfter c (b .silicon) (b .effect)) ≡ true → succeeded (sysargAfter c (b .silicon) (b .memory)) ≡ true
       → (next : (b′ : Target) → Returned (i .geometry) c w b b′ → (n′ : ℕ) (e′ : Env) → Stood f y n′ ms κ e′
       → Reaches f z′ (sync y n′ 0 0 k b′ (idleAt (sysargOf (i .geometry))) e′))

@@ -21,7 +21,7 @@ use Rattle.flow.specs.declared.Move.{Move}
 use Rattle.flow.specs.declared.Purpose.the-variants.{Keep, EntryLevel, Reopened}
 use Rattle.flow.proofs.Access.{Answering}
 use Rattle.flow.proofs.Acquiring.{Fresh, Acquired, acquired-with, acquire-leg, Bytes, ids-read, level-read, silicon-reaches}
-use Rattle.flow.proofs.Calling.{Returned, ordinary, calling}
+use Rattle.flow.proofs.Calling.{Returned, unlocking, calling}
 use Rattle.flow.proofs.Finishing.{Blank, nothing, program-reaches}
 use Rattle.flow.proofs.Legs.{core}
 use Rattle.flow.proofs.Listing.{ListReturned, listing}
@@ -111,7 +111,7 @@ module _ {i : Image} (f : Frame i) (fx : Facts (i .geometry)) (v : Valid i) (hb 
   unfolding afterwards silicon read withMoves judge
   protected-reaches {b = b} right two p st =
       calling f fx 3 0x0D reopenWord (callD .command) (split (call (i .geometry) 3 0x0D reopenWord) (acquire (i .geometry) ++ (silicon (i .geometry) Reopened ++ program i)) [] nothing st)
-      (inr (p .effect ∙ two)) (p .fresh .quiet) (rw (p .fresh .memory) safe) (λ r. safe-reopen f right true r _ (p .effect ∙ two) refl (rw (p .fresh .memory) safe)) (λ r. safe-reopen f right false r _ (p .effect ∙ two) refl (rw (p .fresh .memory) safe)) (ordinary (λ r. rw (p .effect, two))) (callD .ready _ _) (callD .good _ _) λ b₁ ret n₁ e₁ st₁.
+      (inr (p .effect ∙ two)) (p .fresh .quiet) (rw (p .fresh .memory) safe) (λ r. safe-reopen f right true r _ (p .effect ∙ two) refl (rw (p .fresh .memory) safe)) (λ r. safe-reopen f right false r _ (p .effect ∙ two) refl (rw (p .fresh .memory) safe)) (unlocking (rw (p .effect, two)) refl) (callD .ready _ _) (callD .good _ _) λ b₁ ret n₁ e₁ st₁.
       (acquire-leg f fx FromProtected (zeroed 1 m) (inl refl) (f .safeOpen right _ refl)) .along _ _ _ _ _ _ _ (fresh b₁ ret)
       (split (acquire (i .geometry)) (silicon (i .geometry) Reopened ++ program i) [] nothing st₁) λ k₂ b₂ a₂ n₂ x₂ e₂ st₂.
       silicon-reaches f fx (zeroed 1 m) (inl refl) (f .safeOpen right _ refl) hb (omega arith) Reopened a₂

@@ -59,8 +59,8 @@ safe-D {i} f r l m b h ha new old = by (r .newLevel && true && eqb (macroSent (b
     by false e = old _ (rw e)
 
 -- macro 0's call seals, no other
-ends-D : (l m : ℕ) (b : Target) → l < 16 → b .effect ≡ 1 → b .sysarg ≡ lockWord l m → Ends 0x0D b false (eqb m 0)
-ends-D l zero b h one e = locking (λ r. rw (one, e, sent-macro l 0 h))
+ends-D : (l m : ℕ) (b : Target) → l < 16 → b .effect ≡ 1 → b .sysarg ≡ lockWord l m → Ends 7 0x0D b false (eqb m 0)
+ends-D l zero b h one e = locking (λ r. rw (e, sent-macro l 0 h)) (rw one) refl
 ends-D l (suc m) b h one e = rw (eqb·suc-zero m) (ordinary (λ r. rw (e, sent-macro l (suc m) h, eqb·suc-zero m)))
 
 module _ {i : Image} (f : Frame i) (fx : Facts (i .geometry)) (v : Valid i) (m : ℕ) (room : m < macrosOf (i .geometry)) where

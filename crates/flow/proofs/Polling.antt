@@ -18,7 +18,7 @@ use Rattle.flow.specs.declared.Move.{Move}
 use Rattle.flow.specs.declared.Place.the-variants.{AtSysreq}
 use Rattle.flow.specs.declared.Purpose.the-variants.{Poll}
 use Rattle.flow.proofs.Access.{aim, Admits, read-any, read-still}
-use Rattle.flow.proofs.Reaches.{Allowance, withTransfer, Env, sync, Frame, Lasting, at-rest, Stood, less-room, Turn, stays, same-running, not-idle, Reaches, stop}
+use Rattle.flow.proofs.Reaches.{Allowance, withTransfer, Env, sync, Frame, Lasting, at-rest, Stood, less-room, Turn, without, same-running, not-idle, Reaches, stop}
 use Rattle.image.specs.Image.{Image}
 use Rattle.parts.specs.Sizes.{sysreqOf}
 use Rattle.parts.specs.declared.Geometry.{Geometry}
@@ -123,10 +123,10 @@ module _ {i : Image} (f : Frame i) (hp : place (i .geometry) (sysreqOf (i .geome
       read-still f s (sysreqOf (i .geometry)) Poll st AtSysreq hp ok (at-rest (f .Safe z) b rest safe) (λ o. b .sysreq) (λ o z. rw rest) λ o o′ e′ h st′.
       rw (ready, polls-agree (b .sysreq), ready) (next e′ h st′)
 
-  module _ (s₀ : Bool) (r₀ : Residue) (c₀ : ℕ) (b : Target) (ok : Admits (b .effect) AtSysreq) {z z′ : Bool} (safe : f .Safe z (b .memory))
+  module _ (s : ℕ) (s₀ : Bool) (r₀ : Residue) (c₀ : ℕ) (b : Target) (ok : Admits (b .effect) AtSysreq) {z z′ : Bool} (safe : f .Safe z (b .memory))
       (fails : (r : Residue) → f .Safe z (afterFailure c₀ (b .sysarg) r (b .memory)))
       (safe′ : f .Safe z′ ((finish (i .geometry) s₀ r₀ c₀ b) .memory)) (ready : free ((finish (i .geometry) s₀ r₀ c₀ b) .sysreq) ≡ true)
-      (turn : (a x a′ x′ : ℕ) → Turn z (aim a x (during (busy 0 s₀ r₀ c₀) b)) (aim a′ x′ (finish (i .geometry) s₀ r₀ c₀ b)) z′) where
+      (turn : (a x a′ x′ : ℕ) → Turn s z (aim a x (during (busy 0 s₀ r₀ c₀) b)) (aim a′ x′ (finish (i .geometry) s₀ r₀ c₀ b)) z′) where
     abbrev over : Target
     over = finish (i .geometry) s₀ r₀ c₀ b
 
@@ -150,52 +150,52 @@ module _ {i : Image} (f : Frame i) (hp : place (i .geometry) (sysreqOf (i .geome
     }
 
     -- q busy reads are left; after this poll m more are allowed
-    pub poll-busy : (q m s : ℕ) {y : Entry} {n : ℕ} {ms : List Move} {κ : Allowance} {e : Env} {a k : ℕ} (p x v : ℕ) {c d : Bool}
+    pub poll-busy : (q m : ℕ) {y : Entry} {n : ℕ} {ms : List Move} {κ : Allowance} {e : Env} {a k : ℕ} (p x v : ℕ) {c d : Bool}
         → p + suc m ≡ 10000 → Stood f y n (poll (i .geometry) s ++ ms) (looping m κ) e → (f .Still → q ≡ 0)
         → (next : (e′ : Env) → e′ .lists .calls ≡ e .lists .calls → Stood f y (suc (suc (suc n))) ms κ e′
         → Reaches f z′ (sync y (suc (suc (suc n))) 0 a k (aim (sysreqOf (i .geometry)) (over .sysreq) over) (record { tar = sysreqOf (i .geometry); counts = false; polling = false; due = d }) e′))
         → Reaches f z (sync y n p a k (aim x v (during (busy q s₀ r₀ c₀) b)) (loopAt x c d) e)
     unfolding judge noticeRead
-    poll-busy zero m s {κ = κ} p x v count st calm next =
+    poll-busy zero m {κ = κ} p x v count st calm next =
         read-any f s (sysreqOf (i .geometry)) Poll (this-poll κ m st) AtSysreq hp ok going
         (λ o. aim (sysreqOf (i .geometry)) (over .sysreq) over) (λ o o′. aim (sysreqOf (i .geometry)) (over .sysreq) over)
         (λ o. fetch-last (i .geometry) s₀ r₀ c₀ (sysreqOf (i .geometry)) v o b) (λ o o′. fetch-ended (i .geometry) s₀ r₀ c₀ (sysreqOf (i .geometry)) (over .sysreq) o′ b)
         (λ o. refl) (λ o. finish-effect (i .geometry) s₀ r₀ c₀ b) (λ o. gone) (λ o o′. gone)
-        (λ o. turn _ _ _ _) (λ o o′. stays (same-running (aim (sysreqOf (i .geometry)) (over .sysreq) over) (aim (sysreqOf (i .geometry)) (over .sysreq) over) refl)) λ o o′ e′ h st′.
+        (λ o. turn _ _ _ _) (λ o o′. without (same-running (aim (sysreqOf (i .geometry)) (over .sysreq) over) (aim (sysreqOf (i .geometry)) (over .sysreq) over) refl)) λ o o′ e′ h st′.
         rw (ready, polls-agree (over .sysreq), ready) (next e′ h (last-poll κ m st′))
-    poll-busy (suc zero) zero s {κ = κ} p x v count st calm next =
+    poll-busy (suc zero) zero {κ = κ} p x v count st calm next =
         read-any f s (sysreqOf (i .geometry)) Poll (this-poll κ 0 st) AtSysreq hp ok going
         (λ o. aim (sysreqOf (i .geometry)) (busyWord o) (during (busy 0 s₀ r₀ c₀) b)) (λ o o′. aim (sysreqOf (i .geometry)) (over .sysreq) over)
         (λ o. refl) (λ o o′. fetch-last (i .geometry) s₀ r₀ c₀ (sysreqOf (i .geometry)) (busyWord o) o′ b)
         (λ o. refl) (λ o. refl) (λ o. going) (λ o o′. gone)
-        (λ o. stays (not-idle (aim (sysreqOf (i .geometry)) v (during (busy 1 s₀ r₀ c₀) b)) (aim (sysreqOf (i .geometry)) (busyWord o) (during (busy 0 s₀ r₀ c₀) b)) refl)) (λ o o′. turn _ _ _ _) λ o o′ e′ h st′.
+        (λ o. without (not-idle (aim (sysreqOf (i .geometry)) v (during (busy 1 s₀ r₀ c₀) b)) (aim (sysreqOf (i .geometry)) (busyWord o) (during (busy 0 s₀ r₀ c₀) b)) refl)) (λ o o′. turn _ _ _ _) λ o o′ e′ h st′.
         rw (busy-word o, polls-agree (busyWord o), busy-word o, le-ltb (suc p) 10000 (omega arith)) (stop (f .caught 18 s _ _ _ (lit≤ tt) (λ still. let e = calm still in omega arith) gone))
-    poll-busy (suc zero) (suc m) s {n = n} {κ = κ} p x v count st calm next =
+    poll-busy (suc zero) (suc m) {n = n} {κ = κ} p x v count st calm next =
         let again : suc (suc n) - 2 ≡ n = omega arith in
         read-any f s (sysreqOf (i .geometry)) Poll (this-poll κ (suc m) st) AtSysreq hp ok going
         (λ o. aim (sysreqOf (i .geometry)) (busyWord o) (during (busy 0 s₀ r₀ c₀) b)) (λ o o′. aim (sysreqOf (i .geometry)) (over .sysreq) over)
         (λ o. refl) (λ o o′. fetch-last (i .geometry) s₀ r₀ c₀ (sysreqOf (i .geometry)) (busyWord o) o′ b)
         (λ o. refl) (λ o. refl) (λ o. going) (λ o o′. gone)
-        (λ o. stays (not-idle (aim (sysreqOf (i .geometry)) v (during (busy 1 s₀ r₀ c₀) b)) (aim (sysreqOf (i .geometry)) (busyWord o) (during (busy 0 s₀ r₀ c₀) b)) refl)) (λ o o′. turn _ _ _ _) λ o o′ e′ h st′.
+        (λ o. without (not-idle (aim (sysreqOf (i .geometry)) v (during (busy 1 s₀ r₀ c₀) b)) (aim (sysreqOf (i .geometry)) (busyWord o) (during (busy 0 s₀ r₀ c₀) b)) refl)) (λ o o′. turn _ _ _ _) λ o o′ e′ h st′.
         rw (busy-word o, polls-agree (busyWord o), busy-word o, lt-ltb (suc p) 10000 (omega arith), again) (
         poll-idle s (aim (sysreqOf (i .geometry)) (over .sysreq) over) (this-poll κ m (back κ m st st′ (λ still. let e = calm still in omega arith)))
         (rw (finish-effect (i .geometry) s₀ r₀ c₀ b) ok) safe′ (finish-idle (i .geometry) s₀ r₀ c₀ b) ready λ e″ h″ st″.
         next e″ (h″ ∙ h) (last-poll κ m st″))
-    poll-busy (suc (suc q)) zero s {κ = κ} p x v count st calm next =
+    poll-busy (suc (suc q)) zero {κ = κ} p x v count st calm next =
         read-any f s (sysreqOf (i .geometry)) Poll (this-poll κ 0 st) AtSysreq hp ok going
         (λ o. aim (sysreqOf (i .geometry)) (busyWord o) (during (busy (suc q) s₀ r₀ c₀) b)) (λ o o′. aim (sysreqOf (i .geometry)) (busyWord o′) (during (busy q s₀ r₀ c₀) b))
         (λ o. refl) (λ o o′. refl) (λ o. refl) (λ o. refl) (λ o. going) (λ o o′. going)
-        (λ o. stays (not-idle (aim (sysreqOf (i .geometry)) v (during (busy (suc (suc q)) s₀ r₀ c₀) b)) (aim (sysreqOf (i .geometry)) (busyWord o) (during (busy (suc q) s₀ r₀ c₀) b)) refl))
-        (λ o o′. stays (not-idle (aim (sysreqOf (i .geometry)) (busyWord o) (during (busy (suc q) s₀ r₀ c₀) b)) (aim (sysreqOf (i .geometry)) (busyWord o′) (during (busy q s₀ r₀ c₀) b)) refl)) λ o o′ e′ h st′.
+        (λ o. without (not-idle (aim (sysreqOf (i .geometry)) v (during (busy (suc (suc q)) s₀ r₀ c₀) b)) (aim (sysreqOf (i .geometry)) (busyWord o) (during (busy (suc q) s₀ r₀ c₀) b)) refl))
+        (λ o o′. without (not-idle (aim (sysreqOf (i .geometry)) (busyWord o) (during (busy (suc q) s₀ r₀ c₀) b)) (aim (sysreqOf (i .geometry)) (busyWord o′) (during (busy q s₀ r₀ c₀) b)) refl)) λ o o′ e′ h st′.
         rw (busy-word o, polls-agree (busyWord o), busy-word o, le-ltb (suc p) 10000 (omega arith)) (stop (f .caught 18 s _ _ _ (lit≤ tt) (λ still. let e = calm still in omega arith) going))
-    poll-busy (suc (suc q)) (suc m) s {n = n} {κ = κ} p x v count st calm next =
+    poll-busy (suc (suc q)) (suc m) {n = n} {κ = κ} p x v count st calm next =
         let again : suc (suc n) - 2 ≡ n = omega arith in
         read-any f s (sysreqOf (i .geometry)) Poll (this-poll κ (suc m) st) AtSysreq hp ok going
         (λ o. aim (sysreqOf (i .geometry)) (busyWord o) (during (busy (suc q) s₀ r₀ c₀) b)) (λ o o′. aim (sysreqOf (i .geometry)) (busyWord o′) (during (busy q s₀ r₀ c₀) b))
         (λ o. refl) (λ o o′. refl) (λ o. refl) (λ o. refl) (λ o. going) (λ o o′. going)
-        (λ o. stays (not-idle (aim (sysreqOf (i .geometry)) v (during (busy (suc (suc q)) s₀ r₀ c₀) b)) (aim (sysreqOf (i .geometry)) (busyWord o) (during (busy (suc q) s₀ r₀ c₀) b)) refl))
-        (λ o o′. stays (not-idle (aim (sysreqOf (i .geometry)) (busyWord o) (during (busy (suc q) s₀ r₀ c₀) b)) (aim (sysreqOf (i .geometry)) (busyWord o′) (during (busy q s₀ r₀ c₀) b)) refl)) λ o o′ e′ h st′.
+        (λ o. without (not-idle (aim (sysreqOf (i .geometry)) v (during (busy (suc (suc q)) s₀ r₀ c₀) b)) (aim (sysreqOf (i .geometry)) (busyWord o) (during (busy (suc q) s₀ r₀ c₀) b)) refl))
+        (λ o o′. without (not-idle (aim (sysreqOf (i .geometry)) (busyWord o) (during (busy (suc q) s₀ r₀ c₀) b)) (aim (sysreqOf (i .geometry)) (busyWord o′) (during (busy q s₀ r₀ c₀) b)) refl)) λ o o′ e′ h st′.
         rw (busy-word o, polls-agree (busyWord o), busy-word o, lt-ltb (suc p) 10000 (omega arith), again) (
-        poll-busy q m s (suc p) (sysreqOf (i .geometry)) (busyWord o′) (omega arith) (back κ m st st′ (λ still. let e = calm still in omega arith))
+        poll-busy q m (suc p) (sysreqOf (i .geometry)) (busyWord o′) (omega arith) (back κ m st st′ (λ still. let e = calm still in omega arith))
         (λ still. let e = calm still in absurd (omega arith)) λ e″ h″ st″.
         next e″ (h″ ∙ h) st″)

@@ -15,7 +15,8 @@ use Rattle.flow.specs.Plan.{Traffic}
 use Rattle.flow.specs.Run.{Run, advance, handedOut}
 use Rattle.flow.specs.Sequence.{sequence, endMove}
 use Rattle.flow.specs.Session.{SessionState, running, reported, moveAt}
-use Rattle.flow.specs.Sealing.{isIdle, locksMacro0, seals, HoldsImage}
+use Rattle.flow.specs.SealedRuns.{stepAt}
+use Rattle.flow.specs.Sealing.{isIdle, onMacro0, succeeds0, seals, HoldsImage}
 use Rattle.flow.specs.Target.{Target, Memory, Residue, Running, idle, busy, Lists}
 use Rattle.flow.specs.declared.Entry.{Entry}
 use Rattle.flow.specs.declared.Move.{Move}
@@ -112,34 +113,31 @@ Lasting S b = record { now : S (b .memory); cut : (r : Residue) → S (cutMemory
 pub at-rest : (S : Memory → Type 0) (b : Target) → b .running ≡ idle → S (b .memory) → Lasting S b
 at-rest S b quiet safe = record { now = safe; cut = λ r. rw quiet safe }
 
--- whether the board is sealed (document 02, One), before a step and after it
-pub data Turn : (before : Bool) → Target → Target → (after : Bool) → Type 0 where
-  unsealed : {b b′ : Target} → seals b b′ ≡ false → Turn false b b′ false
-  sealing : {b b′ : Target} → seals b b′ ≡ true → Turn false b b′ true
-  sealed : {b b′ : Target} → Turn true b b′ true
-
-stays-at : (z : Bool) {b b′ : Target} → seals b b′ ≡ false → Turn z b b′ z
-stays-at true h = sealed
-stays-at false h = unsealed h
-
-pub stays : {z : Bool} {b b′ : Target} → seals b b′ ≡ false → Turn z b b′ z
-stays {z} h = stays-at z h
+-- whether the board is sealed (document 02, One), before a step that stands at flow step s and after it
+pub data Turn (s : ℕ) : (before : Bool) → Target → Target → (after : Bool) → Type 0 where
+  without : {z : Bool} {b b′ : Target} → succeeds0 b b′ ≡ false → Turn s z b b′ z
+  reopening : {b b′ : Target} → seals b b′ ≡ false → s ≡ 3 → Turn s false b b′ false
+  sealing : {b b′ : Target} → seals b b′ ≡ true → s ≡ 7 → Turn s false b b′ true
 
 pub and-false : (y : Bool) → y && false ≡ false
 and-false true = refl
 and-false false = refl
 
--- a call that is not over seals nothing
-pub not-idle : (b b′ : Target) → isIdle (b′ .running) ≡ false → seals b b′ ≡ false
-not-idle b b′ e = rw e (and-false (locksMacro0 (b .running) (b .effect) (b .sysarg)))
+-- a call that is not over has not succeeded
+pub not-idle : (b b′ : Target) → isIdle (b′ .running) ≡ false → succeeds0 b b′ ≡ false
+not-idle b b′ e = rw e (and-false (onMacro0 (b .running) (b .sysarg)))
 
 -- what is under way goes on, or nothing is
-pub same-running : (b b′ : Target) → b′ .running ≡ b .running → seals b b′ ≡ false
+pub same-running : (b b′ : Target) → b′ .running ≡ b .running → succeeds0 b b′ ≡ false
 same-running b b′ e = rw e (by (b .running))
   where
-    by : (r : Running) → locksMacro0 r (b .effect) (b .sysarg) && (isIdle r && succeeded (b′ .sysarg)) ≡ false
+    by : (r : Running) → onMacro0 r (b .sysarg) && (isIdle r && succeeded (b′ .sysarg)) ≡ false
     by idle = refl
-    by (busy n x y c) = and-false (locksMacro0 (busy n x y c) (b .effect) (b .sysarg))
+    by (busy n x y c) = and-false (onMacro0 (busy n x y c) (b .sysarg))
+
+-- then nothing is sealed
+pub no-seal : (b b′ : Target) → succeeds0 b b′ ≡ false → seals b b′ ≡ false
+no-seal b b′ e = rw e
 
 -- what a run is held to: Safe of the memory at each step, Stop where it ends early, Goal where it is to come, each by whether the board is
 -- sealed by then; Still says that the lists were calm at the start
@@ -225,18 +223,18 @@ pub data Reaches {i : Image} (f : Frame i) : (sealed : Bool) → Run → Type 0 
   here : {z : Bool} {r : Run} → f .Goal z r → Reaches f z r
   stop : {z : Bool} {r : Run} → f .Stop z r → Reaches f z r
   step : {z z′ : Bool} {r : Run} → going (r .session) ≡ true → Lasting (f .Safe z) (r .target) → Bounded f (handedOut i r) → NoError (r .monitor)
-      → Turn z (r .target) ((advance i r) .target) z′ → Reaches f z′ (advance i r) → Reaches f z r
+      → Turn (stepAt i (r .session)) z (r .target) ((advance i r) .target) z′ → Reaches f z′ (advance i r) → Reaches f z r
 
 pub clear : (w : Waits) (p a : ℕ) (t : Watch) (d : Delays) → NoError (watching w p a t d)
 clear w p a t d n e = let no : _≡_ {A = ℕ} 0 1 = cc in omega arith
 
--- where a step leads from b, and whether the board is sealed there
-pub record Next {i : Image} (f : Frame i) (z : Bool) (b : Target) (r : Run) : Type 0 where
+-- where a step that stands at flow step s leads from b, and whether the board is sealed there
+pub record Next {i : Image} (f : Frame i) (s : ℕ) (z : Bool) (b : Target) (r : Run) : Type 0 where
   pub after : Bool
-  pub turn : Turn z b (r .target) after
+  pub turn : Turn s z b (r .target) after
   pub reaches : Reaches f after r
 
 -- a step whose outcome is known
-pub steps : {i : Image} (f : Frame i) {z : Bool} (r r′ : Run) → going (r .session) ≡ true → Lasting (f .Safe z) (r .target) → Bounded f (handedOut i r) → NoError (r .monitor) → advance i r ≡ r′
-    → Next f z (r .target) r′ → Reaches f z r
-steps f r r′ goes safe most clean e l = step {z′ = l .after} {r = r} goes safe most clean (rw e (l .turn)) (rw e (l .reaches))
+pub steps : {i : Image} (f : Frame i) {s : ℕ} {z : Bool} (r r′ : Run) → going (r .session) ≡ true → stepAt i (r .session) ≡ s → Lasting (f .Safe z) (r .target) → Bounded f (handedOut i r) → NoError (r .monitor)
+    → advance i r ≡ r′ → Next f s z (r .target) r′ → Reaches f z r
+steps f r r′ goes at safe most clean e l = step {z′ = l .after} {r = r} goes safe most clean (rw (at, e) (l .turn)) (rw e (l .reaches))

@@ -6,15 +6,15 @@ use Prim.Native.Nat.{ℕ, zero, suc, _+_}
 use native.Mathlib.Omega.{arith}
 use Rattle.flow.specs.Cuts.{CutTo}
 use Rattle.flow.specs.Run.{Run, advance, runAfter, started}
-use Rattle.flow.specs.SealedRuns.{SealedHolds, SealedWithin, DoneSealed}
-use Rattle.flow.specs.Sealing.{seals, HoldsImage}
+use Rattle.flow.specs.SealedRuns.{Whose, step7, step3, SealsAtStep7, SealedHolds, SealedWithin, DoneSealed}
+use Rattle.flow.specs.Sealing.{succeeds0, seals, HoldsImage}
 use Rattle.flow.specs.Session.{reported}
 use Rattle.flow.specs.Target.{Target, Lists}
 use Rattle.flow.proofs.Demand.{stays, finished-ends, stopped-ends, not-zero, way}
 use Rattle.flow.proofs.Frames.{Held, Stopped, Finished, frame}
 use Rattle.flow.proofs.Passing.{valid}
 use Rattle.flow.proofs.Phases.{Level}
-use Rattle.flow.proofs.Reaches.{Frame, Lasting, at-rest, going, unsealed, sealing, sealed, same-running, Reaches, here, stop, step}
+use Rattle.flow.proofs.Reaches.{Frame, Lasting, at-rest, going, without, reopening, sealing, same-running, no-seal, Reaches, here, stop, step}
 use Rattle.image.specs.Image.{Image, imageOf}
 
 module _ (i : Image) (lv : Level (i .header .level)) (b : Target) (l : Lists) where
@@ -32,7 +32,7 @@ module _ (i : Image) (lv : Level (i .header .level)) (b : Target) (l : Lists) wh
   no-more n r e h =
       let same : seals ((runAfter i n r) .target) ((runAfter i (suc n) r) .target) ≡ seals (r .target) (r .target) =
       ap (λ (x : Run). seals (x .target) ((runAfter i (suc n) r) .target)) (stays i n r e) ∙ ap (λ (x : Run). seals (r .target) (x .target)) (stays i (suc n) r e) in
-      false≢true (sym (same-running (r .target) (r .target) refl) ∙ sym same ∙ h)
+      false≢true (sym (no-seal (r .target) (r .target) (same-running (r .target) (r .target) refl)) ∙ sym same ∙ h)
 
   held : {z : Bool} (b′ : Target) → Lasting (Held i z) b′ → z ≡ true → Lasting (HoldsImage i) b′
   held b′ s q = record { now = s .now .1 q; cut = λ r. (s .cut r) .1 q }
@@ -42,18 +42,18 @@ module _ (i : Image) (lv : Level (i .header .level)) (b : Target) (l : Lists) wh
   later k r (here g) q = rw (stays i k r (finishes (g .1))) (at-rest (HoldsImage i) (r .target) (g .1 .quiet) (g .1 .holds-image))
   later k r (stop s) q = rw (stays i k r (stops s)) (held (r .target) (s .sound) q)
   later zero r (step g safe most clean turn more) q = held (r .target) safe q
-  later (suc k) r (step g safe most clean (unsealed h) more) q = absurd (false≢true q)
-  later (suc k) r (step g safe most clean (sealing h) more) q = later k (advance i r) more refl
-  later (suc k) r (step g safe most clean sealed more) q = later k (advance i r) more refl
+  later (suc k) r (step g safe most clean (without h) more) q = later k (advance i r) more q
+  later (suc k) r (step g safe most clean (reopening h at) more) q = absurd (false≢true q)
+  later (suc k) r (step g safe most clean (sealing h at) more) q = later k (advance i r) more refl
 
   after-seal : (n k : ℕ) {z : Bool} (r : Run) → Reaches ours z r → seals ((runAfter i n r) .target) ((runAfter i (suc n) r) .target) ≡ true
       → Lasting (HoldsImage i) ((runAfter i (suc n + k) r) .target)
   unfolding runAfter frame
   after-seal n k r (here g) h = absurd (no-more n r (finishes (g .1)) h)
   after-seal n k r (stop s) h = absurd (no-more n r (stops s) h)
-  after-seal zero k r (step g safe most clean (unsealed q) more) h = absurd (false≢true (sym q ∙ h))
-  after-seal zero k r (step g safe most clean (sealing q) more) h = let e : suc 0 + k ≡ suc k = omega arith in rw e (later k (advance i r) more refl)
-  after-seal zero k r (step g safe most clean sealed more) h = let e : suc 0 + k ≡ suc k = omega arith in rw e (later k (advance i r) more refl)
+  after-seal zero k r (step g safe most clean (without q) more) h = absurd (false≢true (sym (no-seal (r .target) ((advance i r) .target) q) ∙ h))
+  after-seal zero k r (step g safe most clean (reopening q at) more) h = absurd (false≢true (sym q ∙ h))
+  after-seal zero k r (step g safe most clean (sealing q at) more) h = let e : suc 0 + k ≡ suc k = omega arith in rw e (later k (advance i r) more refl)
   after-seal (suc n) k r (step g safe most clean turn more) h =
       let e : suc (suc n) + k ≡ suc (suc n + k) = omega arith in
       rw e (after-seal n k (advance i r) more h)
@@ -74,9 +74,30 @@ module _ (i : Image) (lv : Level (i .header .level)) (b : Target) (l : Lists) wh
   on-the-way n r t h (here g) q e = absurd (false≢true (sym q ∙ g .0))
   on-the-way n r t h (stop s) q e = absurd (not-done r t h s (sym (ap (λ (x : Run). x .session) (stays i n r (stops s))) ∙ e))
   on-the-way zero r t h (step g safe most clean turn more) q e = absurd (false≢true (sym (ap going e) ∙ g))
-  on-the-way (suc n) r t h (step g safe most clean (unsealed u) more) q e = sooner n r (on-the-way n (advance i r) t h more refl e)
-  on-the-way (suc n) r t h (step g safe most clean (sealing u) more) q e = record { before = 0; within = omega arith; seals = u }
-  on-the-way (suc n) r t h (step g safe most clean sealed more) q e = absurd (false≢true (sym q))
+  on-the-way (suc n) r t h (step g safe most clean (without u) more) q e = sooner n r (on-the-way n (advance i r) t h more q e)
+  on-the-way (suc n) r t h (step g safe most clean (reopening u at) more) q e = sooner n r (on-the-way n (advance i r) t h more refl e)
+  on-the-way (suc n) r t h (step g safe most clean (sealing u at) more) q e = record { before = 0; within = omega arith; seals = u }
+
+  -- whose a call for macro 0 is that succeeds
+  none-succeeds : (n : ℕ) (r : Run) → going (r .session) ≡ false → succeeds0 ((runAfter i n r) .target) ((runAfter i (suc n) r) .target) ≡ true → ⊥
+  none-succeeds n r e h =
+      let same : succeeds0 ((runAfter i n r) .target) ((runAfter i (suc n) r) .target) ≡ succeeds0 (r .target) (r .target) =
+      ap (λ (x : Run). succeeds0 (x .target) ((runAfter i (suc n) r) .target)) (stays i n r e) ∙ ap (λ (x : Run). succeeds0 (r .target) (x .target)) (stays i (suc n) r e) in
+      false≢true (sym (same-running (r .target) (r .target) refl) ∙ sym same ∙ h)
+
+  later-whose : (n : ℕ) (r : Run) → Whose i (advance i r) n → Whose i r (suc n)
+  unfolding runAfter
+  later-whose n r (step7 at h) = step7 at h
+  later-whose n r (step3 at h) = step3 at h
+
+  whose : (n : ℕ) {z : Bool} (r : Run) → Reaches ours z r → succeeds0 ((runAfter i n r) .target) ((runAfter i (suc n) r) .target) ≡ true → Whose i r n
+  unfolding runAfter frame
+  whose n r (here g) h = absurd (none-succeeds n r (finishes (g .1)) h)
+  whose n r (stop s) h = absurd (none-succeeds n r (stops s) h)
+  whose zero r (step g safe most clean (without q) more) h = absurd (false≢true (sym q ∙ h))
+  whose zero r (step g safe most clean (reopening q at) more) h = step3 at q
+  whose zero r (step g safe most clean (sealing q at) more) h = step7 at q
+  whose (suc n) r (step g safe most clean turn more) h = later-whose n r (whose n (advance i r) more h)
 
 -- what a cut leaves is what the failed call left
 through-cut : (i : Image) (b b′ : Target) → Lasting (HoldsImage i) b → CutTo b b′ → HoldsImage i (b′ .memory)
@@ -96,3 +117,7 @@ sealed-holds g h bytes p b s l n k e =
 pub done-sealed : DoneSealed
 done-sealed g h bytes p b s l n t sent e =
     on-the-way (imageOf g h bytes) ((valid g h bytes p) .level) b l n (started b l) t sent (way g h bytes p b s l) refl e
+
+-- a call 0x0D for macro 0 that succeeds is step 7's, and seals, or step 3's, and doesn't
+pub seals-at-step-7 : SealsAtStep7
+seals-at-step-7 g h bytes p b s l n e = whose (imageOf g h bytes) ((valid g h bytes p) .level) b l n (started b l) (way g h bytes p b s l) e

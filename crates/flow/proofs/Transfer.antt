@@ -1,7 +1,7 @@
 -- One transfer outside the attempts, whatever the line does. Assumes nothing.
 use mathlib.Core.Bool.{Bool, true, false, cond}
 use mathlib.Core.List.{List, _∷_}
-use mathlib.Core.Path.{_≡_, refl}
+use mathlib.Core.Path.{_≡_, refl, ap}
 use Prim.Native.Nat.{ℕ, zero, suc, _+_}
 use native.Mathlib.Omega.{arith}
 use lib.Dec.{lit≤}
@@ -23,7 +23,7 @@ use Rattle.flow.specs.declared.Purpose.{Purpose}
 use Rattle.flow.specs.declared.Request.{Request}
 use Rattle.flow.specs.declared.TransferOutcome.the-variants.{Clean}
 use Rattle.flow.proofs.Hearing.{Plain, aTar, aDrw, aRead, aCtrl, aSelect, aCsw, plain, meets, listsAfter, Heard, heardOkay, heardWait, heardError, heardErrorDone, hears}
-use Rattle.flow.proofs.Reaches.{Allowance, withTransfer, Env, sync, Frame, Lasting, Stood, at-move, at-next, Bounded, Turn, stays, same-running, Reaches, stop, Next, steps, clear}
+use Rattle.flow.proofs.Reaches.{Allowance, withTransfer, Env, sync, Frame, Lasting, Stood, at-move, at-next, Bounded, Turn, without, same-running, Reaches, stop, Next, steps, clear}
 use Rattle.image.specs.Image.{Image}
 
 -- one transfer more
@@ -124,13 +124,13 @@ module _ {i : Image} (f : Frame i) where
   once : {z z′ : Bool} {q : Request} → Plain q → {s : ℕ} {u : Purpose} {y : Entry} {n : ℕ} {ms : List Move} (v : ℕ) {κ : Allowance} {e : Env} (w p a k : ℕ) (b : Target) (t : Watch)
       → Stood f y n (move s q u ∷ ms) (waiting v κ) e → killed b ≡ false → barred (i .geometry) q b ≡ false
       → Lasting (f .Safe z) b → ((o : ℕ) → Lasting (f .Safe z′) (carry (i .geometry) q o (nextOutcome (e .lists .calls)) b))
-      → ((o : ℕ) → Turn z b (carry (i .geometry) q o (nextOutcome (e .lists .calls)) b) z′)
+      → ((o : ℕ) → Turn s z b (carry (i .geometry) q o (nextOutcome (e .lists .calls)) b) z′)
       → (onWait : (f .Still → ⊥) → Reaches f z (onward s q u y n w p a k b t (record { line = rest (e .lists .line); calls = e .lists .calls }) again e))
       → (next : (o : ℕ) → Stood f y (suc n) ms κ (passed (listsAfter (i .geometry) q b (e .lists)) e)
       → Reaches f z′ (okayed s q u y n p a k (gives q b) (carry (i .geometry) q o (nextOutcome (e .lists .calls)) b) t (passed (listsAfter (i .geometry) q b (e .lists)) e)))
       → Reaches f z (paused q y n w p a k b t e)
   once {z} {z′} {q} h {s} {u} {y} {n} {ms} v {κ} {e} w p a k b t st not-killed free safe safe′ turn onWait next =
-      steps f (paused q y n w p a k b t e) met refl safe (bounded h v κ w p a k b t st) (clear (waitingFor q w) p a t (e .delays)) (arrives h w p a k b t st)
+      steps f (paused q y n w p a k b t e) met refl (ap (λ (m : Move). m .step) (at-move st)) safe (bounded h v κ w p a k b t st) (clear (waitingFor q w) p a t (e .delays)) (arrives h w p a k b t st)
       (by (hears (i .geometry) (e .lists) b (plain h) (nextEvent (e .lists .line)) not-killed free))
     where
       not-calm : ((nextEvent (e .lists .line)) .outcome ≡ Clean → ⊥) → f .Still → ⊥
@@ -151,10 +151,10 @@ module _ {i : Image} (f : Frame i) where
             record { line = calm-rest (c .line); calls = calm-cond (callsOn (i .geometry) q b) (c .calls); none = c .none };
       }
 
-      same : Turn z b b z
-      same = stays (same-running b b refl)
+      same : Turn s z b b z
+      same = without (same-running b b refl)
 
-      by : Heard (i .geometry) q (nextEvent (e .lists .line)) (e .lists) b (metBy q b e) → Next f z b met
+      by : Heard (i .geometry) q (nextEvent (e .lists .line)) (e .lists) b (metBy q b e) → Next f s z b met
       by (heardOkay hb hv hl) = rw (hb, hv, hl) (record { after = z′; turn = turn ((nextEvent (e .lists .line)) .other); reaches = next ((nextEvent (e .lists .line)) .other) stood })
       by (heardWait bad hb hv hl) = rw (hb, hv, hl) (record { after = z; turn = same; reaches = onWait (not-calm bad) })
       by (heardError c hn bad hb hv) = rw (hb, hv) (record { after = z; turn = same; reaches = stop (f .caught c s b _ (more (e .traffic)) hn (not-calm bad) safe) })
@@ -166,7 +166,7 @@ module _ {i : Image} (f : Frame i) where
       → w + v ≡ 16
       → Stood f y n (move s q u ∷ ms) (waiting v κ) e → killed b ≡ false → barred (i .geometry) q b ≡ false
       → Lasting (f .Safe z) b → ((o : ℕ) → Lasting (f .Safe z′) (carry (i .geometry) q o (nextOutcome (e .lists .calls)) b))
-      → ((o : ℕ) → Turn z b (carry (i .geometry) q o (nextOutcome (e .lists .calls)) b) z′)
+      → ((o : ℕ) → Turn s z b (carry (i .geometry) q o (nextOutcome (e .lists .calls)) b) z′)
       → (next : (o : ℕ) (e′ : Env) → e′ .lists .calls ≡ cond (callsOn (i .geometry) q b) (rest (e .lists .calls)) (e .lists .calls) → Stood f y (suc n) ms κ e′
       → Reaches f z′ (okayed s q u y n p a k (gives q b) (carry (i .geometry) q o (nextOutcome (e .lists .calls)) b) t e′))
       → Reaches f z (paused q y n w p a k b t e)
@@ -187,7 +187,7 @@ module _ {i : Image} (f : Frame i) where
   pub transfer : {z z′ : Bool} {q : Request} → Plain q → {s : ℕ} {u : Purpose} {y : Entry} {n : ℕ} {ms : List Move} {κ : Allowance} {e : Env} {p a k : ℕ} {b : Target} {t : Watch}
       → Stood f y n (move s q u ∷ ms) (withTransfer κ) e → killed b ≡ false → barred (i .geometry) q b ≡ false
       → Lasting (f .Safe z) b → ((o : ℕ) → Lasting (f .Safe z′) (carry (i .geometry) q o (nextOutcome (e .lists .calls)) b))
-      → ((o : ℕ) → Turn z b (carry (i .geometry) q o (nextOutcome (e .lists .calls)) b) z′)
+      → ((o : ℕ) → Turn s z b (carry (i .geometry) q o (nextOutcome (e .lists .calls)) b) z′)
       → (next : (o : ℕ) (e′ : Env) → e′ .lists .calls ≡ cond (callsOn (i .geometry) q b) (rest (e .lists .calls)) (e .lists .calls) → Stood f y (suc n) ms κ e′
       → Reaches f z′ (okayed s q u y n p a k (gives q b) (carry (i .geometry) q o (nextOutcome (e .lists .calls)) b) t e′))
       → Reaches f z (sync y n p a k b t e)

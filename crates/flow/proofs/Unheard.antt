@@ -11,8 +11,8 @@ use Rattle.flow.specs.Judge.{succeeded}
 use Rattle.flow.specs.Monitor.{isReset, isAttempt}
 use Rattle.flow.specs.Packets.{packetOf, isRead}
 use Rattle.flow.specs.Run.{Run, served, advanceBy, advance, runAfter, started}
-use Rattle.flow.specs.SealedRuns.{SealedUnheard}
-use Rattle.flow.specs.Sealing.{locksMacro0, seals}
+use Rattle.flow.specs.SealedRuns.{stepAt, SealedUnheard}
+use Rattle.flow.specs.Sealing.{onMacro0, succeeds0, seals}
 use Rattle.flow.specs.Session.{SessionState, running, reported, moveAt, act, stepOf}
 use Rattle.flow.specs.Target.{Target, CallOutcome, Running, idle, busy, nextEvent}
 use Rattle.flow.specs.declared.Answer.the-variants.{Transferred}
@@ -28,7 +28,7 @@ use Rattle.flow.specs.declared.TransferOutcome.the-variants.{Silent}
 use Rattle.flow.proofs.Calling.{failed}
 use Rattle.flow.proofs.Hearing.{attempt, decodes, silence-heard}
 use Rattle.flow.proofs.Meeting.{carried-keeps}
-use Rattle.flow.proofs.Reaches.{same-running, and-false}
+use Rattle.flow.proofs.Reaches.{same-running, no-seal, and-false}
 use Rattle.image.specs.Image.{Image}
 use Rattle.parts.specs.declared.Geometry.{Geometry}
 
@@ -108,16 +108,16 @@ module _ (g : Geometry) (calls : List CallOutcome) (b : Target) where
   meet-ahead es Unknown = record { line = clean ∷ es; same = refl; bare = refl }
 
   -- XRES drops a call as failed
-  reset-ends : seals b (reset g b) ≡ false
+  reset-ends : succeeds0 b (reset g b) ≡ false
   unfolding reset finish
   reset-ends = by (b .running)
     where
-      by : (r : Running) → locksMacro0 r (b .effect) (b .sysarg) && succeeded ((dropped g r b) .sysarg) ≡ false
+      by : (r : Running) → onMacro0 r (b .sysarg) && succeeded ((dropped g r b) .sysarg) ≡ false
       by idle = refl
-      by (busy n x r c) = rw (failed (r .sysarg)) (and-false (locksMacro0 (busy n x r c) (b .effect) (b .sysarg)))
+      by (busy n x r c) = rw (failed (r .sysarg)) (and-false (onMacro0 (busy n x r c) (b .sysarg)))
 
   same-ends : seals b b ≡ true → ⊥
-  same-ends = no (same-running b b refl)
+  same-ends = no (no-seal b b (same-running b b refl))
 
   -- the transfer that seals was carried out
   transfer-unanswered : (q : Request) → seals b ((transferOn q []) .target) ≡ true → Unanswered (transferOn q)
@@ -130,7 +130,7 @@ module _ (g : Geometry) (calls : List CallOutcome) (b : Target) where
       by false false h = record { target = refl; answer = refl }
 
   meet-unanswered : (d : Decoded) → seals b ((meetWith d []) .target) ≡ true → Unanswered (meetWith d)
-  meet-unanswered (Known Xres) h = absurd (no reset-ends h)
+  meet-unanswered (Known Xres) h = absurd (no (no-seal b (reset g b) reset-ends) h)
   meet-unanswered (Known LineReset) h = absurd (same-ends h)
   meet-unanswered (Known ReadIdcode) h = transfer-unanswered ReadIdcode h
   meet-unanswered (Known ReadDrw) h = transfer-unanswered ReadDrw h
@@ -144,12 +144,12 @@ module _ (g : Geometry) (calls : List CallOutcome) (b : Target) where
   unfolding carry
   idcode-ends =
       rw (decodes attempt)
-      (carried-keeps g (λ z. seals b z ≡ false) ReadIdcode (λ o c z h. h) clean (record { line = []; calls = calls }) b (same-running b b refl))
+      (carried-keeps g (λ z. seals b z ≡ false) ReadIdcode (λ o c z h. h) clean (record { line = []; calls = calls }) b (no-seal b b (same-running b b refl)))
 
   -- so that no reset and no attempt seals
   is-outside : (q : Request) → seals b ((meetWith (decode (packetOf q)) []) .target) ≡ true → Outside q
   unfolding decode
-  is-outside Xres h = absurd (no reset-ends h)
+  is-outside Xres h = absurd (no (no-seal b (reset g b) reset-ends) h)
   is-outside LineReset h = absurd (same-ends h)
   is-outside ReadIdcode h = absurd (no idcode-ends h)
   is-outside ReadDrw h = record { transfers = refl; counts = refl }
@@ -167,9 +167,8 @@ record AheadRun (es : List LineEvent) (f : List LineEvent → Run) : Type 0 wher
 -- after n steps there is one that seals the board and ends the session with 29
 record Ends (i : Image) (n : ℕ) (r : Run) : Type 0 where
   pub seals : seals ((runAfter i n r) .target) ((runAfter i (suc n) r) .target) ≡ true
-  pub step : ℕ
   pub sent : ℕ
-  pub reports : (runAfter i (suc n) r) .session ≡ reported 29 step sent
+  pub reports : (runAfter i (suc n) r) .session ≡ reported 29 (stepAt i ((runAfter i n r) .session)) sent
 
 -- some line brings it about
 record EndsOn (i : Image) (n : ℕ) (r : Run) : Type 0 where
@@ -198,14 +197,13 @@ module _ (i : Image) where
   at-once r = by (r .session) refl
     where
       by : (s : SessionState) → r .session ≡ s → seals (r .target) ((advanceBy i s (runOn [] r)) .target) ≡ true → Ends i 0 (runOn (silent ∷ []) r)
-      by (reported x s h) e z = absurd (no (same-running (r .target) (r .target) refl) z)
+      by (reported x s h) e z = absurd (no (no-seal (r .target) (r .target) (same-running (r .target) (r .target) refl)) z)
       by (running y n w p a k h) e z =
           let m = moveAt i y n in
           let x = meet-unanswered (i .geometry) (r .lists .calls) (r .target) (decode (packetOf (m .request))) z in
           let q = is-outside (i .geometry) (r .lists .calls) (r .target) (m .request) z in
           record {
             seals = rw (e, x .target) z;
-            step = m .step;
             sent = suc h;
             reports = rw (e, x .answer) (silence-ends m q (silent .filler) y n w p a k h);
           }
@@ -213,7 +211,7 @@ module _ (i : Image) where
   -- one step sooner
   sooner : (n : ℕ) (r : Run) → Ends i n (advance i r) → Ends i (suc n) r
   unfolding runAfter
-  sooner n r u = record { seals = u .seals; step = u .step; sent = u .sent; reports = u .reports }
+  sooner n r u = record { seals = u .seals; sent = u .sent; reports = u .reports }
 
   in-time : (n : ℕ) (r : Run) → seals ((runAfter i n (runOn [] r)) .target) ((runAfter i (suc n) (runOn [] r)) .target) ≡ true → EndsOn i n r
   unfolding runAfter
@@ -228,4 +226,4 @@ pub unheard : (i : Image) (b : Target) (n : ℕ)
     → seals ((runAfter i n (started b none)) .target) ((runAfter i (suc n) (started b none)) .target) ≡ true → SealedUnheard i b n
 unheard i b n h =
     let u = in-time i n (started b none) h in
-    record { lists = record { line = u .line; calls = [] }; seals = u .ends .seals; step = u .ends .step; sent = u .ends .sent; reports = u .ends .reports }
+    record { lists = record { line = u .line; calls = [] }; seals = u .ends .seals; sent = u .ends .sent; reports = u .ends .reports }

@@ -1,17 +1,33 @@
 -- One over a run of the session and the target, whatever the free lists hold. `SealedCallsHold` of crate sealing is the claim over calls;
 -- this one is what its proof rests on. Assumes nothing.
-use mathlib.Core.Bool.{true}
+use mathlib.Core.Bool.{true, false}
 use mathlib.Core.List.{List}
 use mathlib.Core.Path.{_≡_}
 use Prim.Native.Nat.{ℕ, suc, _+_, _≤_}
 use Rattle.flow.specs.Run.{Run, runAfter, started}
-use Rattle.flow.specs.Sealing.{seals, HoldsThroughCut}
-use Rattle.flow.specs.Session.{reported}
+use Rattle.flow.specs.Sealing.{succeeds0, seals, HoldsThroughCut}
+use Rattle.flow.specs.Session.{SessionState, running, reported, moveAt}
 use Rattle.flow.specs.Target.{Target, Lists}
 use Rattle.flow.specs.Terms.{Passes, Startable}
 use Rattle.image.specs.Image.{Image, imageOf}
 use Rattle.image.specs.declared.Header.{Header}
 use Rattle.parts.specs.declared.Geometry.{Geometry}
+
+-- the flow step of the move that stands
+abbrev pub stepAt : Image → SessionState → ℕ
+stepAt i (running y n w p a k h) = (moveAt i y n) .step
+stepAt i (reported x s h) = s
+
+-- a call 0x0D for macro 0 that succeeds in the n-th step of the run r: step 7's, and it seals, or step 3's, and it doesn't
+pub data Whose (i : Image) (r : Run) (n : ℕ) : Type 0 where
+  step7 : stepAt i ((runAfter i n r) .session) ≡ 7 → seals ((runAfter i n r) .target) ((runAfter i (suc n) r) .target) ≡ true → Whose i r n
+  step3 : stepAt i ((runAfter i n r) .session) ≡ 3 → seals ((runAfter i n r) .target) ((runAfter i (suc n) r) .target) ≡ false → Whose i r n
+
+abbrev pub SealsAtStep7 : Type 0
+SealsAtStep7 =
+    (g : Geometry) (h : Header) (bytes : List ℕ) → Passes g h bytes → (b : Target) → Startable g b → (l : Lists) (n : ℕ)
+    → succeeds0 ((runAfter (imageOf g h bytes) n (started b l)) .target) ((runAfter (imageOf g h bytes) (suc n) (started b l)) .target) ≡ true
+    → Whose (imageOf g h bytes) (started b l) n
 
 -- 'whatever the line did before or does after': n steps, the one in which the call succeeds, then k
 abbrev pub SealedHolds : Type 0
@@ -36,6 +52,5 @@ DoneSealed =
 pub record SealedUnheard (i : Image) (b : Target) (n : ℕ) : Type 0 where
   pub lists : Lists
   pub seals : seals ((runAfter i n (started b lists)) .target) ((runAfter i (suc n) (started b lists)) .target) ≡ true
-  pub step : ℕ
   pub sent : ℕ
-  pub reports : (runAfter i (suc n) (started b lists)) .session ≡ reported 29 step sent
+  pub reports : (runAfter i (suc n) (started b lists)) .session ≡ reported 29 (stepAt i ((runAfter i n (started b lists)) .session)) sent

@@ -14,14 +14,22 @@ abbrev pub isIdle : Running → Bool
 isIdle idle = true
 isIdle (busy left succeeds entry c) = false
 
--- 'step 7's call 0x0D for macro 0' is under way: not step 3's, which is sent OPEN with PROTECTED in effect, and reopens
-abbrev pub locksMacro0 : Running → (effect sysarg : ℕ) → Bool
-locksMacro0 idle l a = false
-locksMacro0 (busy left succeeds entry c) l a = eqb c 0x0D && (eqb (macroSent a) 0 && not (eqb l 2 && eqb (levelSent a) 1))
+-- a 'call 0x0D for macro 0' is under way
+abbrev pub onMacro0 : Running → (sysarg : ℕ) → Bool
+onMacro0 idle a = false
+onMacro0 (busy left succeeds entry c) a = eqb c 0x0D && eqb (macroSent a) 0
 
--- 'succeeded': it was under way on b and is over on b′, where SYSARG says success; what the session heard of it doesn't count
+-- it 'succeeded': under way on b and over on b′, where SYSARG says success; what the session heard of it doesn't count
+abbrev pub succeeds0 : (b b′ : Target) → Bool
+succeeds0 b b′ = onMacro0 (b .running) (b .sysarg) && (isIdle (b′ .running) && succeeded (b′ .sysarg))
+
+-- step 3's is sent OPEN with PROTECTED in effect, and reopens
+abbrev pub reopens : Target → Bool
+reopens b = eqb (b .effect) 2 && eqb (levelSent (b .sysarg)) 1
+
+-- the other is step 7's
 abbrev pub seals : (b b′ : Target) → Bool
-seals b b′ = locksMacro0 (b .running) (b .effect) (b .sysarg) && (isIdle (b′ .running) && succeeded (b′ .sysarg))
+seals b b′ = succeeds0 b b′ && not (reopens b)
 
 -- 'the image's flash, level and all its locks'
 pub record HoldsImage (i : Image) (m : Memory) : Type 0 where

@@ -1,10 +1,10 @@
 -- Whole sessions that seal their board, for every part and M: with the success heard, and not. Assumes nothing.
-use mathlib.Core.Bool.{true, false≢true}
+use mathlib.Core.Bool.{Bool, true, false, false≢true, _&&_, not}
 use mathlib.Core.Path.{_≡_, refl, sym, ap, subst, _∙_}
 use Prim.Native.Nat.{ℕ, zero, suc, _≤_}
 use native.Mathlib.Omega.{arith}
-use Rattle.flow.proofs.Reaches.{same-running}
-use Rattle.flow.proofs.Sealed.{done-sealed}
+use Rattle.flow.proofs.Reaches.{same-running, no-seal}
+use Rattle.flow.proofs.Sealed.{seals-at-step-7, done-sealed}
 use Rattle.flow.proofs.Unheard.{unheard}
 use Rattle.flow.proofs.Witness.{Both, witness-1, witness-2, witness-3, witness-3-2}
 use Rattle.flow.specs.BoardExamples.{none}
@@ -12,8 +12,8 @@ use Rattle.flow.specs.Claim.{Achieved}
 use Rattle.flow.specs.Packets.{packetOf}
 use Rattle.flow.specs.Plan.{plan}
 use Rattle.flow.specs.Run.{Run, advance, runAfter, started}
-use Rattle.flow.specs.SealedRuns.{SealedUnheard}
-use Rattle.flow.specs.Sealing.{seals}
+use Rattle.flow.specs.SealedRuns.{stepAt, Whose, step7, step3, SealedUnheard}
+use Rattle.flow.specs.Sealing.{succeeds0, reopens, seals}
 use Rattle.flow.specs.Session.{SessionState, running, reported, moveAt}
 use Rattle.flow.specs.Target.{Target, Lists}
 use Rattle.flow.specs.Terms.{Startable, entryOf}
@@ -37,6 +37,14 @@ use Rattle.session.specs.Sessions.{mostOf}
 use Rattle.session.specs.declared.Outcome.the-variants.{Ask, Reported}
 use Rattle.session.specs.declared.Report.{Report}
 
+-- what seals is a success
+seal-succeeds : (b b′ : Target) → seals b b′ ≡ true → succeeds0 b b′ ≡ true
+seal-succeeds b b′ e = by (succeeds0 b b′) (not (reopens b)) e
+  where
+    by : (x y : Bool) → x && y ≡ true → x ≡ true
+    by true y h = refl
+    by false y h = h
+
 -- a step more, at the end
 one-more : (i : Image) (n : ℕ) (r : Run) → runAfter i (suc n) r ≡ advance i (runAfter i n r)
 unfolding runAfter
@@ -54,6 +62,14 @@ module _ {g : Geometry} (x : Start g) (b : Target) (may : Startable g b) (l : Li
   abbrev w : Walked g (x .header) (x .bytes) (x .passes .found) ((all g (x .header) (x .bytes) (x .passes .found) (x .passes .checked)) .size) n (begun (startOf (x .header) (x .bytes) (x .leave)) b l) (started b l)
   w = walked g (x .header) (x .bytes) (x .leave) (x .passes) (x .unrefused) b may l n
 
+  -- the call that seals is step 7's
+  at-step-7 : seals (run .target) ((runAfter i (suc n) (started b l)) .target) ≡ true → stepAt i (run .session) ≡ 7
+  at-step-7 e = by (seals-at-step-7 g (x .header) (x .bytes) (x .passes) b may l n (seal-succeeds (run .target) ((runAfter i (suc n) (started b l)) .target) e))
+    where
+      by : Whose i (started b l) n → stepAt i (run .session) ≡ 7
+      by (step7 at h) = at
+      by (step3 at h) = absurd (false≢true (sym h ∙ e))
+
   module _ (seal : seals (run .target) ((advance i run) .target) ≡ true) where
     -- a session that has reported seals nothing more
     asks : record { packet : Packet; stands : w .state .stands ≡ Ask packet }
@@ -64,7 +80,7 @@ module _ {g : Geometry} (x : Start g) (b : Target) (may : Startable g b) (l : Li
         by (running y k v p t c h) is = record { packet = packetOf ((moveAt i y k) .request); stands = w .follows .stands ∙ ap (outcomeAt i) is }
         by (reported v t h) is =
             let same : (advance i run) .target ≡ run .target = rw is in
-            absurd (false≢true (sym (same-running (run .target) (run .target) refl) ∙ subst (λ (z : Target). seals (run .target) z ≡ true) same seal))
+            absurd (false≢true (sym (no-seal (run .target) (run .target) (same-running (run .target) (run .target) refl)) ∙ subst (λ (z : Target). seals (run .target) z ≡ true) same seal))
 
     abbrev u : State
     u = onward x (asks .packet) (w .state)
@@ -98,7 +114,7 @@ module _ (g : Geometry) (level : ℕ) (a : Achieved g level) where
   abbrev start : Start g
   start = record { header = a .header; bytes = a .bytes; leave = true; passes = a .passes; unrefused = granted (a .header) (a .bytes) (a .passes .checked) }
 
-  doneSession : SealedSession g level 0
+  doneSession : SealedSession g level 0 9
   doneSession =
       let w = walked g (a .header) (a .bytes) true (a .passes) (start .unrefused) (a .target) (a .startable) none (a .steps) in
       let is : w .state .stands ≡ Reported (record { number = 0; step = 9; transfers = plan g (entryOf (a .target)) }) = w .follows .stands ∙ ap (outcomeAt (imageIn start)) (a .done) in
@@ -114,6 +130,7 @@ module _ (g : Geometry) (level : ℕ) (a : Achieved g level) where
         report = record { number = 0; step = 9; transfers = plan g (entryOf (a .target)) };
         stands = is;
         says = refl;
+        at = refl;
         sealed = done-sealed-calls g start (a .target) (a .startable) none (w .answers) 0 (w .state) (w .steps) _ is refl;
       }
 
@@ -124,12 +141,12 @@ module _ (g : Geometry) (level : ℕ) (a : Achieved g level) where
   abbrev missed : SealedUnheard (imageIn start) (a .target) before
   missed = unheard (imageIn start) (a .target) before ((done-sealed g (a .header) (a .bytes) (a .passes) (a .target) (a .startable) none (a .steps) 9 (plan g (entryOf (a .target))) (a .done)) .seals)
 
-  silentSession : SealedSession g level 29
+  silentSession : SealedSession g level 29 7
   silentSession =
       let l = missed .lists in
       let later : runAfter (imageIn start) (suc before) (started (a .target) l) ≡ advance (imageIn start) (runAfter (imageIn start) before (started (a .target) l)) = one-more (imageIn start) before (started (a .target) l) in
       let seal = subst (λ (z : Run). seals ((runAfter (imageIn start) before (started (a .target) l)) .target) (z .target) ≡ true) later (missed .seals) in
-      let report : Report = record { number = 29; step = missed .step; transfers = missed .sent } in
+      let report : Report = record { number = 29; step = stepAt (imageIn start) ((runAfter (imageIn start) before (started (a .target) l)) .session); transfers = missed .sent } in
       record {
         start = start;
         board = a .target;
@@ -142,6 +159,7 @@ module _ (g : Geometry) (level : ℕ) (a : Achieved g level) where
         report = report;
         stands = (followed-on start (a .target) (a .startable) l before seal) .stands ∙ ap (outcomeAt (imageIn start)) (sym (ap (λ (z : Run). z .session) later) ∙ missed .reports);
         says = refl;
+        at = at-step-7 start (a .target) (a .startable) l before (missed .seals);
         sealed = sealed-on start (a .target) (a .startable) l before seal;
       }
 

@@ -10,8 +10,8 @@ use Rattle.session.specs.Calls.{State}
 use Rattle.session.specs.declared.Outcome.the-variants.{Reported}
 use Rattle.session.specs.declared.Report.{Report}
 
--- a session on a board with this level stored that seals it, and reports this number
-pub record SealedSession (g : Geometry) (level number : ℕ) : Type 0 where
+-- a session on a board with this level stored that seals it, and reports this number at this step
+pub record SealedSession (g : Geometry) (level number step : ℕ) : Type 0 where
   pub start : Start g
   pub board : Target
   pub startable : Startable g board
@@ -23,11 +23,12 @@ pub record SealedSession (g : Geometry) (level number : ℕ) : Type 0 where
   pub report : Report
   pub stands : state .stands ≡ Reported report
   pub says : report .number ≡ number
+  pub at : report .step ≡ step
   pub sealed : Sealed start board lists state
 
--- from OPEN and from PROTECTED: the session says done; and where the success goes unheard, it reports 29
+-- from OPEN and from PROTECTED: the session says done; and where the success goes unheard, it reports 29 at step 7
 pub record SealedSessions (g : Geometry) : Type 0 where
-  pub openDone : SealedSession g 1 0
-  pub protectedDone : SealedSession g 2 0
-  pub openSilent : SealedSession g 1 29
-  pub protectedSilent : SealedSession g 2 29
+  pub openDone : SealedSession g 1 0 9
+  pub protectedDone : SealedSession g 2 0 9
+  pub openSilent : SealedSession g 1 29 7
+  pub protectedSilent : SealedSession g 2 29 7
