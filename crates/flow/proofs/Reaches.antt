@@ -6,7 +6,7 @@ use native.Mathlib.Omega.{arith}
 use lib.Dec.{eqb}
 use lib.ListN.{getD, drop}
 use lib.Seq.{getD-drop, drop-drop}
-use mathlib.Core.Bool.{Bool, true, false, _&&_}
+use mathlib.Core.Bool.{Bool, true, false, _&&_, not}
 use Rattle.flow.specs.Terms.{CalmLine, CalmCalls, NoError}
 use Rattle.flow.specs.Cuts.{cutMemory}
 use Rattle.flow.specs.Judge.{succeeded}
@@ -16,7 +16,7 @@ use Rattle.flow.specs.Run.{Run, advance, handedOut}
 use Rattle.flow.specs.Sequence.{sequence, endMove}
 use Rattle.flow.specs.Session.{SessionState, running, reported, moveAt}
 use Rattle.flow.specs.SealedRuns.{stepAt}
-use Rattle.flow.specs.Sealing.{isIdle, onMacro0, succeeds0, seals, HoldsImage}
+use Rattle.flow.specs.Sealing.{isIdle, onMacro0, succeeds0, reopens, seals, HoldsImage}
 use Rattle.flow.specs.Target.{Target, Memory, Residue, Running, idle, busy, Lists}
 use Rattle.flow.specs.declared.Entry.{Entry}
 use Rattle.flow.specs.declared.Move.{Move}
@@ -138,6 +138,14 @@ same-running b b′ e = rw e (by (b .running))
 -- then nothing is sealed
 pub no-seal : (b b′ : Target) → succeeds0 b b′ ≡ false → seals b b′ ≡ false
 no-seal b b′ e = rw e
+
+-- what seals is a success
+pub seal-succeeds : (b b′ : Target) → seals b b′ ≡ true → succeeds0 b b′ ≡ true
+seal-succeeds b b′ e = by (succeeds0 b b′) (not (reopens b)) e
+  where
+    by : (x y : Bool) → x && y ≡ true → x ≡ true
+    by true y h = refl
+    by false y h = h
 
 -- what a run is held to: Safe of the memory at each step, Stop where it ends early, Goal where it is to come, each by whether the board is
 -- sealed by then; Still says that the lists were calm at the start

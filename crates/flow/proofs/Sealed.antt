@@ -1,12 +1,12 @@
 -- Once step 7's call for macro 0 has succeeded the board has the image, at every later step and after a cut; and in every session that says
 -- done it has. Assumes nothing.
-use mathlib.Core.Bool.{Bool, true, false, false≢true}
+use mathlib.Core.Bool.{Bool, true, false, false≢true, cond}
 use mathlib.Core.Path.{_≡_, refl, ap, sym, _∙_}
 use Prim.Native.Nat.{ℕ, zero, suc, _+_}
 use native.Mathlib.Omega.{arith}
 use Rattle.flow.specs.Cuts.{CutTo}
 use Rattle.flow.specs.Run.{Run, advance, runAfter, started}
-use Rattle.flow.specs.SealedRuns.{Whose, step7, step3, SealsAtStep7, SealedHolds, SealedWithin, DoneSealed}
+use Rattle.flow.specs.SealedRuns.{stepAt, SealsAtStep7, SealedHolds, SealedWithin, DoneSealed}
 use Rattle.flow.specs.Sealing.{succeeds0, seals, HoldsImage}
 use Rattle.flow.specs.Session.{reported}
 use Rattle.flow.specs.Target.{Target, Lists}
@@ -14,7 +14,7 @@ use Rattle.flow.proofs.Demand.{stays, finished-ends, stopped-ends, not-
 use Rattle.flow.proofs.Frames.{Held, Stopped, Finished, frame}
 use Rattle.flow.proofs.Passing.{valid}
 use Rattle.flow.proofs.Phases.{Level}
-use Rattle.flow.proofs.Reaches.{Frame, Lasting, at-rest, going, without, reopening, sealing, same-running, no-seal, Reaches, here, stop, step}
+use Rattle.flow.proofs.Reaches.{Frame, Lasting, at-rest, going, without, reopening, sealing, same-running, no-seal, seal-succeeds, Reaches, here, stop, step}
 use Rattle.image.specs.Image.{Image, imageOf}
 
 module _ (i : Image) (lv : Level (i .header .level)) (b : Target) (l : Lists) where
@@ -27,12 +27,15 @@ module _ (i : Image) (lv : Level (i .header .level)) (b : Target) (l : Lists) wh
   abbrev stops : {z : Bool} {r : Run} → Stopped i (b .silicon) l z r → going (r .session) ≡ false
   stops s = stopped-ends i lv b l s
 
-  -- a session that has ended seals nothing more
-  no-more : (n : ℕ) (r : Run) → going (r .session) ≡ false → seals ((runAfter i n r) .target) ((runAfter i (suc n) r) .target) ≡ true → ⊥
-  no-more n r e h =
-      let same : seals ((runAfter i n r) .target) ((runAfter i (suc n) r) .target) ≡ seals (r .target) (r .target) =
-      ap (λ (x : Run). seals (x .target) ((runAfter i (suc n) r) .target)) (stays i n r e) ∙ ap (λ (x : Run). seals (r .target) (x .target)) (stays i (suc n) r e) in
-      false≢true (sym (no-seal (r .target) (r .target) (same-running (r .target) (r .target) refl)) ∙ sym same ∙ h)
+  -- in a session that has ended no call succeeds, and so none seals
+  none-succeeds : (n : ℕ) (r : Run) → going (r .session) ≡ false → succeeds0 ((runAfter i n r) .target) ((runAfter i (suc n) r) .target) ≡ true → ⊥
+  none-succeeds n r e h =
+      let same : succeeds0 ((runAfter i n r) .target) ((runAfter i (suc n) r) .target) ≡ succeeds0 (r .target) (r .target) =
+      ap (λ (x : Run). succeeds0 (x .target) ((runAfter i (suc n) r) .target)) (stays i n r e) ∙ ap (λ (x : Run). succeeds0 (r .target) (x .target)) (stays i (suc n) r e) in
+      false≢true (sym (same-running (r .target) (r .target) refl) ∙ sym same ∙ h)
+
+  none-seals : (n : ℕ) (r : Run) → going (r .session) ≡ false → seals ((runAfter i n r) .target) ((runAfter i (suc n) r) .target) ≡ true → ⊥
+  none-seals n r e h = none-succeeds n r e (seal-succeeds ((runAfter i n r) .target) ((runAfter i (suc n) r) .target) h)
 
   held : {z : Bool} (b′ : Target) → Lasting (Held i z) b′ → z ≡ true → Lasting (HoldsImage i) b′
   held b′ s q = record { now = s .now .1 q; cut = λ r. (s .cut r) .1 q }
@@ -49,8 +52,8 @@ module _ (i : Image) (lv : Level (i .header .level)) (b : Target) (l : Lists) wh
   after-seal : (n k : ℕ) {z : Bool} (r : Run) → Reaches ours z r → seals ((runAfter i n r) .target) ((runAfter i (suc n) r) .target) ≡ true
       → Lasting (HoldsImage i) ((runAfter i (suc n + k) r) .target)
   unfolding runAfter frame
-  after-seal n k r (here g) h = absurd (no-more n r (finishes (g .1)) h)
-  after-seal n k r (stop s) h = absurd (no-more n r (stops s) h)
+  after-seal n k r (here g) h = absurd (none-seals n r (finishes (g .1)) h)
+  after-seal n k r (stop s) h = absurd (none-seals n r (stops s) h)
   after-seal zero k r (step g safe most clean (without q) more) h = absurd (false≢true (sym (no-seal (r .target) ((advance i r) .target) q) ∙ h))
   after-seal zero k r (step g safe most clean (reopening q at) more) h = absurd (false≢true (sym q ∙ h))
   after-seal zero k r (step g safe most clean (sealing q at) more) h = let e : suc 0 + k ≡ suc k = omega arith in rw e (later k (advance i r) more refl)
@@ -78,26 +81,16 @@ module _ (i : Image) (lv : Level (i .header .level)) (b : Target) (l : Lists) wh
   on-the-way (suc n) r t h (step g safe most clean (reopening u at) more) q e = sooner n r (on-the-way n (advance i r) t h more refl e)
   on-the-way (suc n) r t h (step g safe most clean (sealing u at) more) q e = record { before = 0; within = omega arith; seals = u }
 
-  -- whose a call for macro 0 is that succeeds
-  none-succeeds : (n : ℕ) (r : Run) → going (r .session) ≡ false → succeeds0 ((runAfter i n r) .target) ((runAfter i (suc n) r) .target) ≡ true → ⊥
-  none-succeeds n r e h =
-      let same : succeeds0 ((runAfter i n r) .target) ((runAfter i (suc n) r) .target) ≡ succeeds0 (r .target) (r .target) =
-      ap (λ (x : Run). succeeds0 (x .target) ((runAfter i (suc n) r) .target)) (stays i n r e) ∙ ap (λ (x : Run). succeeds0 (r .target) (x .target)) (stays i (suc n) r e) in
-      false≢true (sym (same-running (r .target) (r .target) refl) ∙ sym same ∙ h)
-
-  later-whose : (n : ℕ) (r : Run) → Whose i (advance i r) n → Whose i r (suc n)
-  unfolding runAfter
-  later-whose n r (step7 at h) = step7 at h
-  later-whose n r (step3 at h) = step3 at h
-
-  whose : (n : ℕ) {z : Bool} (r : Run) → Reaches ours z r → succeeds0 ((runAfter i n r) .target) ((runAfter i (suc n) r) .target) ≡ true → Whose i r n
+  -- the step of a call for macro 0 that succeeds
+  step-of : (n : ℕ) {z : Bool} (r : Run) → Reaches ours z r → succeeds0 ((runAfter i n r) .target) ((runAfter i (suc n) r) .target) ≡ true
+      → stepAt i ((runAfter i n r) .session) ≡ cond (seals ((runAfter i n r) .target) ((runAfter i (suc n) r) .target)) 7 3
   unfolding runAfter frame
-  whose n r (here g) h = absurd (none-succeeds n r (finishes (g .1)) h)
-  whose n r (stop s) h = absurd (none-succeeds n r (stops s) h)
-  whose zero r (step g safe most clean (without q) more) h = absurd (false≢true (sym q ∙ h))
-  whose zero r (step g safe most clean (reopening q at) more) h = step3 at q
-  whose zero r (step g safe most clean (sealing q at) more) h = step7 at q
-  whose (suc n) r (step g safe most clean turn more) h = later-whose n r (whose n (advance i r) more h)
+  step-of n r (here g) h = absurd (none-succeeds n r (finishes (g .1)) h)
+  step-of n r (stop s) h = absurd (none-succeeds n r (stops s) h)
+  step-of zero r (step g safe most clean (without q) more) h = absurd (false≢true (sym q ∙ h))
+  step-of zero r (step g safe most clean (reopening q at) more) h = at ∙ ap (λ (y : Bool). cond y 7 3) (sym q)
+  step-of zero r (step g safe most clean (sealing q at) more) h = at ∙ ap (λ (y : Bool). cond y 7 3) (sym q)
+  step-of (suc n) r (step g safe most clean turn more) h = step-of n (advance i r) more h
 
 -- what a cut leaves is what the failed call left
 through-cut : (i : Image) (b b′ : Target) → Lasting (HoldsImage i) b → CutTo b b′ → HoldsImage i (b′ .memory)
@@ -118,6 +111,6 @@ pub done-sealed : DoneSealed
 done-sealed g h bytes p b s l n t sent e =
     on-the-way (imageOf g h bytes) ((valid g h bytes p) .level) b l n (started b l) t sent (way g h bytes p b s l) refl e
 
--- a call 0x0D for macro 0 that succeeds is step 7's, and seals, or step 3's, and doesn't
+-- a call 0x0D for macro 0 that succeeds is step 7's where it seals, and step 3's where it doesn't
 pub seals-at-step-7 : SealsAtStep7
-seals-at-step-7 g h bytes p b s l n e = whose (imageOf g h bytes) ((valid g h bytes p) .level) b l n (started b l) (way g h bytes p b s l) e
+seals-at-step-7 g h bytes p b s l n e = step-of (imageOf g h bytes) ((valid g h bytes p) .level) b l n (started b l) (way g h bytes p b s l) e

@@ -1,6 +1,6 @@
 -- One over a run of the session and the target, whatever the free lists hold. `SealedCallsHold` of crate sealing is the claim over calls;
--- this one is what its proof rests on. Assumes nothing.
-use mathlib.Core.Bool.{true, false}
+-- these are what it and its witnesses rest on. Assumes nothing.
+use mathlib.Core.Bool.{true, cond}
 use mathlib.Core.List.{List}
 use mathlib.Core.Path.{_≡_}
 use Prim.Native.Nat.{ℕ, suc, _+_, _≤_}
@@ -18,16 +18,13 @@ abbrev pub stepAt : Image → SessionState → ℕ
 stepAt i (running y n w p a k h) = (moveAt i y n) .step
 stepAt i (reported x s h) = s
 
--- a call 0x0D for macro 0 that succeeds in the n-th step of the run r: step 7's, and it seals, or step 3's, and it doesn't
-pub data Whose (i : Image) (r : Run) (n : ℕ) : Type 0 where
-  step7 : stepAt i ((runAfter i n r) .session) ≡ 7 → seals ((runAfter i n r) .target) ((runAfter i (suc n) r) .target) ≡ true → Whose i r n
-  step3 : stepAt i ((runAfter i n r) .session) ≡ 3 → seals ((runAfter i n r) .target) ((runAfter i (suc n) r) .target) ≡ false → Whose i r n
-
+-- a call 0x0D for macro 0 that succeeds is step 7's where it seals, and step 3's where it doesn't
 abbrev pub SealsAtStep7 : Type 0
 SealsAtStep7 =
     (g : Geometry) (h : Header) (bytes : List ℕ) → Passes g h bytes → (b : Target) → Startable g b → (l : Lists) (n : ℕ)
     → succeeds0 ((runAfter (imageOf g h bytes) n (started b l)) .target) ((runAfter (imageOf g h bytes) (suc n) (started b l)) .target) ≡ true
-    → Whose (imageOf g h bytes) (started b l) n
+    → stepAt (imageOf g h bytes) ((runAfter (imageOf g h bytes) n (started b l)) .session)
+    ≡ cond (seals ((runAfter (imageOf g h bytes) n (started b l)) .target) ((runAfter (imageOf g h bytes) (suc n) (started b l)) .target)) 7 3
 
 -- 'whatever the line did before or does after': n steps, the one in which the call succeeds, then k
 abbrev pub SealedHolds : Type 0

@@ -4,10 +4,11 @@ use mathlib.Core.List.{List, [], _∷_}
 use mathlib.Core.Path.{_≡_}
 use Prim.Native.Nat.{ℕ}
 use Rattle.flow.specs.BoardExamples.{small, memoryWith, boardWith, none, onLine, residue, after}
+use Rattle.flow.specs.CutExamples.{underWay}
 use Rattle.flow.specs.Examples.{partOne}
 use Rattle.flow.specs.Mishaps.{SYSREQ}
-use Rattle.flow.specs.Sealing.{seals, HoldsImage}
-use Rattle.flow.specs.Target.{Target, busy, Lists}
+use Rattle.flow.specs.Sealing.{seals, HoldsImage, HoldsThroughCut}
+use Rattle.flow.specs.Target.{Target, Running, idle, busy, Lists}
 use Rattle.flow.specs.declared.Request.{Request}
 use Rattle.flow.specs.declared.Request.the-variants.{Xres, ReadDrw, WriteTar}
 use Rattle.flow.specs.declared.TransferOutcome.the-variants.{Silent}
@@ -26,6 +27,10 @@ image = record { geometry = partOne; header = record { part = 1; macros = 1; sum
 
 abbrev pub latch : List ℕ
 latch = 9 ∷ 10 ∷ 11 ∷ 12 ∷ []
+
+-- the board of that image with this under way
+abbrev pub holding : Running → Target
+holding x = boardWith (memoryWith (1 ∷ 2 ∷ 3 ∷ 4 ∷ []) (5 ∷ 6 ∷ 7 ∷ 8 ∷ []) latch 2) 1 SYSREQ 7 0 0 [] x
 
 pub record SealingExamples : Type 0 where
   -- PROTECTED sent to macro 0, OPEN in effect
@@ -46,3 +51,7 @@ pub record SealingExamples : Type 0 where
   pub otherFlash : ¬ HoldsImage image (memoryWith (1 ∷ 2 ∷ 3 ∷ 5 ∷ []) (5 ∷ 6 ∷ 7 ∷ 8 ∷ []) latch 2)
   pub otherLocks : ¬ HoldsImage image (memoryWith (1 ∷ 2 ∷ 3 ∷ 4 ∷ []) (5 ∷ 6 ∷ 7 ∷ 9 ∷ []) latch 2)
   pub otherLevel : ¬ HoldsImage image (memoryWith (1 ∷ 2 ∷ 3 ∷ 4 ∷ []) (5 ∷ 6 ∷ 7 ∷ 8 ∷ []) latch 1)
+  -- through a cut: not where a row's call runs, which may leave other flash; where nothing runs, or step 9's sum does
+  pub inRow : ¬ HoldsThroughCut image (holding (underWay 6))
+  pub atRest : HoldsThroughCut image (holding idle)
+  pub inSum : HoldsThroughCut image (holding (underWay 0x0B))

@@ -37,7 +37,7 @@ module _ (g : Geometry) (bytes : List ℕ) where
       rw more (later w r h (joined n k n′ k′ a (k + k′) e refl steps q))
 
   -- the m-th answer of a list of calls, what is before it and what is behind
-  record Parted (m : ℕ) (s u : State) : Type 0 where
+  record Parted (m n : ℕ) (s u : State) : Type 0 where
     pub others : ℕ
     pub state : State
     pub before : Steps g bytes m others s state
@@ -46,19 +46,20 @@ module _ (g : Geometry) (bytes : List ℕ) where
     pub answersAfter : ℕ
     pub othersAfter : ℕ
     pub after : Steps g bytes answersAfter othersAfter (answered g packet (reaction g packet state) (stepWith (state .session) bytes ((reaction g packet state) .answer)) state) u
+    pub counted : m + suc answersAfter ≡ n
 
-  parted : (m n k : ℕ) {s u : State} → suc m ≤ n → Steps g bytes n k s u → Parted m s u
+  parted : (m n k : ℕ) {s u : State} → suc m ≤ n → Steps g bytes n k s u → Parted m n s u
   parted m n k h none = absurd (omega arith)
-  parted zero (suc n) k {s} h (answer p is steps) = record { others = 0; state = s; before = none; packet = p; stands = is; answersAfter = n; othersAfter = k; after = steps }
+  parted zero (suc n) k {s} h (answer p is steps) = record { others = 0; state = s; before = none; packet = p; stands = is; answersAfter = n; othersAfter = k; after = steps; counted = zero-add (suc n) }
   parted (suc m) (suc n) k h (answer p is steps) =
       let z = parted m n k (omega arith) steps in
-      record { others = z .others; state = z .state; before = answer p is (z .before); packet = z .packet; stands = z .stands; answersAfter = z .answersAfter; othersAfter = z .othersAfter; after = z .after }
+      record { others = z .others; state = z .state; before = answer p is (z .before); packet = z .packet; stands = z .stands; answersAfter = z .answersAfter; othersAfter = z .othersAfter; after = z .after; counted = omega (arith, z .counted) }
   parted m n (suc k) h (refusal lent w number is steps) =
       let z = parted m n k h steps in
-      record { others = suc (z .others); state = z .state; before = refusal lent w number is (z .before); packet = z .packet; stands = z .stands; answersAfter = z .answersAfter; othersAfter = z .othersAfter; after = z .after }
+      record { others = suc (z .others); state = z .state; before = refusal lent w number is (z .before); packet = z .packet; stands = z .stands; answersAfter = z .answersAfter; othersAfter = z .othersAfter; after = z .after; counted = z .counted }
   parted m n (suc k) h (later w r is steps) =
       let z = parted m n k h steps in
-      record { others = suc (z .others); state = z .state; before = later w r is (z .before); packet = z .packet; stands = z .stands; answersAfter = z .answersAfter; othersAfter = z .othersAfter; after = z .after }
+      record { others = suc (z .others); state = z .state; before = later w r is (z .before); packet = z .packet; stands = z .stands; answersAfter = z .answersAfter; othersAfter = z .othersAfter; after = z .after; counted = z .counted }
 
 module _ {g : Geometry} (x : Start g) (b : Target) (may : Startable g b) (l : Lists) where
   abbrev i : Image
@@ -79,18 +80,8 @@ module _ {g : Geometry} (x : Start g) (b : Target) (may : Startable g b) (l : Li
   target-next n k s leads p h =
       target-of (suc n) k (onward x p s) (joined g (x .bytes) n k 1 0 (suc n) k (omega arith) (sym (add-zero k)) leads (answer p h none))
 
-  holds : (n k : ℕ) (s : State) → Leads x b l n k s → (y : Succeeds g s) (n′ k′ : ℕ) (u : State) → Steps g (x .bytes) n′ k′ (onward x (y .packet) s) u
-      → HoldsThroughCut i (u .target)
-  holds n k s leads y n′ k′ u steps =
-      let last : u .target ≡ targetAfter (suc n + n′) =
-      target-of (suc n + n′) (k + k′) u (joined g (x .bytes) n k (suc n′) k′ (suc n + n′) (k + k′) (omega arith) refl leads (answer (y .packet) (y .stands) steps)) in
-      let sealed : seals (targetAfter n) (targetAfter (suc n)) ≡ true =
-      subst (λ (t : Target). seals t (targetAfter (suc n)) ≡ true) (target-of n k s leads)
-      (subst (λ (t : Target). seals (s .target) t ≡ true) (target-next n k s leads (y .packet) (y .stands)) (y .seals)) in
-      subst (HoldsThroughCut i) (sym last) (sealed-holds g (x .header) (x .bytes) (x .passes) b may l n n′ sealed)
-
   -- a step of the run that seals, in a list of calls that goes beyond it
-  pub sealed-in : (m n k : ℕ) (u : State) → Leads x b l n k u → suc m ≤ n → seals (targetAfter m) (targetAfter (suc m)) ≡ true → Sealed x b l u
+  pub sealed-in : (m n k : ℕ) (u : State) → Leads x b l n k u → suc m ≤ n → seals (targetAfter m) (targetAfter (suc m)) ≡ true → Sealed x b l n u
   sealed-in m n k u leads within e =
       let z = parted g (x .bytes) m n k within leads in
       record {
@@ -107,14 +98,25 @@ module _ {g : Geometry} (x : Start g) (b : Target) (may : Startable g b) (l : Li
         answersAfter = z .answersAfter;
         othersAfter = z .othersAfter;
         after = z .after;
+        counted = z .counted;
       }
 
-  done : (n k : ℕ) (u : State) → Leads x b l n k u → (r : Report) → u .stands ≡ Reported r → r .number ≡ 0 → Sealed x b l u
+  done : (n k : ℕ) (u : State) → Leads x b l n k u → (r : Report) → u .stands ≡ Reported r → r .number ≡ 0 → Sealed x b l n u
   done n k u leads r is zero-is =
       let f = followed g (x .header) (x .bytes) (x .leave) (x .passes) (x .unrefused) b may l n k u leads in
       let run : (runAfter i n (started b l)) .session ≡ reported (r .number) (r .step) (r .transfers) = reported-session i _ r (sym (f .stands) ∙ is) in
       let w = done-sealed g (x .header) (x .bytes) (x .passes) b may l n (r .step) (r .transfers) (run ∙ ap (λ (z : ℕ). reported z (r .step) (r .transfers)) zero-is) in
       sealed-in (w .before) n k u leads (w .within) (w .seals)
+
+  holds : (n k : ℕ) (s : State) → Leads x b l n k s → (y : Succeeds g s) (n′ k′ : ℕ) (u : State) → Steps g (x .bytes) n′ k′ (onward x (y .packet) s) u
+      → HoldsThroughCut i (u .target)
+  holds n k s leads y n′ k′ u steps =
+      let last : u .target ≡ targetAfter (suc n + n′) =
+      target-of (suc n + n′) (k + k′) u (joined g (x .bytes) n k (suc n′) k′ (suc n + n′) (k + k′) (omega arith) refl leads (answer (y .packet) (y .stands) steps)) in
+      let sealed : seals (targetAfter n) (targetAfter (suc n)) ≡ true =
+      subst (λ (t : Target). seals t (targetAfter (suc n)) ≡ true) (target-of n k s leads)
+      (subst (λ (t : Target). seals (s .target) t ≡ true) (target-next n k s leads (y .packet) (y .stands)) (y .seals)) in
+      subst (HoldsThroughCut i) (sym last) (sealed-holds g (x .header) (x .bytes) (x .passes) b may l n n′ sealed)
 
 -- whatever the line did before or does after, and whatever the session reports
 pub sealed-calls-hold : SealedCallsHold

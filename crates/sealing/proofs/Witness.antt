@@ -1,9 +1,9 @@
 -- Whole sessions that seal their board, for every part and M: with the success heard, and not. Assumes nothing.
-use mathlib.Core.Bool.{Bool, true, false, false≢true, _&&_, not}
+use mathlib.Core.Bool.{Bool, true, false≢true, cond}
 use mathlib.Core.Path.{_≡_, refl, sym, ap, subst, _∙_}
 use Prim.Native.Nat.{ℕ, zero, suc, _≤_}
 use native.Mathlib.Omega.{arith}
-use Rattle.flow.proofs.Reaches.{same-running, no-seal}
+use Rattle.flow.proofs.Reaches.{same-running, no-seal, seal-succeeds}
 use Rattle.flow.proofs.Sealed.{seals-at-step-7, done-sealed}
 use Rattle.flow.proofs.Unheard.{unheard}
 use Rattle.flow.proofs.Witness.{Both, witness-1, witness-2, witness-3, witness-3-2}
@@ -12,8 +12,8 @@ use Rattle.flow.specs.Claim.{Achieved}
 use Rattle.flow.specs.Packets.{packetOf}
 use Rattle.flow.specs.Plan.{plan}
 use Rattle.flow.specs.Run.{Run, advance, runAfter, started}
-use Rattle.flow.specs.SealedRuns.{stepAt, Whose, step7, step3, SealedUnheard}
-use Rattle.flow.specs.Sealing.{succeeds0, reopens, seals}
+use Rattle.flow.specs.SealedRuns.{stepAt, SealedUnheard}
+use Rattle.flow.specs.Sealing.{seals}
 use Rattle.flow.specs.Session.{SessionState, running, reported, moveAt}
 use Rattle.flow.specs.Target.{Target, Lists}
 use Rattle.flow.specs.Terms.{Startable, entryOf}
@@ -37,14 +37,6 @@ use Rattle.session.specs.Sessions.{mostOf}
 use Rattle.session.specs.declared.Outcome.the-variants.{Ask, Reported}
 use Rattle.session.specs.declared.Report.{Report}
 
--- what seals is a success
-seal-succeeds : (b b′ : Target) → seals b b′ ≡ true → succeeds0 b b′ ≡ true
-seal-succeeds b b′ e = by (succeeds0 b b′) (not (reopens b)) e
-  where
-    by : (x y : Bool) → x && y ≡ true → x ≡ true
-    by true y h = refl
-    by false y h = h
-
 -- a step more, at the end
 one-more : (i : Image) (n : ℕ) (r : Run) → runAfter i (suc n) r ≡ advance i (runAfter i n r)
 unfolding runAfter
@@ -64,11 +56,9 @@ module _ {g : Geometry} (x : Start g) (b : Target) (may : Startable g b) (l : Li
 
   -- the call that seals is step 7's
   at-step-7 : seals (run .target) ((runAfter i (suc n) (started b l)) .target) ≡ true → stepAt i (run .session) ≡ 7
-  at-step-7 e = by (seals-at-step-7 g (x .header) (x .bytes) (x .passes) b may l n (seal-succeeds (run .target) ((runAfter i (suc n) (started b l)) .target) e))
-    where
-      by : Whose i (started b l) n → stepAt i (run .session) ≡ 7
-      by (step7 at h) = at
-      by (step3 at h) = absurd (false≢true (sym h ∙ e))
+  at-step-7 e =
+      seals-at-step-7 g (x .header) (x .bytes) (x .passes) b may l n (seal-succeeds (run .target) ((runAfter i (suc n) (started b l)) .target) e)
+      ∙ ap (λ (y : Bool). cond y 7 3) e
 
   module _ (seal : seals (run .target) ((advance i run) .target) ≡ true) where
     -- a session that has reported seals nothing more
@@ -93,7 +83,7 @@ module _ {g : Geometry} (x : Start g) (b : Target) (may : Startable g b) (l : Li
     leads-on : Leads x b l (suc (w .answers)) 0 u
     leads-on = joined g (x .bytes) (w .answers) 0 1 0 (suc (w .answers)) 0 (omega arith) refl (w .steps) (answer (asks .packet) (asks .stands) Calls.none)
 
-    sealed-on : Sealed x b l u
+    sealed-on : Sealed x b l (suc (w .answers)) u
     sealed-on = record {
       answers = w .answers;
       others = 0;
@@ -107,6 +97,7 @@ module _ {g : Geometry} (x : Start g) (b : Target) (may : Startable g b) (l : Li
       answersAfter = 0;
       othersAfter = 0;
       after = Calls.none;
+      counted = omega arith;
     }
 
 module _ (g : Geometry) (level : ℕ) (a : Achieved g level) where

@@ -3,7 +3,7 @@
 -- Assumes nothing.
 use mathlib.Core.Bool.{true}
 use mathlib.Core.Path.{_≡_}
-use Prim.Native.Nat.{ℕ}
+use Prim.Native.Nat.{ℕ, suc, _+_}
 use Rattle.flow.specs.Sealing.{seals, HoldsThroughCut}
 use Rattle.flow.specs.Target.{Target, Lists}
 use Rattle.flow.specs.Terms.{Startable}
@@ -32,8 +32,8 @@ SealedCallsHold =
     (g : Geometry) (x : Start g) (b : Target) → Startable g b → (l : Lists) (n k : ℕ) (s : State) → Leads x b l n k s → (y : Succeeds g s)
     → (n′ k′ : ℕ) (u : State) → Steps g (x .bytes) n′ k′ (onward x (y .packet) s) u → HoldsThroughCut (imageIn x) (u .target)
 
--- a list of calls to u, in one of whose answers it succeeds
-pub record Sealed {g : Geometry} (x : Start g) (b : Target) (l : Lists) (u : State) : Type 0 where
+-- n answers of the board lead to u, and in one of them it succeeds; which they are is the board's and its lists' doing alone
+pub record Sealed {g : Geometry} (x : Start g) (b : Target) (l : Lists) (n : ℕ) (u : State) : Type 0 where
   pub answers : ℕ
   pub others : ℕ
   pub state : State
@@ -42,9 +42,10 @@ pub record Sealed {g : Geometry} (x : Start g) (b : Target) (l : Lists) (u : Sta
   pub answersAfter : ℕ
   pub othersAfter : ℕ
   pub after : Steps g (x .bytes) answersAfter othersAfter (onward x (succeeds .packet) state) u
+  pub counted : answers + suc answersAfter ≡ n
 
--- every list of calls after which the report says done is one
+-- so it is in every list of calls after which the report says done
 abbrev pub DoneSealedCalls : Type 0
 DoneSealedCalls =
     (g : Geometry) (x : Start g) (b : Target) → Startable g b → (l : Lists) (n k : ℕ) (u : State) → Leads x b l n k u
-    → (r : Report) → u .stands ≡ Reported r → r .number ≡ 0 → Sealed x b l u
+    → (r : Report) → u .stands ≡ Reported r → r .number ≡ 0 → Sealed x b l n u

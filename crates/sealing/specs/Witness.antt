@@ -24,7 +24,7 @@ pub record SealedSession (g : Geometry) (level number step : ℕ) : Type 0 where
   pub stands : state .stands ≡ Reported report
   pub says : report .number ≡ number
   pub at : report .step ≡ step
-  pub sealed : Sealed start board lists state
+  pub sealed : Sealed start board lists answers state
 
 -- from OPEN and from PROTECTED: the session says done; and where the success goes unheard, it reports 29 at step 7
 pub record SealedSessions (g : Geometry) : Type 0 where
