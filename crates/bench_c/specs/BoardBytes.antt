@@ -10,7 +10,7 @@ use Rattle.bench_board.specs.Board.{Buffers, Left, runningOf, targetOf}
 use Rattle.bench_board.specs.declared.CallOutcome.{CallOutcome}
 use Rattle.flow.specs.declared.LineEvent.{LineEvent}
 use Rattle.flow.specs.declared.TransferOutcome.{TransferOutcome}
-use Rattle.flow.specs.declared.TransferOutcome.the-variants.{Clean, Waits, Faults, WrongParity, Silent}
+use Rattle.flow.specs.declared.TransferOutcome.the-variants.{Clean, Waits, Faults, WrongParity, Silent, Noisy}
 use Rattle.bench_board.specs.declared.Registers.{Registers}
 use Rattle.bench_board.specs.declared.Running.{Running}
 use Rattle.bench_board.specs.declared.Running.the-variants.{Idle, Busy}
@@ -71,20 +71,20 @@ registersIn bs = record {
 abbrev pub isBoard : List ℕ → Bool
 isBoard bs = cond (eqb (getD bs 34 0) 0) true (cond (eqb (getD bs 34 0) 1) (isCallOutcome bs 35) false)
 
--- 0 OK, 1 WAIT, 2 FAULT, 3 wrong parity, 4 silence not carried out, 5 silence carried out
+-- 0 OK, 1 WAIT, 2 FAULT, 3 wrong parity, 4 silence not carried out, 5 silence carried out, 6 noise not carried out, 7 noise carried out
 abbrev pub transferOutcomeIn : ℕ → TransferOutcome
 transferOutcomeIn n =
     cond (eqb n 0) Clean
     (cond (eqb n 1) Waits
     (cond (eqb n 2) Faults
-    (cond (eqb n 3) WrongParity (Silent (eqb n 5)))))
+    (cond (eqb n 3) WrongParity (cond (leb n 5) (Silent (eqb n 5)) (Noisy (eqb n 7))))))
 
 -- its outcome at 0; what is free in the answer: acknowledgement at 1, word at 2, parity bit at 6; the word elsewhere at 7
 abbrev pub eventIn : List ℕ → LineEvent
 eventIn bs = record { outcome = transferOutcomeIn (getD bs 0 0); filler = record { ack = getD bs 1 0; word = wordAt bs 2; parity = getD bs 6 0 }; other = wordAt bs 7 }
 
 abbrev pub isEvent : List ℕ → Bool
-isEvent bs = leb (getD bs 0 0) 5
+isEvent bs = leb (getD bs 0 0) 7
 
 -- the request in an outcome's bytes: 1 XRES, 2 line reset, 3 read, 4 write
 abbrev pub packetIn : List ℕ → Packet

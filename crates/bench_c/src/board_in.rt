@@ -118,7 +118,10 @@ fn transfer_outcome_in(n: u8) -> TransferOutcome
     if n == 3 {
         return TransferOutcome::WrongParity;
     }
-    TransferOutcome::Silent(n == 5)
+    if n <= 5 {
+        return TransferOutcome::Silent(n == 5);
+    }
+    TransferOutcome::Noisy(n == 7)
 }
 
 // The event that bytes hold.
@@ -144,7 +147,7 @@ pub(crate) fn is_event(bytes: &[u8]) -> bool
     requires { ⌜ length (now bytes) ≡ 11 ⌝ }
     ensures { λ r. ⌜ r ≡ isEvent (now (bytes .entry)) ⌝ }
 {
-    bytes[0] <= 5
+    bytes[0] <= 7
 }
 
 // The request that an outcome's bytes hold.

@@ -1,7 +1,7 @@
 // The board's side of the wire: packets read bit by bit, and answers.
 ghost use mathlib.Core.Bool.{true, false};
 ghost use mathlib.Core.Path.{_≡_};
-ghost use Rattle.flow.specs.Exchange.{wellFormed, readAt, writeAt, decode, replyWith, silentReply, okayReply, wrongParityReply, replyTo, carriedOut};
+ghost use Rattle.flow.specs.Exchange.{wellFormed, readAt, writeAt, decode, replyWith, silentReply, noisyAck, noisyReply, okayReply, wrongParityReply, replyTo, carriedOut};
 use flow::Decoded;
 use flow::Packet;
 use flow::Reply;
@@ -120,21 +120,27 @@ fn reply_with(ack: u8, filler: Reply) -> Reply
     }
 }
 
-// A silence: any acknowledgement but 1, 2 and 4.
+// A silence: nobody drives the wire.
 pub fn silent_reply(filler: Reply) -> Reply
     ensures { λ r. ⌜ r ≡ silentReply filler ⌝ }
 {
-    let n = filler.ack;
-    if n == 1 {
-        return reply_with(0, filler);
+    reply_with(7, filler)
+}
+
+// The acknowledgement of a noise: any number but 1, 2, 4 and 7.
+fn noisy_ack(n: u8) -> u8
+    ensures { λ r. ⌜ r ≡ noisyAck n ⌝ }
+{
+    match n {
+        1 | 2 | 4 | 7 => 0,
+        0 | 3 | 5 | 6 | 8..=255 => n,
     }
-    if n == 2 {
-        return reply_with(0, filler);
-    }
-    if n == 4 {
-        return reply_with(0, filler);
-    }
-    reply_with(n, filler)
+}
+
+fn noisy_reply(filler: Reply) -> Reply
+    ensures { λ r. ⌜ r ≡ noisyReply filler ⌝ }
+{
+    reply_with(noisy_ack(filler.ack), filler)
 }
 
 // OK: a read's word with its parity; on a write, word and parity are free.
@@ -190,6 +196,7 @@ pub fn reply_to(
             wrong_parity_reply(reads, filler)
         },
         TransferOutcome::Silent(_) => silent_reply(filler),
+        TransferOutcome::Noisy(_) => noisy_reply(filler),
     }
 }
 
@@ -203,5 +210,6 @@ pub fn carries_out(outcome: TransferOutcome) -> bool
         TransferOutcome::Faults => false,
         TransferOutcome::WrongParity => true,
         TransferOutcome::Silent(c) => c,
+        TransferOutcome::Noisy(c) => c,
     }
 }

@@ -1,7 +1,7 @@
 -- The worked examples of the definitions, together. The prover comes to this file before the other proofs, so that a wrong definition is
 -- told by an example that it breaks, and not by a proof that names its form. Assumes nothing.
 use mathlib.Core.List.{[], _∷_}
-use Rattle.flow.specs.BoardExamples.{TransferExamples, PacketExamples, ResetExamples, CallExamples}
+use Rattle.flow.specs.BoardExamples.{TransferExamples, NoiseExamples, PacketExamples, ResetExamples, CallExamples}
 use Rattle.flow.specs.Examples.{p5, p6, p7}
 use Rattle.flow.specs.Judgements.{JudgeExamples}
 use Rattle.flow.specs.Mishaps.{WordMishaps, LineMishaps}
@@ -9,7 +9,7 @@ use Rattle.flow.specs.OrderExamples.{OrderExamples}
 use Rattle.flow.specs.SealingExamples.{SealingExamples}
 use Rattle.flow.specs.SessionExamples.{MoveExamples, SessionExamples}
 use Rattle.flow.specs.Starts.{FreeStarts, MostExamples}
-use Rattle.flow.proofs.BoardExamples.{transfer-examples, packet-examples, reset-examples, call-examples}
+use Rattle.flow.proofs.BoardExamples.{transfer-examples, noise-examples, packet-examples, reset-examples, call-examples}
 use Rattle.flow.proofs.Examples.{key-examples}
 use Rattle.flow.proofs.Judgements.{judge-examples}
 use Rattle.flow.proofs.Mishaps.{word-mishaps, line-mishaps}
@@ -30,6 +30,7 @@ pub record Accepted : Type 0 where
   pub starts : FreeStarts
   pub packets : PacketExamples
   pub transfers : TransferExamples
+  pub noise : NoiseExamples
   pub resets : ResetExamples
   pub calls : CallExamples
   pub order : OrderExamples
@@ -47,6 +48,7 @@ accepted = record {
   starts = free-starts;
   packets = packet-examples;
   transfers = transfer-examples;
+  noise = noise-examples;
   resets = reset-examples;
   calls = call-examples;
   order = order-examples;

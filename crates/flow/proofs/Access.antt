@@ -21,7 +21,7 @@ use Rattle.flow.specs.declared.Place.{Place}
 use Rattle.flow.specs.declared.Place.the-variants.{InFlash, InLocks, InParams, AtLevel, AtSysreq, AtSysarg, AtTestMode, Elsewhere}
 use Rattle.flow.specs.declared.Purpose.{Purpose}
 use Rattle.flow.specs.declared.Request.the-variants.{ReadDrw, WriteTar, WriteDrw}
-use Rattle.flow.proofs.Hearing.{aTar, aDrw, aRead}
+use Rattle.flow.proofs.Decoding.{aTar, aDrw, aRead}
 use Rattle.flow.proofs.Reaches.{Allowance, withTransfer, withMoves, Env, sync, Frame, Lasting, Stood, Stands, Turn, without, same-running, not-idle, Reaches}
 use Rattle.flow.proofs.Transfer.{transfer}
 use Rattle.image.specs.Image.{Image}

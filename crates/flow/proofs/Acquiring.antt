@@ -25,7 +25,7 @@ use Rattle.flow.specs.declared.Silicon.{Silicon}
 use Rattle.flow.proofs.Access.{Answering, admits, write-reaches, read-still}
 use Rattle.flow.proofs.Attempts.{barred-off, xres-reaches, trying, attempts}
 use Rattle.flow.proofs.Calling.{Command, ordinary, calling, free-zero}
-use Rattle.flow.proofs.Hearing.{aCtrl, aSelect, aCsw}
+use Rattle.flow.proofs.Decoding.{aCtrl, aSelect, aCsw}
 use Rattle.flow.proofs.Legs.{Core, core, Leg}
 use Rattle.flow.proofs.Phases.{call15, same-core}
 use Rattle.flow.proofs.Places.{place-sysreq, place-sysarg, place-test}

@@ -25,7 +25,8 @@ use Rattle.flow.specs.declared.Request.{Request}
 use Rattle.flow.specs.declared.Request.the-variants.{Xres, LineReset, ReadIdcode}
 use Rattle.flow.specs.declared.Silicon.{Silicon}
 use Rattle.flow.specs.declared.TransferOutcome.the-variants.{Clean}
-use Rattle.flow.proofs.Hearing.{attempt, meets, listsAfter, Heard, heardOkay, heardWait, heardError, heardErrorDone, hears}
+use Rattle.flow.proofs.Decoding.{attempt, meets}
+use Rattle.flow.proofs.Hearing.{listsAfter, Heard, heardOkay, heardWait, heardError, heardErrorDone, hears}
 use Rattle.flow.proofs.Reaches.{Allowance, Env, sync, Frame, Lasting, at-rest, Stood, at-move, at-next, Turn, without, same-running, Reaches, stop, Next, steps, clear}
 use Rattle.flow.proofs.Transfer.{more, passed, calm-event, calm-rest}
 use Rattle.image.specs.Image.{Image}

@@ -2,11 +2,11 @@
 use mathlib.Core.Path.{_≡_, refl, ap, _∙_}
 use Prim.Native.Nat.{ℕ}
 use lib.Count.{ones, onesIn}
-use Rattle.flow.proofs.Hearing.{attempt, plain, aTar, aDrw, aRead, meets}
-use Rattle.flow.specs.BoardExamples.{after, TransferExamples, PacketExamples, ResetExamples, CallExamples}
+use Rattle.flow.proofs.Decoding.{attempt, plain, aTar, aDrw, aRead, meets}
+use Rattle.flow.specs.BoardExamples.{after, TransferExamples, NoisyWith, NoiseExamples, PacketExamples, ResetExamples, CallExamples}
 use Rattle.flow.specs.Calls.{bytesIn, effectOf, sysargAfter, sysreqAfter, afterFailure, finish, reset}
 use Rattle.flow.specs.Examples.{partOne}
-use Rattle.flow.specs.Exchange.{Met, decode, carry, barred, transferred, meet}
+use Rattle.flow.specs.Exchange.{Met, decode, carry, barred, noisyAck, transferred, meet}
 use Rattle.flow.specs.Map.{search, regions, lockRegions}
 use Rattle.flow.specs.Target.{Target, Lists, nextEvent}
 use Rattle.flow.specs.declared.Request.the-variants.{ReadIdcode, ReadDrw, WriteTar, WriteDrw}
@@ -57,6 +57,32 @@ transfer-examples = record {
   protectedTar = byTar 0 _ _ refl;
   killed = byTar 4 _ _ refl;
   killedIdcode = byIdcode _ _ refl;
+}
+
+noisy-with : (entry : ℕ) → NoisyWith entry (noisyAck entry)
+unfolding transferred carry barred search regions lockRegions rowsOf locksIn flashSize wordAt
+noisy-with entry = record {
+  readDone = byRead _ _ refl;
+  readNot = byRead _ _ refl;
+  writeDone = byTar 4 _ _ refl;
+  writeNot = byTar 4 _ _ refl;
+  barred = byRead _ _ refl;
+  notBarred = byTar 4 _ _ refl;
+  killed = byTar 4 _ _ refl;
+}
+
+pub noise-examples : NoiseExamples
+noise-examples = record {
+  noise0 = noisy-with 0;
+  noise3 = noisy-with 3;
+  noise5 = noisy-with 5;
+  noise6 = noisy-with 6;
+  noise8 = noisy-with 8;
+  noise255 = noisy-with 255;
+  okay = noisy-with 1;
+  wait = noisy-with 2;
+  fault = noisy-with 4;
+  silence = noisy-with 7;
 }
 
 pub packet-examples : PacketExamples

@@ -22,7 +22,7 @@ use Rattle.flow.specs.declared.Request.the-variants.{LineReset, ReadIdco
 use Rattle.flow.specs.declared.TransferOutcome.{TransferOutcome}
 use Rattle.flow.specs.declared.TransferOutcome.the-variants.{Clean, Faults}
 use Rattle.flow.proofs.Attempts.{barred-off}
-use Rattle.flow.proofs.Hearing.{attempt, plain, aCtrl, meets}
+use Rattle.flow.proofs.Decoding.{attempt, plain, aCtrl, meets}
 use Rattle.flow.proofs.Mishaps.{right-idcode}
 use Rattle.image.specs.Image.{Image}
 use Rattle.wire.specs.declared.Register.the-variants.{CtrlStat}

@@ -3,63 +3,22 @@ use mathlib.Core.Bool.{Bool, true, false, cond}
 use mathlib.Core.Path.{_≡_, refl, ap, sym, _∙_}
 use Prim.Native.Nat.{ℕ, _-_, _≤_}
 use native.Mathlib.Omega.{arith}
-use lib.Count.{ones, onesIn}
 use lib.Dec.{eqb, lit≤}
 use borrow.Author.Tests.{eq-eqb, ne-eqb}
-use Rattle.flow.specs.Exchange.{decode, carry, gives, barred, killed, callsOn, replyWith, silentReply, okayReply, wrongParityReply, replyTo, carriedOut, Met, met, transferred, meet}
-use Rattle.flow.specs.Packets.{packetOf, isRead, okay, again, broken, heard, verdict}
-use Rattle.flow.specs.Target.{Target, Lists, nextEvent, nextOutcome, rest}
+use Rattle.flow.specs.Exchange.{carry, gives, barred, killed, callsOn, replyWith, silentReply, noisyAck, noisyReply, okayReply, wrongParityReply, replyTo, carriedOut, Met, met, transferred}
+use Rattle.flow.specs.Packets.{isRead, okay, again, broken, heard, verdict}
+use Rattle.flow.specs.Target.{Target, Lists, nextOutcome, rest}
 use Rattle.flow.specs.declared.Answer.the-variants.{Transferred}
-use Rattle.flow.specs.declared.Decoded.{Decoded}
-use Rattle.flow.specs.declared.Decoded.the-variants.{Known, Unknown}
 use Rattle.flow.specs.declared.LineEvent.{LineEvent}
 use Rattle.flow.specs.declared.Reply.{Reply}
 use Rattle.flow.specs.declared.Request.{Request}
-use Rattle.flow.specs.declared.Request.the-variants.{ReadIdcode, ReadDrw, WriteTar, WriteDrw, WriteSetup}
+use Rattle.flow.specs.declared.Request.the-variants.{ReadIdcode, ReadDrw}
 use Rattle.flow.specs.declared.TransferOutcome.{TransferOutcome}
-use Rattle.flow.specs.declared.TransferOutcome.the-variants.{Clean, Waits, Faults, WrongParity, Silent}
+use Rattle.flow.specs.declared.TransferOutcome.the-variants.{Clean, Waits, Faults, WrongParity, Silent, Noisy}
+use Rattle.flow.proofs.Decoding.{Wired, attempt, plain, aTar, aDrw, aRead, aCtrl, aSelect, aCsw}
 use Rattle.parts.specs.declared.Geometry.{Geometry}
 use Rattle.wire.specs.Wire.{parity, ackOf}
-use Rattle.wire.specs.declared.Ack.the-variants.{Silence}
-use Rattle.wire.specs.declared.Register.the-variants.{CtrlStat, Select, Csw}
-
--- the transfers of the sequence; outside the attempts all but the IDCODE read
-pub data Plain : Request → Type 0 where
-  aTar : {a : ℕ} → Plain (WriteTar a)
-  aDrw : {w : ℕ} → Plain (WriteDrw w)
-  aRead : Plain ReadDrw
-  aCtrl : {w : ℕ} → Plain (WriteSetup CtrlStat w)
-  aSelect : {w : ℕ} → Plain (WriteSetup Select w)
-  aCsw : {w : ℕ} → Plain (WriteSetup Csw w)
-
-pub data Wired : Request → Type 0 where
-  attempt : Wired ReadIdcode
-  plain : {q : Request} → Plain q → Wired q
-
--- a write whose parity bit is its word's
-understood : (w : ℕ) (d : Decoded) → cond (eqb (parity w) (parity w)) d Unknown ≡ d
-understood w d = rw (eq-eqb (parity w) (parity w) refl)
-
--- the target reads each request as it was meant
-pub decodes : {q : Request} → Wired q → decode (packetOf q) ≡ Known q
-unfolding decode ones onesIn
-decodes attempt = refl
-decodes (plain (aTar {a = w})) = understood w (Known (WriteTar w))
-decodes (plain (aDrw {w = w})) = understood w (Known (WriteDrw w))
-decodes (plain aRead) = refl
-decodes (plain (aCtrl {w = w})) = understood w (Known (WriteSetup CtrlStat w))
-decodes (plain (aSelect {w = w})) = understood w (Known (WriteSetup Select w))
-decodes (plain (aCsw {w = w})) = understood w (Known (WriteSetup Csw w))
-
-pub meets : (g : Geometry) {q : Request} → Wired q → (l : Lists) (b : Target) → meet g (packetOf q) l b ≡ transferred g q (nextEvent (l .line)) l b
-unfolding meet
-meets g attempt l b = rw (decodes attempt)
-meets g (plain (aTar {a = w})) l b = rw (decodes (plain (aTar {a = w})))
-meets g (plain (aDrw {w = w})) l b = rw (decodes (plain (aDrw {w = w})))
-meets g (plain aRead) l b = rw (decodes (plain aRead))
-meets g (plain (aCtrl {w = w})) l b = rw (decodes (plain (aCtrl {w = w})))
-meets g (plain (aSelect {w = w})) l b = rw (decodes (plain (aSelect {w = w})))
-meets g (plain (aCsw {w = w})) l b = rw (decodes (plain (aCsw {w = w})))
+use Rattle.wire.specs.declared.Ack.the-variants.{Noise}
 
 -- what is left of the lists
 abbrev pub listsAfter : Geometry → Request → Target → Lists → Lists
@@ -82,19 +41,26 @@ isClean Waits = false
 isClean Faults = false
 isClean WrongParity = false
 isClean (Silent c) = false
+isClean (Noisy c) = false
 
-silent-ack : (n : ℕ) → ackOf (cond (eqb n 1) 0 (cond (eqb n 2) 0 (cond (eqb n 4) 0 n))) ≡ Silence
-silent-ack n = by (eqb n 1) (eqb n 2) (eqb n 4) refl refl refl
+-- a number that is read as no noise is not given
+noisy-ack : (n : ℕ) → ackOf (noisyAck n) ≡ Noise
+noisy-ack n = by (eqb n 1) (eqb n 2) (eqb n 4) (eqb n 7) refl refl refl refl
   where
-    by : (x y z : Bool) → eqb n 1 ≡ x → eqb n 2 ≡ y → eqb n 4 ≡ z → ackOf (cond x 0 (cond y 0 (cond z 0 n))) ≡ Silence
-    by true y z p q r = refl
-    by false true z p q r = refl
-    by false false true p q r = refl
-    by false false false p q r = simp (p, q, r)
+    by : (x y z t : Bool) → eqb n 1 ≡ x → eqb n 2 ≡ y → eqb n 4 ≡ z → eqb n 7 ≡ t → ackOf (noisyAck n) ≡ Noise
+    by true y z t p q r s = simp p
+    by false true z t p q r s = simp (p, q)
+    by false false true t p q r s = simp (p, q, r)
+    by false false false true p q r s = simp (p, q, r, s)
+    by false false false false p q r s = simp (p, q, r, s)
 
 pub silence-heard : (q : Request) (j : Reply) → verdict q (Transferred (silentReply j)) ≡ broken 29
 unfolding verdict heard
-silence-heard q j = rw (silent-ack (j .ack))
+silence-heard q j = refl
+
+noise-heard : (q : Request) (j : Reply) → verdict q (Transferred (noisyReply j)) ≡ broken 33
+unfolding verdict heard
+noise-heard q j = rw (noisy-ack (j .ack))
 
 waits-heard : (q : Request) (j : Reply) → verdict q (Transferred (replyWith 2 j)) ≡ again
 unfolding verdict heard
@@ -147,3 +113,5 @@ module _ (g : Geometry) (l : Lists) (b : Target) where
       by WrongParity e = wrong-parity-heard h ev e
       by (Silent true) e = heardErrorDone 29 (lit≤ tt) (not-clean (ap isClean e)) refl (silence-heard q (ev .filler))
       by (Silent false) e = heardError 29 (lit≤ tt) (not-clean (ap isClean e)) refl (silence-heard q (ev .filler))
+      by (Noisy true) e = heardErrorDone 33 (lit≤ tt) (not-clean (ap isClean e)) refl (noise-heard q (ev .filler))
+      by (Noisy false) e = heardError 33 (lit≤ tt) (not-clean (ap isClean e)) refl (noise-heard q (ev .filler))

@@ -3,6 +3,7 @@ pub mod Judgements
 pub mod Mishaps
 pub mod SessionExamples
 pub mod Starts
+pub mod Decoding
 pub mod Hearing
 pub mod BoardExamples
 pub mod Meeting

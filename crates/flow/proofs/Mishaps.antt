@@ -1,14 +1,15 @@
 -- The examples of the mishaps hold. Assumes nothing.
+use mathlib.Core.Bool.{Bool, true, false}
 use mathlib.Core.Path.{_≡_, refl}
 use Prim.Native.Nat.{ℕ}
 use borrow.Author.Tests.{eq-eqb}
 use Rattle.flow.specs.Map.{search, regions, lockRegions}
-use Rattle.flow.specs.Mishaps.{okayWith, WordMishaps, LineMishaps}
+use Rattle.flow.specs.Mishaps.{okayWith, WordMishaps, Breaks, LineMishaps}
 use Rattle.flow.specs.Monitor.{noticeRead, noticed, watch}
-use Rattle.flow.specs.Packets.{heard, verdict, okay}
+use Rattle.flow.specs.Packets.{heard, verdict, okay, broken}
 use Rattle.flow.specs.declared.Request.the-variants.{ReadIdcode, ReadDrw}
 use Rattle.parts.specs.Sizes.{rowsOf, locksIn, flashSize}
-use Rattle.wire.specs.Wire.{parity}
+use Rattle.wire.specs.Wire.{parity, ackOf}
 use lib.Count.{ones}
 
 -- an OK with the word's own parity is heard as the word
@@ -41,11 +42,20 @@ word-mishaps = record {
   listWord = unfold verdict heard in refl;
 }
 
+breaks : (ack number : ℕ) → ((r : Bool) → heard r (ackOf ack) 0 0 ≡ broken number) → Breaks ack number
+unfolding watch verdict
+breaks ack number h = record {
+  stale = rw (h true);
+  counted = rw (h true);
+  written = rw (h false);
+  attempt29 = rw (h true);
+  attempt30 = rw (h true);
+}
+
 pub line-mishaps : LineMishaps
 unfolding watch noticed noticeRead search regions lockRegions rowsOf locksIn flashSize verdict heard ones
 line-mishaps = record {
   attempt30 = refl;
-  attemptFault = refl;
   attempt29 = refl;
   attemptOkay = refl;
   wait17 = refl;
@@ -56,11 +66,16 @@ line-mishaps = record {
   sameWord = refl;
   xresBetween = refl;
   lineResetBetween = refl;
-  fault = refl;
-  silence = refl;
-  noise = refl;
+  fault = breaks 4 28 (λ r. refl);
+  silence = breaks 7 29 (λ r. refl);
   wrongParity = refl;
   writtenParity = refl;
+  noise0 = breaks 0 33 (λ r. refl);
+  noise3 = breaks 3 33 (λ r. refl);
+  noise5 = breaks 5 33 (λ r. refl);
+  noise6 = breaks 6 33 (λ r. refl);
+  noise8 = breaks 8 33 (λ r. refl);
+  noise255 = breaks 255 33 (λ r. refl);
   first = λ q r number. refl;
   xres = λ w p a t d. refl;
   lineReset = λ w p a t d. refl;

@@ -5,7 +5,7 @@ use Prim.Native.Nat.{ℕ, zero, suc, _+_, _/_, _≤_}
 use native.Mathlib.Omega.{arith}
 use lib.Dec.{lit≤}
 use lib.ListN.{length, getD, length-append}
-use Rattle.flow.proofs.Hearing.{aTar, aDrw, aRead, aCtrl, aSelect, aCsw, attempt, plain, decodes}
+use Rattle.flow.proofs.Decoding.{aTar, aDrw, aRead, aCtrl, aSelect, aCsw, attempt, plain, decodes}
 use Rattle.flow.specs.Exchange.{decode}
 use Rattle.flow.specs.Packets.{packetOf}
 use Rattle.flow.specs.Sequence.{move, write, read, call, writes, listed, inTurn, imoCall, acquire, silicon, privileged, programRow, verifyRow, lockMacro, verifyMacro, macroDown, program, opening, afterwards, sequence, endMove, key}

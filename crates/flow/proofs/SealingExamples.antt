@@ -6,7 +6,7 @@ use Prim.Native.Nat.{ℕ}
 use native.Mathlib.Omega.{arith}
 use lib.ListN.{getD}
 use Rattle.flow.proofs.CutExamples.{cut-examples}
-use Rattle.flow.proofs.Hearing.{plain, aTar, aRead, meets}
+use Rattle.flow.proofs.Decoding.{plain, aTar, aRead, meets}
 use Rattle.flow.specs.BoardExamples.{none, onLine, residue}
 use Rattle.flow.specs.Calls.{effectOf, sysargAfter, sysreqAfter, afterFailure, finish, reset}
 use Rattle.flow.specs.CutExamples.{underWay, poweredUp}
@@ -18,7 +18,7 @@ use Rattle.flow.specs.Sealing.{seals, HoldsImage}
 use Rattle.flow.specs.SealingExamples.{locking, sealedBy, image, latch, holding, SealingExamples}
 use Rattle.flow.specs.Target.{Target, idle, Lists, nextEvent}
 use Rattle.flow.specs.declared.Request.the-variants.{ReadDrw, WriteTar}
-use Rattle.flow.specs.declared.TransferOutcome.the-variants.{Silent}
+use Rattle.flow.specs.declared.TransferOutcome.the-variants.{Silent, Noisy}
 use Rattle.parts.specs.Sizes.{rowsOf, locksIn, flashSize}
 
 byRead : (l : Lists) (b : Target) (y : Bool) → seals b ((transferred partOne ReadDrw (nextEvent (l .line)) l b) .target) ≡ y → sealedBy ReadDrw l b ≡ y
@@ -40,6 +40,8 @@ sealing-examples = record {
   succeeds = byRead none (locking 1 0x2E0B6 0 true) true refl;
   unheard = byRead (onLine (Silent true)) (locking 1 0x2E0B6 0 true) true refl;
   notCarried = byRead (onLine (Silent false)) (locking 1 0x2E0B6 0 true) false refl;
+  noisy = byRead (onLine (Noisy true)) (locking 1 0x2E0B6 0 true) true refl;
+  noisyNot = byRead (onLine (Noisy false)) (locking 1 0x2E0B6 0 true) false refl;
   busyStill = byRead none (locking 1 0x2E0B6 1 true) false refl;
   fails = byRead none (locking 1 0x2E0B6 0 false) false refl;
   dropped = refl;

@@ -1,14 +1,17 @@
 -- The examples of how an answer moves a session on hold. Assumes nothing.
-use mathlib.Core.Path.{refl}
+use mathlib.Core.Bool.{Bool, true, false}
+use mathlib.Core.Path.{_≡_, refl}
+use Prim.Native.Nat.{ℕ}
 use lib.Count.{ones}
 use Rattle.flow.specs.Judge.{judge, free, succeeded}
-use Rattle.flow.specs.Packets.{verdict, heard}
+use Rattle.flow.specs.Packets.{verdict, heard, broken}
 use Rattle.flow.specs.Sequence.{sequence, opening, acquire, silicon, call, write, read, writes, listed, inTurn, imoCall, privileged, programRow, program, lockMacro, verifyMacro, afterwards}
 use Rattle.flow.specs.Session.{stepOf}
-use Rattle.flow.specs.SessionExamples.{MoveExamples, SessionExamples}
+use Rattle.flow.specs.SessionExamples.{MoveExamples, Ends, SessionExamples}
 use Rattle.flow.proofs.Mishaps.{right, right-idcode}
 use Rattle.image.specs.Words.{wordAt, wordsAt}
 use Rattle.parts.specs.Sizes.{rowsOf, locksIn}
+use Rattle.wire.specs.Wire.{ackOf}
 
 pub move-examples : MoveExamples
 unfolding sequence opening acquire silicon call write read writes listed inTurn imoCall privileged programRow program lockMacro verifyMacro afterwards rowsOf locksIn wordAt wordsAt
@@ -17,6 +20,7 @@ move-examples = record {
   idcode = refl;
   setup = refl;
   testMode = refl;
+  stale = refl;
   poll = refl;
   imo = refl;
   identify = refl;
@@ -28,6 +32,16 @@ move-examples = record {
   locks = refl;
 }
 
+ends : (ack number : ℕ) → ((r : Bool) → heard r (ackOf ack) 0 0 ≡ broken number) → Ends ack number
+unfolding stepOf verdict
+ends ack number h = record {
+  stale = rw (move-examples .stale, h true);
+  counted = rw (move-examples .poll, h true);
+  written = rw (move-examples .setup, h false);
+  attempt29 = rw (move-examples .idcode, h true);
+  attempt30 = rw (move-examples .idcode, h true);
+}
+
 pub session-examples : SessionExamples
 unfolding stepOf judge free succeeded
 session-examples = record {
@@ -36,8 +50,6 @@ session-examples = record {
   nextRow = rw (move-examples .row, right 0xA0000000);
   attempt29 = rw (move-examples .idcode) (unfold verdict heard in refl);
   attempt30 = rw (move-examples .idcode) (unfold verdict heard in refl);
-  fault29 = rw (move-examples .idcode) (unfold verdict heard in refl);
-  fault30 = rw (move-examples .idcode) (unfold verdict heard in refl);
   attemptOkay = rw (move-examples .idcode, right-idcode 0x0BB11477);
   wait16 = rw (move-examples .setup) (unfold verdict heard in refl);
   wait17 = rw (move-examples .setup) (unfold verdict heard in refl);
@@ -45,9 +57,15 @@ session-examples = record {
   poll9999 = rw (move-examples .poll, right 0x80000000);
   poll10000 = rw (move-examples .poll, right 0x80000000);
   polled = rw (move-examples .poll, right 0);
-  fault = rw (move-examples .setup) (unfold verdict heard in refl);
-  silence = rw (move-examples .setup) (unfold verdict heard in refl);
+  fault = unfold heard in ends 4 28 (λ r. refl);
+  silence = unfold heard in ends 7 29 (λ r. refl);
   wrongParity = rw (move-examples .poll) (unfold verdict heard ones in refl);
+  noise0 = unfold heard in ends 0 33 (λ r. refl);
+  noise3 = unfold heard in ends 3 33 (λ r. refl);
+  noise5 = unfold heard in ends 5 33 (λ r. refl);
+  noise6 = unfold heard in ends 6 33 (λ r. refl);
+  noise8 = unfold heard in ends 8 33 (λ r. refl);
+  noise255 = unfold heard in ends 255 33 (λ r. refl);
   faultAt5 = rw (move-examples .row) (unfold verdict heard in refl);
   statusAt5 = rw (move-examples .row, right 0xF0000000);
   stays = λ number step transfers a. refl;

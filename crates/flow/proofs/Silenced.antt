@@ -13,7 +13,8 @@ use Rattle.flow.specs.Session.{SessionState, running, reported, tryAgain
 use Rattle.flow.specs.Target.{idle, Target, nextEvent}
 use Rattle.flow.specs.declared.Entry.the-variants.{FromOpen}
 use Rattle.flow.specs.declared.Request.the-variants.{ReadIdcode}
-use Rattle.flow.proofs.Hearing.{attempt, meets, silence-heard}
+use Rattle.flow.proofs.Decoding.{attempt, meets}
+use Rattle.flow.proofs.Hearing.{silence-heard}
 use Rattle.image.specs.Image.{Image}
 
 -- where a session stands with such a target, m requests from its end: before its XRES, at the line reset or the read of attempt a with c

@@ -22,7 +22,8 @@ use Rattle.flow.specs.declared.Move.{Move}
 use Rattle.flow.specs.declared.Purpose.{Purpose}
 use Rattle.flow.specs.declared.Request.{Request}
 use Rattle.flow.specs.declared.TransferOutcome.the-variants.{Clean}
-use Rattle.flow.proofs.Hearing.{Plain, aTar, aDrw, aRead, aCtrl, aSelect, aCsw, plain, meets, listsAfter, Heard, heardOkay, heardWait, heardError, heardErrorDone, hears}
+use Rattle.flow.proofs.Decoding.{Plain, aTar, aDrw, aRead, aCtrl, aSelect, aCsw, plain, meets}
+use Rattle.flow.proofs.Hearing.{listsAfter, Heard, heardOkay, heardWait, heardError, heardErrorDone, hears}
 use Rattle.flow.proofs.Reaches.{Allowance, withTransfer, Env, sync, Frame, Lasting, Stood, at-move, at-next, Bounded, Turn, without, same-running, Reaches, stop, Next, steps, clear}
 use Rattle.image.specs.Image.{Image}
 

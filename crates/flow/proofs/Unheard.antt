@@ -26,7 +26,8 @@ use Rattle.flow.specs.declared.Request.{Request}
 use Rattle.flow.specs.declared.Request.the-variants.{Xres, LineReset, ReadIdcode, ReadDrw, WriteTar, WriteDrw, WriteSetup}
 use Rattle.flow.specs.declared.TransferOutcome.the-variants.{Silent}
 use Rattle.flow.proofs.Calling.{failed}
-use Rattle.flow.proofs.Hearing.{attempt, decodes, silence-heard}
+use Rattle.flow.proofs.Decoding.{attempt, decodes}
+use Rattle.flow.proofs.Hearing.{silence-heard}
 use Rattle.flow.proofs.Meeting.{carried-keeps}
 use Rattle.flow.proofs.Reaches.{same-running, no-seal, and-false}
 use Rattle.image.specs.Image.{Image}

@@ -16,7 +16,7 @@ use Rattle.flow.specs.declared.Packet.the-variants as Packets
 use Rattle.flow.specs.declared.Request.{Request}
 use Rattle.flow.specs.declared.Request.the-variants.{Xres, LineReset, ReadIdcode, ReadDrw, WriteTar, WriteDrw}
 use Rattle.flow.specs.declared.TransferOutcome.{TransferOutcome}
-use Rattle.flow.specs.declared.TransferOutcome.the-variants.{Clean, Waits, Faults, WrongParity, Silent}
+use Rattle.flow.specs.declared.TransferOutcome.the-variants.{Clean, Waits, Faults, WrongParity, Silent, Noisy}
 use Rattle.parts.specs.Sizes.{PARAMS, TEST-MODE, locksAt, levelAt}
 use Rattle.wire.specs.Wire.{parity}
 
@@ -56,8 +56,11 @@ abbrev pub none : Lists
 none = record { line = []; calls = [] }
 
 -- one event, with a word, a parity bit and an acknowledgement where these are free, and a word for elsewhere
+abbrev pub onLineWith : (ack : ℕ) → TransferOutcome → Lists
+onLineWith n f = record { line = record { outcome = f; filler = record { ack = n; word = 13; parity = 1 }; other = 0xFEDCBA98 } ∷ []; calls = [] }
+
 abbrev pub onLine : TransferOutcome → Lists
-onLine f = record { line = record { outcome = f; filler = record { ack = 7; word = 13; parity = 1 }; other = 0xFEDCBA98 } ∷ []; calls = [] }
+onLine f = onLineWith 5 f
 
 -- what a failed call leaves: these bytes, this SYSARG, and the level sent or not
 abbrev pub residue : (sysarg : ℕ) → (newLevel : Bool) → Residue
@@ -110,7 +113,32 @@ pub record TransferExamples : Type 0 where
   pub protectedLocks : after ReadDrw none (board 2 (locksAt partOne 0) 7) ≡ becomes (board 2 (locksAt partOne 0) 0x08070605) (okayWith 7)
   pub protectedTar : after (WriteTar 0) none (board 2 4 7) ≡ becomes (board 2 0 7) (answer 1 0 0)
   pub killed : after (WriteTar 4) (onLine Clean) (board 4 0 7) ≡ becomes (board 4 0 7) (answer 7 13 1)
-  pub killedIdcode : after ReadIdcode none (board 4 0 7) ≡ becomes (board 4 0 7) (answer 0 0 0)
+  pub killedIdcode : after ReadIdcode none (board 4 0 7) ≡ becomes (board 4 0 7) (answer 7 0 0)
+
+-- an entry's acknowledgement, and the one that a noise with it is answered by, carried out or not
+pub record NoisyWith (entry ack : ℕ) : Type 0 where
+  pub readDone : after ReadDrw (onLineWith entry (Noisy true)) (board 1 0 7) ≡ becomes (board 1 0 0x04030201) (answer ack 13 1)
+  pub readNot : after ReadDrw (onLineWith entry (Noisy false)) (board 1 0 7) ≡ becomes (board 1 0 7) (answer ack 13 1)
+  pub writeDone : after (WriteTar 4) (onLineWith entry (Noisy true)) (board 1 0 7) ≡ becomes (board 1 4 7) (answer ack 13 1)
+  pub writeNot : after (WriteTar 4) (onLineWith entry (Noisy false)) (board 1 0 7) ≡ becomes (board 1 0 7) (answer ack 13 1)
+  -- 'PROTECTED in effect answers FAULT for flash and PARAMS; KILL is silent.'
+  pub barred : after ReadDrw (onLineWith entry (Noisy true)) (board 2 0 7) ≡ becomes (board 2 0 7) (answer ack 13 1)
+  pub notBarred : after (WriteTar 4) (onLineWith entry (Noisy true)) (board 2 0 7) ≡ becomes (board 2 4 7) (answer ack 13 1)
+  pub killed : after (WriteTar 4) (onLineWith entry (Noisy true)) (board 4 0 7) ≡ becomes (board 4 0 7) (answer 7 13 1)
+
+-- 'For the plain board a noisy transfer, like a silent one, may have been carried out or not according to its list.'
+pub record NoiseExamples : Type 0 where
+  pub noise0 : NoisyWith 0 0
+  pub noise3 : NoisyWith 3 3
+  pub noise5 : NoisyWith 5 5
+  pub noise6 : NoisyWith 6 6
+  pub noise8 : NoisyWith 8 8
+  pub noise255 : NoisyWith 255 255
+  -- an entry with a number that is no noise
+  pub okay : NoisyWith 1 0
+  pub wait : NoisyWith 2 0
+  pub fault : NoisyWith 4 0
+  pub silence : NoisyWith 7 0
 
 -- request bytes that the target knows, and such as it answers by silence
 pub record PacketExamples : Type 0 where

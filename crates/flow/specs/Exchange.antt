@@ -21,10 +21,11 @@ use Rattle.flow.specs.declared.Reply.{Reply}
 use Rattle.flow.specs.declared.Request.{Request}
 use Rattle.flow.specs.declared.Request.the-variants.{Xres, LineReset, ReadIdcode, ReadDrw, WriteTar, WriteDrw, WriteSetup}
 use Rattle.flow.specs.declared.TransferOutcome.{TransferOutcome}
-use Rattle.flow.specs.declared.TransferOutcome.the-variants.{Clean, Waits, Faults, WrongParity, Silent}
+use Rattle.flow.specs.declared.TransferOutcome.the-variants.{Clean, Waits, Faults, WrongParity, Silent, Noisy}
 use Rattle.image.specs.Words.{wordAt}
 use Rattle.parts.specs.declared.Geometry.{Geometry}
-use Rattle.wire.specs.Wire.{parity}
+use Rattle.wire.specs.Wire.{parity, isAck}
+use Rattle.wire.specs.declared.Ack.the-variants.{Noise}
 use Rattle.wire.specs.declared.Register.the-variants.{CtrlStat, Select, Csw}
 
 -- ---- the wire, read bit by bit
@@ -164,9 +165,16 @@ callsOn g (WriteSetup r w) b = false
 abbrev pub replyWith : (ack : ℕ) → Reply → Reply
 replyWith n j = record { ack = n; word = j .word; parity = j .parity }
 
--- the acknowledgement of a silence: any number but 1, 2 and 4
+-- 'Acknowledgement 7 means that nobody drives the wire'
 abbrev pub silentReply : Reply → Reply
-silentReply j = replyWith (cond (eqb (j .ack) 1) 0 (cond (eqb (j .ack) 2) 0 (cond (eqb (j .ack) 4) 0 (j .ack)))) j
+silentReply j = replyWith 7 j
+
+-- the acknowledgement of a noise: any number but 1, 2, 4 and 7
+abbrev pub noisyAck : ℕ → ℕ
+noisyAck n = cond (isAck Noise n) n 0
+
+abbrev pub noisyReply : Reply → Reply
+noisyReply j = replyWith (noisyAck (j .ack)) j
 
 -- OK: a read's word with its parity; on a write, word and parity are free
 abbrev pub okayReply : (reads : Bool) → (word : ℕ) → Reply → Reply
@@ -185,6 +193,7 @@ replyTo Waits bars r w j = replyWith 2 j
 replyTo Faults bars r w j = replyWith 4 j
 replyTo WrongParity bars r w j = cond bars (replyWith 4 j) (wrongParityReply r j)
 replyTo (Silent c) bars r w j = silentReply j
+replyTo (Noisy c) bars r w j = noisyReply j
 
 abbrev pub carriedOut : TransferOutcome → Bool
 carriedOut Clean = true
@@ -192,6 +201,7 @@ carriedOut Waits = false
 carriedOut Faults = false
 carriedOut WrongParity = true
 carriedOut (Silent c) = c
+carriedOut (Noisy c) = c
 
 -- the target after a packet, its answer, and what is left of the lists
 pub record Met : Type 0 where

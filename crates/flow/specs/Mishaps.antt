@@ -86,11 +86,18 @@ pub record WordMishaps : Type 0 where
   pub noCall : watch partOne (WriteDrw 0x7FFFFFFF) (answer 1 0 0) (seen 3 0 (readAt SYSREQ false false)) ≡ seen 3 0 (readAt SYSREQ false false)
   pub listWord : watch partOne (WriteDrw 0x80000004) (answer 1 0 0) (seen 3 0 (readAt PARAMS false false)) ≡ seen 3 0 (readAt PARAMS false false)
 
--- 26 to 30: what the line does
+-- an acknowledgement that is this mishap: at a stale read, at one whose word counts, at a write; an attempt it only ends
+pub record Breaks (ack number : ℕ) : Type 0 where
+  pub stale : afterRead (answer ack 0 0) (seen 0 0 (readAt 0 false false)) ≡ linkError number
+  pub counted : afterRead (answer ack 0 0) (seen 0 0 (countingAt 0 false false)) ≡ linkError number
+  pub written : watch partOne (WriteDrw 5) (answer ack 0 0) (seen 0 0 (readAt 0 false false)) ≡ linkError number
+  pub attempt29 : afterAttempt (answer ack 0 0) (seen 0 28 (readAt 0 false false)) ≡ missedOne 0 29 (readAt 0 false false)
+  pub attempt30 : afterAttempt (answer ack 0 0) (seen 0 29 (readAt 0 false false)) ≡ linkError 26
+
+-- 26 to 30, and 33: what the line does
 pub record LineMishaps : Type 0 where
   -- 'thirty attempts running without an OK of right parity (26)'; 'Inside the IDCODE attempts only 26 counts.'
   pub attempt30 : afterAttempt (answer 2 0 0) (seen 0 29 (readAt 0 false false)) ≡ linkError 26
-  pub attemptFault : afterAttempt (answer 4 0 0) (seen 0 29 (readAt 0 false false)) ≡ linkError 26
   pub attempt29 : afterAttempt (answer 1 0 1) (seen 0 28 (readAt 0 false false)) ≡ missedOne 0 29 (readAt 0 false false)
   pub attemptOkay : afterAttempt (answer 1 0 0) (seen 0 29 (readAt 0 false false)) ≡ seen 0 0 (readAt 0 false false)
   -- 'one transfer's seventeenth WAIT running (27)'
@@ -104,11 +111,17 @@ pub record LineMishaps : Type 0 where
   pub xresBetween : watch partOne Xres ResetDone (waited ReadDrw 16 0) ≡ seen 0 0 (readAt 0 false false)
   pub lineResetBetween : watch partOne LineReset ResetDone (waited ReadDrw 16 0) ≡ seen 0 0 (readAt 0 false false)
   -- 'FAULT (28), silence (29), wrong parity on a read answered OK (30)'; on a write word and parity say nothing
-  pub fault : afterRead (answer 4 0 0) (seen 0 0 (readAt 0 false false)) ≡ linkError 28
-  pub silence : afterRead (answer 0 0 0) (seen 0 0 (readAt 0 false false)) ≡ linkError 29
-  pub noise : afterRead (answer 3 0 0) (seen 0 0 (readAt 0 false false)) ≡ linkError 29
+  pub fault : Breaks 4 28
+  pub silence : Breaks 7 29
   pub wrongParity : afterRead (answer 1 0 1) (seen 0 0 (readAt 0 false false)) ≡ linkError 30
   pub writtenParity : watch partOne (WriteDrw 0) (answer 1 0 1) (seen 0 0 (readAt 0 false false)) ≡ seen 0 0 (readAt 0 false false)
+  -- 'an acknowledgement other than 1, 2, 4 and 7' (33)
+  pub noise0 : Breaks 0 33
+  pub noise3 : Breaks 3 33
+  pub noise5 : Breaks 5 33
+  pub noise6 : Breaks 6 33
+  pub noise8 : Breaks 8 33
+  pub noise255 : Breaks 255 33
   -- the first mishap stays; a reset is none, and changes nothing else of what has been seen
   pub first : (q : Request) (r : Answer) (number : ℕ) → watch partOne q r (linkError number) ≡ linkError number
   pub xres : (w : Waits) (p a : ℕ) (t : Watch) (d : Delays) → watch partOne Xres ResetDone (watching w p a t d) ≡ watching noWaits p a t d

@@ -133,7 +133,8 @@ isAttempt (WriteDrw w) = false
 isAttempt (WriteSetup r w) = false
 
 -- 'thirty attempts running without an OK of right parity (26); one transfer's seventeenth WAIT running (27); FAULT (28), silence
--- (29), wrong parity on a read answered OK (30). Inside the IDCODE attempts only 26 counts.'
+-- (29), wrong parity on a read answered OK (30). Inside the IDCODE attempts only 26 counts.'; document 02, Five: 'Noise joins the
+-- mishaps.' (33)
 abbrev pub watchBy : (attempt : Bool) → Geometry → Request → Verdict → Waits → (polls attempts : ℕ) → Watch → Delays → Monitor
 watchBy tries g q (okay x) w p a t d = noticed g q x p a t d
 watchBy true g q again w p a t d = withinLimit (ltb (suc a) 30) 26 (watching noWaits p (suc a) t (oneMissed d))

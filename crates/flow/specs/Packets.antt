@@ -12,7 +12,7 @@ use Rattle.flow.specs.declared.Request.the-variants.{Xres, LineReset, Re
 use Rattle.wire.specs.Wire.{parity, requestByte, ackOf}
 use Rattle.wire.specs.declared.Access as Accesses
 use Rattle.wire.specs.declared.Ack.{Ack}
-use Rattle.wire.specs.declared.Ack.the-variants.{Okay, Wait, Fault, Silence}
+use Rattle.wire.specs.declared.Ack.the-variants.{Okay, Wait, Fault, Silence, Noise}
 use Rattle.wire.specs.declared.Register.{Register}
 use Rattle.wire.specs.declared.Register.the-variants.{Idcode, Tar, Drw}
 
@@ -58,23 +58,25 @@ isRead (WriteTar w) = false
 isRead (WriteDrw w) = false
 isRead (WriteSetup r w) = false
 
--- what an answer says: OK with this word; WAIT; or the number that a FAULT, a silence or a wrong parity has
+-- what an answer says: OK with this word; WAIT; or the number that a FAULT, a silence, a noise or a wrong parity has
 pub data Verdict : Type 0 where
   okay : (word : ℕ) → Verdict
   again : Verdict
   broken : (number : ℕ) → Verdict
 
--- 'Word and parity matter only on a read answered OK, the stale one included.'
+-- 'Word and parity matter only on a read answered OK, the stale one included.'; document 02, Five: '33, an acknowledgement other than 1,
+-- 2, 4 and 7, a report, checked where 29 is; 29 is left with 7'
 unfoldable pub heard : (reads : Bool) → Ack → (word parityBit : ℕ) → Verdict
 heard false Okay w p = okay 0
 heard true Okay w p = cond (eqb p (parity w)) (okay w) (broken 30)
 heard r Wait w p = again
 heard r Fault w p = broken 28
 heard r Silence w p = broken 29
+heard r Noise w p = broken 33
 
--- a reset's answer says nothing
+-- a reset's answer says nothing: nobody drives the wire
 abbrev pub replyIn : Answer → Reply
-replyIn ResetDone = record { ack = 0; word = 0; parity = 0 }
+replyIn ResetDone = record { ack = 7; word = 0; parity = 0 }
 replyIn (Transferred r) = r
 
 unfoldable pub verdict : Request → Answer → Verdict

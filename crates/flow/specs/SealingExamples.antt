@@ -11,7 +11,7 @@ use Rattle.flow.specs.Sealing.{seals, HoldsImage, HoldsThroughCut}
 use Rattle.flow.specs.Target.{Target, Running, idle, busy, Lists}
 use Rattle.flow.specs.declared.Request.{Request}
 use Rattle.flow.specs.declared.Request.the-variants.{Xres, ReadDrw, WriteTar}
-use Rattle.flow.specs.declared.TransferOutcome.the-variants.{Silent}
+use Rattle.flow.specs.declared.TransferOutcome.the-variants.{Silent, Noisy}
 use Rattle.image.specs.Image.{Image}
 
 -- call 0x0D under way with this level in effect, this word in SYSARG and so many busy reads left
@@ -38,6 +38,8 @@ pub record SealingExamples : Type 0 where
   -- also where the session hears nothing of it
   pub unheard : sealedBy ReadDrw (onLine (Silent true)) (locking 1 0x2E0B6 0 true) ≡ true
   pub notCarried : sealedBy ReadDrw (onLine (Silent false)) (locking 1 0x2E0B6 0 true) ≡ false
+  pub noisy : sealedBy ReadDrw (onLine (Noisy true)) (locking 1 0x2E0B6 0 true) ≡ true
+  pub noisyNot : sealedBy ReadDrw (onLine (Noisy false)) (locking 1 0x2E0B6 0 true) ≡ false
   pub busyStill : sealedBy ReadDrw none (locking 1 0x2E0B6 1 true) ≡ false
   pub fails : sealedBy ReadDrw none (locking 1 0x2E0B6 0 false) ≡ false
   pub dropped : sealedBy Xres none (locking 1 0x2E0B6 0 true) ≡ false

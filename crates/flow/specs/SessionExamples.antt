@@ -31,6 +31,7 @@ pub record MoveExamples : Type 0 where
   pub idcode : moveAt openImage FromOpen 2 ≡ move 1 ReadIdcode Idcode
   pub setup : moveAt openImage FromOpen 3 ≡ move 1 (WriteSetup CtrlStat 0x54000000) Sent
   pub testMode : moveAt openImage FromOpen 7 ≡ move 1 (WriteDrw 0x80000000) Sent
+  pub stale : moveAt openImage FromOpen 12 ≡ move 1 ReadDrw Sent
   pub poll : moveAt openImage FromOpen 13 ≡ move 1 ReadDrw Poll
   -- the calls of steps 1 and 2, 0x15 and 0, alter nothing; 0x0A, which erases, comes in step 3
   pub imo : moveAt openImage FromOpen 17 ≡ move 1 (WriteDrw 0x80000015) Sent
@@ -44,6 +45,14 @@ pub record MoveExamples : Type 0 where
   pub lock : getD (lockMacro openImage 0) 31 endMove ≡ move 7 (WriteDrw 0x0001E0B6) Sent
   pub locks : getD (verifyMacro twoMacros 1) 0 endMove ≡ move 8 (WriteTar 0x0FFFF400) Sent
 
+-- an acknowledgement that ends the session with this number: at a stale read, at one whose word counts, at a write; not in an attempt
+pub record Ends (ack number : ℕ) : Type 0 where
+  pub stale : after (standing 12 0 0 0) (answer ack 0 0) ≡ reported number 1 41
+  pub counted : after (standing 13 0 0 0) (answer ack 0 0) ≡ reported number 1 41
+  pub written : after (standing 3 0 0 0) (answer ack 0 0) ≡ reported number 1 41
+  pub attempt29 : after (standing 2 0 0 28) (answer ack 0 0) ≡ onto 1 0 0 29
+  pub attempt30 : after (standing 2 0 0 29) (answer ack 0 0) ≡ reported 26 1 41
+
 pub record SessionExamples : Type 0 where
   -- a reset is no transfer; a transfer answered OK leads to the next move and is counted
   pub reset : after (standing 0 0 0 0) ResetDone ≡ running FromOpen 1 0 0 0 7 40
@@ -52,8 +61,6 @@ pub record SessionExamples : Type 0 where
   -- 'up to 30 attempts of line reset and read IDCODE'; 'any mishap ends the attempt only'
   pub attempt29 : after (standing 2 0 0 28) wait ≡ onto 1 0 0 29
   pub attempt30 : after (standing 2 0 0 29) wait ≡ reported 26 1 41
-  pub fault29 : after (standing 2 0 0 28) (answer 4 0 0) ≡ onto 1 0 0 29
-  pub fault30 : after (standing 2 0 0 29) (answer 4 0 0) ≡ reported 26 1 41
   pub attemptOkay : after (standing 2 0 0 29) (okayWith 0x0BB11477) ≡ onto 3 0 0 0
   -- 'WAIT repeats the transfer, 16 times running at most.'; the run starts afresh with each transfer
   pub wait16 : after (standing 3 15 0 0) wait ≡ onto 3 16 0 0
@@ -64,9 +71,16 @@ pub record SessionExamples : Type 0 where
   pub poll10000 : after (standing 13 0 9999 0) (okayWith 0x80000000) ≡ reported 18 1 41
   pub polled : after (standing 13 0 9999 0) (okayWith 0) ≡ onto 14 0 0 0
   -- 'FAULT (28), silence (29), wrong parity on a read answered OK (30)'
-  pub fault : after (standing 3 0 0 0) (answer 4 0 0) ≡ reported 28 1 41
-  pub silence : after (standing 3 0 0 0) (answer 0 0 0) ≡ reported 29 1 41
+  pub fault : Ends 4 28
+  pub silence : Ends 7 29
   pub wrongParity : after (standing 13 0 0 0) (answer 1 0 1) ≡ reported 30 1 41
+  -- 'an acknowledgement other than 1, 2, 4 and 7' (33)
+  pub noise0 : Ends 0 33
+  pub noise3 : Ends 3 33
+  pub noise5 : Ends 5 33
+  pub noise6 : Ends 6 33
+  pub noise8 : Ends 8 33
+  pub noise255 : Ends 255 33
   -- 'the flow step then running': here 5, the last move of row 0
   pub faultAt5 : after (standing 122 0 0 0) (answer 4 0 0) ≡ reported 28 5 41
   pub statusAt5 : after (standing 122 0 0 0) (okayWith 0xF0000000) ≡ reported 19 5 41

@@ -95,7 +95,8 @@ pub struct Silicon {
     pub privileged_sum: u32,
 }
 
-// 'Per transfer: OK; WAIT or FAULT, not carried out; silence, carried out or not; wrong parity on a read, carried out.'
+// 'Per transfer: OK; WAIT or FAULT, not carried out; silence, carried out or not; wrong parity on a read, carried out.'; document 02,
+// Five: 'a noisy transfer, like a silent one, may have been carried out or not according to its list'.
 pub enum TransferOutcome {
     Clean,
     Waits,
@@ -103,6 +104,7 @@ pub enum TransferOutcome {
     WrongParity,
     // Whether it was carried out.
     Silent(bool),
+    Noisy(bool),
 }
 
 // A transfer's outcome, with what is free in its answer, and the word that is elsewhere.

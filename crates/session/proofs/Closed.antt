@@ -1,10 +1,10 @@
 -- 13 is closed under steps: what an answer makes of a possible session is possible, also of one that nobody's start gave.
 -- Assumes nothing.
-use mathlib.Core.Bool.{Bool, true, false, false≢true, cond}
+use mathlib.Core.Bool.{Bool, true, false, _&&_, _||_, false≢true, cond}
 use mathlib.Core.Path.{_≡_, refl, sym, ap, _∙_}
 use Prim.Native.Nat.{ℕ, suc, _≤_, _<_}
 use native.Mathlib.Omega.{arith}
-use borrow.Author.Tests.{le-leb, eq-eqb, ne-eqb, ltb-true}
+use borrow.Author.Tests.{le-leb, eq-eqb, ltb-true}
 use lib.Dec.{eqb, ltb, lit≤}
 use lib.ListN.{length}
 use Rattle.flow.specs.Judge.{rowIn, macroLocks, Judged, go, pollAgain, enter, report, judge, goIf, polled, entryBy, free, testBitSet, succeeded, idsFit, levelIn, levelShown, sumsFit}
@@ -22,13 +22,13 @@ use Rattle.flow.specs.declared.Purpose.the-variants.{Sent, Idcode, TestBit, Pol
 use Rattle.flow.specs.declared.Request.{Request}
 use Rattle.image.specs.Words.{sameWord}
 use Rattle.image.specs.Image.{Image}
-use Rattle.session.specs.Possible.{reportFits}
+use Rattle.session.specs.Possible.{isFailure, reportFits}
 use Rattle.flow.proofs.Moves.{Proper, Reports, proper-at}
 use Rattle.flow.specs.Session.{moveCount}
 use Rattle.session.proofs.Places.{has-next, opening-in}
 use Rattle.wire.specs.Wire.{parity, ackOf}
 use Rattle.wire.specs.declared.Ack.{Ack}
-use Rattle.wire.specs.declared.Ack.the-variants.{Okay, Wait, Fault, Silence}
+use Rattle.wire.specs.declared.Ack.the-variants.{Okay, Wait, Fault, Silence, Noise}
 
 pub record Within (i : Image) (y : Entry) (n w p a : ℕ) : Type 0 where
   pub at : n < moveCount (i .geometry) y
@@ -41,12 +41,12 @@ abbrev pub Stands : Image → Flow.SessionState → Type 0
 Stands i (running y n w p a k h) = Within i y n w p a
 Stands i (reported x t h) = reportFits x t ≡ true
 
-abbrev Numbered : ℕ → Type 0
-Numbered x = (16 ≤ x) × (x ≤ 30)
+or-true : (b : Bool) → b || true ≡ true
+or-true true = refl
+or-true false = refl
 
-numbered : (x t : ℕ) → Numbered x → 1 ≤ t → t ≤ 9 → reportFits x t ≡ true
-numbered x t h low high =
-    simp (ne-eqb x 0 (λ e. omega (arith, h .0)), le-leb 16 x (h .0), le-leb x 30 (h .1), le-leb 1 t low, le-leb t 9 high)
+failed : (x t : ℕ) → isFailure x ≡ true → 1 ≤ t → t ≤ 9 → reportFits x t ≡ true
+failed x t h low high = simp (h, le-leb 1 t low, le-leb t 9 high) (or-true (eqb x 0 && eqb t 9))
 
 at-nine : (t : ℕ) → t ≡ 9 → reportFits 0 t ≡ true
 at-nine t e = simp (eq-eqb t 9 e)
@@ -69,7 +69,7 @@ isLast LastSum = true
 abbrev Line : Verdict → Type 0
 Line (okay x) = Unit {0}
 Line again = Unit {0}
-Line (broken x) = Numbered x
+Line (broken x) = isFailure x ≡ true
 
 line-heard : (b : Bool) (a : Ack) (w p : ℕ) → Line (heard b a w p)
 unfolding heard
@@ -78,13 +78,15 @@ line-heard true Okay w p = either (eqb p (parity w))
   where
     either : (c : Bool) → Line (cond c (okay w) (broken 30))
     either true = tt
-    either false = (lit≤ tt, lit≤ tt)
+    either false = refl
 line-heard false Wait w p = tt
 line-heard true Wait w p = tt
-line-heard false Fault w p = (lit≤ tt, lit≤ tt)
-line-heard true Fault w p = (lit≤ tt, lit≤ tt)
-line-heard false Silence w p = (lit≤ tt, lit≤ tt)
-line-heard true Silence w p = (lit≤ tt, lit≤ tt)
+line-heard false Fault w p = refl
+line-heard true Fault w p = refl
+line-heard false Silence w p = refl
+line-heard true Silence w p = refl
+line-heard false Noise w p = refl
+line-heard true Noise w p = refl
 
 line-verdict : (q : Request) (r : Answer) → Line (verdict q r)
 unfolding verdict
@@ -102,51 +104,51 @@ module _ (i : Image) (y : Entry) (n : ℕ) (inside : n < moveCount (i .geometry)
   Allowed (report x) s = reportFits x s ≡ true
 
   module _ (s : ℕ) (low : 1 ≤ s) (high : s ≤ 9) (p k : ℕ) (small : p < 10000) where
-    allow-if : (b : Bool) (x : ℕ) → suc n < moveCount (i .geometry) y → Numbered x → Allowed (goIf b x p k) s
+    allow-if : (b : Bool) (x : ℕ) → suc n < moveCount (i .geometry) y → isFailure x ≡ true → Allowed (goIf b x p k) s
     unfolding Allowed
     allow-if true x nx h = (nx, small)
-    allow-if false x nx h = numbered x s h low high
+    allow-if false x nx h = failed x s h low high
 
     allow-poll : (b c : Bool) → ltb (suc p) 10000 ≡ c → suc n < moveCount (i .geometry) y → Allowed (polled b c p k) s
     unfolding Allowed
     allow-poll true c e nx = (nx, lit≤ tt)
     allow-poll false true e nx = ltb-true (suc p) 10000 e
-    allow-poll false false e nx = numbered 18 s (lit≤ tt, lit≤ tt) low high
+    allow-poll false false e nx = failed 18 s refl low high
 
     allow-entry : (l : ℕ) (b c : Bool) → eqb l 1 ≡ b → eqb l 2 ≡ c → suc n ≡ length (opening i) → Allowed (entryBy l p k) s
     unfolding Allowed
     allow-entry l true c d e o = rw d (omega (arith, opening-in i FromOpen), small)
     allow-entry l false true d e o = rw (d, e) (omega (arith, opening-in i FromProtected), small)
-    allow-entry l false false d e o = rw (d, e) (numbered 21 s (lit≤ tt, lit≤ tt) low high)
+    allow-entry l false false d e o = rw (d, e) (failed 21 s refl low high)
 
     allow-either : (b : Bool) (j j′ : Judged) → Allowed j s → Allowed j′ s → Allowed (cond b j j′) s
     allow-either true j j′ h h′ = h
     allow-either false j j′ h h′ = h′
 
-    allow-report : (x : ℕ) → Numbered x → Allowed (report x) s
+    allow-report : (x : ℕ) → isFailure x ≡ true → Allowed (report x) s
     unfolding Allowed
-    allow-report x h = numbered x s h low high
+    allow-report x h = failed x s h low high
 
     allowed : (u : Purpose) (w : ℕ) → Reports (suc n ≡ length (opening i)) u s → (isLast u ≡ false → suc n < moveCount (i .geometry) y)
         → Allowed (judge i u p k w) s
     unfolding judge Allowed
     allowed Sent w r nx = (nx refl, small)
-    allowed Idcode w r nx = allow-if (eqb w 0x0BB11477) 16 (nx refl) (lit≤ tt, lit≤ tt)
-    allowed TestBit w r nx = allow-if (testBitSet w) 17 (nx refl) (lit≤ tt, lit≤ tt)
+    allowed Idcode w r nx = allow-if (eqb w 0x0BB11477) 16 (nx refl) refl
+    allowed TestBit w r nx = allow-if (testBitSet w) 17 (nx refl) refl
     allowed Poll w r nx = allow-poll (free w) (ltb (suc p) 10000) refl (nx refl)
-    allowed Status w r nx = allow-if (succeeded w) 19 (nx refl) (lit≤ tt, lit≤ tt)
+    allowed Status w r nx = allow-if (succeeded w) 19 (nx refl) refl
     allowed Keep w r nx = (nx refl, small)
     allowed EntryLevel w r nx =
         allow-either (idsFit i k w) (entryBy (levelIn w) p k) (report 20)
-        (allow-entry (levelIn w) (eqb (levelIn w) 1) (eqb (levelIn w) 2) refl refl r) (allow-report 20 (lit≤ tt, lit≤ tt))
+        (allow-entry (levelIn w) (eqb (levelIn w) 1) (eqb (levelIn w) 2) refl refl r) (allow-report 20 refl)
     allowed Reopened w r nx =
         allow-either (idsFit i k w) (goIf (eqb (levelIn w) 1) 21 p k) (report 20)
-        (allow-if (eqb (levelIn w) 1) 21 (nx refl) (lit≤ tt, lit≤ tt)) (allow-report 20 (lit≤ tt, lit≤ tt))
-    allowed (FlashWord x o) w r nx = allow-if (sameWord (rowIn i x) o w) 22 (nx refl) (lit≤ tt, lit≤ tt)
-    allowed (LockWord m o) w r nx = allow-if (sameWord (macroLocks i m) o w) 23 (nx refl) (lit≤ tt, lit≤ tt)
-    allowed StoredLevel w r nx = allow-if (eqb (levelShown w) (i .header .level)) 24 (nx refl) (lit≤ tt, lit≤ tt)
+        (allow-if (eqb (levelIn w) 1) 21 (nx refl) refl) (allow-report 20 refl)
+    allowed (FlashWord x o) w r nx = allow-if (sameWord (rowIn i x) o w) 22 (nx refl) refl
+    allowed (LockWord m o) w r nx = allow-if (sameWord (macroLocks i m) o w) 23 (nx refl) refl
+    allowed StoredLevel w r nx = allow-if (eqb (levelShown w) (i .header .level)) 24 (nx refl) refl
     allowed LastSum w r nx =
-        allow-either (sumsFit i w k) (report 0) (report 25) (at-nine s r) (allow-report 25 (lit≤ tt, lit≤ tt))
+        allow-either (sumsFit i w k) (report 0) (report 25) (at-nine s r) (allow-report 25 refl)
 
   -- an answer to the standing move
   module _ (w p a k : ℕ) (h : Within i y n w p a) where
@@ -165,11 +167,11 @@ module _ (i : Image) (y : Entry) (n : ℕ) (inside : n < moveCount (i .geometry)
 
     try-in : (b : Bool) (t : ℕ) → ltb (suc a) 30 ≡ b → Stands i (tryAgain b y n (m .step) p a k t)
     try-in true t e = record { at = omega arith; waits = lit≤ tt; polls = h .polls; attempts = ltb-true (suc a) 30 e }
-    try-in false t e = numbered 26 (m .step) (lit≤ tt, lit≤ tt) (p-at .low) (p-at .high)
+    try-in false t e = failed 26 (m .step) refl (p-at .low) (p-at .high)
 
     wait-in : (b : Bool) (t : ℕ) → ltb w 16 ≡ b → Stands i (waitAgain b y n (m .step) w p a k t)
     wait-in true t e = record { at = inside; waits = ltb-true w 16 e; polls = h .polls; attempts = h .attempts }
-    wait-in false t e = numbered 27 (m .step) (lit≤ tt, lit≤ tt) (p-at .low) (p-at .high)
+    wait-in false t e = failed 27 (m .step) refl (p-at .low) (p-at .high)
 
     judged-in : (x : ℕ) → Allowed (judge i (m .purpose) p k x) (m .step)
     judged-in x = allowed (m .step) (p-at .low) (p-at .high) p k (h .polls) (m .purpose) x (p-at .reports) next-of
@@ -180,7 +182,7 @@ module _ (i : Image) (y : Entry) (n : ℕ) (inside : n < moveCount (i .geometry)
     heard-in true again t l = try-in (ltb (suc a) 30) t refl
     heard-in false again t l = wait-in (ltb w 16) t refl
     heard-in true (broken x) t l = try-in (ltb (suc a) 30) t refl
-    heard-in false (broken x) t l = numbered x (m .step) l (p-at .low) (p-at .high)
+    heard-in false (broken x) t l = failed x (m .step) l (p-at .low) (p-at .high)
 
     reset-in : (b : Bool) (r : Answer) (t : ℕ) → isReset (m .request) ≡ b
         → Stands i (cond b (running y (suc n) w p a k t) (heardBy (isAttempt (m .request)) i m (verdict (m .request) r) y n w p a k (suc t)))

@@ -1,6 +1,7 @@
 pub mod Sessions
 pub mod Nexts
 pub mod Possible
+pub mod Reports
 pub mod Ranges
 pub mod Given
 pub mod Calls

@@ -22,9 +22,13 @@ headerFits g h = versionFits h && imageIdFits g h && levelFits (h .level)
 abbrev pub progressFits : Geometry → Entry → Progress → Bool
 progressFits g y p = ltb (p .at) (moveCount g y) && leb (p .waits) 16 && ltb (p .polls) 10000 && ltb (p .attempts) 30
 
--- 0 at step 9, or 16 to 30 at steps 1 to 9
+-- the numbers of a report that is not done: document 01's 16 to 30; document 02's 33 (Five)
+abbrev pub isFailure : (number : ℕ) → Bool
+isFailure n = (leb 16 n && leb n 30) || eqb n 33
+
+-- 0 at step 9, or a failure's number at steps 1 to 9
 abbrev pub reportFits : (number step : ℕ) → Bool
-reportFits n t = (eqb n 0 && eqb t 9) || (leb 16 n && leb n 30 && leb 1 t && leb t 9)
+reportFits n t = (eqb n 0 && eqb t 9) || (isFailure n && leb 1 t && leb t 9)
 
 unfoldable pub possibleIn : Geometry → Session → Bool
 possibleIn g s =

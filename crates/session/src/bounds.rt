@@ -1,6 +1,6 @@
 // Whether a session is possible for its part: number 13.
 ghost use mathlib.Core.Path.{_≡_};
-ghost use Rattle.session.specs.Possible.{headerFits, progressFits, reportFits, possibleIn};
+ghost use Rattle.session.specs.Possible.{headerFits, progressFits, isFailure, reportFits, possibleIn};
 use crate::Progress;
 use crate::Session;
 use flow::Entry;
@@ -33,15 +33,27 @@ fn progress_fits(g: Geometry, y: Entry, p: Progress) -> bool
     false
 }
 
+// Whether a report that is not done can have this number.
+fn is_failure(number: u8) -> bool
+    ensures { λ r. ⌜ r ≡ isFailure number ⌝ }
+{
+    match number {
+        16..=30 | 33 => true,
+        0..=15 | 31 | 32 | 34..=255 => false,
+    }
+}
+
 // Whether a report has a number and a step that a report can have.
 fn report_fits(number: u8, step: u8) -> bool
     ensures { λ r. ⌜ r ≡ reportFits number step ⌝ }
 {
-    match number {
-        0 => step == 9,
-        16..=30 => 1 <= step && step <= 9,
-        _ => false,
+    if number == 0 {
+        return step == 9;
     }
+    if is_failure(number) {
+        return 1 <= step && step <= 9;
+    }
+    false
 }
 
 // Whether a session is possible for its part (13).

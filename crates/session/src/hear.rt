@@ -159,6 +159,7 @@ pub(crate) fn on_reply(
         Ack::Wait => on_wait(q, y, p),
         Ack::Fault => on_broken(q, y, p, 28),
         Ack::Silence => on_broken(q, y, p, 29),
+        Ack::Noise => on_broken(q, y, p, 33),
     }
 }
 
@@ -168,7 +169,7 @@ pub(crate) fn reply_in(a: Answer) -> Reply
 {
     match a {
         Answer::ResetDone => Reply {
-            ack: 0,
+            ack: 7,
             word: 0,
             parity: 0,
         },

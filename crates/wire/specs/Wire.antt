@@ -7,7 +7,7 @@ use lib.Dec.{eqb}
 use Rattle.wire.specs.declared.Access.{Access}
 use Rattle.wire.specs.declared.Access.the-variants.{Read, Write}
 use Rattle.wire.specs.declared.Ack.{Ack}
-use Rattle.wire.specs.declared.Ack.the-variants.{Okay, Wait, Fault, Silence}
+use Rattle.wire.specs.declared.Ack.the-variants.{Okay, Wait, Fault, Silence, Noise}
 use Rattle.wire.specs.declared.Register.{Register}
 use Rattle.wire.specs.declared.Register.the-variants.{Idcode, Abort, CtrlStat, Select, Csw, Tar, Drw}
 
@@ -52,13 +52,15 @@ fourBits r a = apndp r ∷ rnw a ∷ address r % 2 ∷ address r / 2 ∷ []
 abbrev pub requestByte : Register → Access → ℕ
 requestByte r a = fromBits (1 ∷ (fourBits r a ++ (parity (fromBits (fourBits r a)) ∷ 0 ∷ 1 ∷ [])))
 
--- 'Acknowledgement 1 is OK, 2 WAIT, 4 FAULT, all others silence.'
+-- 'Acknowledgement 1 is OK, 2 WAIT, 4 FAULT, all others silence.'; document 02, Five: 'Acknowledgement 7 means that nobody drives the
+-- wire, and the others that we call silence mean noise.'
 abbrev pub ackOf : ℕ → Ack
-ackOf n = cond (eqb n 1) Okay (cond (eqb n 2) Wait (cond (eqb n 4) Fault Silence))
+ackOf n = cond (eqb n 1) Okay (cond (eqb n 2) Wait (cond (eqb n 4) Fault (cond (eqb n 7) Silence Noise)))
 
 -- the numbers that each case of an acknowledgement stands for
 abbrev pub isAck : Ack → ℕ → Bool
 isAck Okay n = eqb n 1
 isAck Wait n = eqb n 2
 isAck Fault n = eqb n 4
-isAck Silence n = not (eqb n 1 || eqb n 2 || eqb n 4)
+isAck Silence n = eqb n 7
+isAck Noise n = not (eqb n 1 || eqb n 2 || eqb n 4 || eqb n 7)

@@ -26,7 +26,9 @@ pub enum Ack {
     Okay,
     Wait,
     Fault,
+    // Nobody drives the wire.
     Silence,
+    Noise,
 }
 
 // The parity bit of a word: 1 when the word has an odd number of ones.
@@ -79,6 +81,7 @@ pub fn read_ack(n: u8) -> Ack
         1 => Ack::Okay,
         2 => Ack::Wait,
         4 => Ack::Fault,
-        0 | 3 | 5..=255 => Ack::Silence,
+        7 => Ack::Silence,
+        0 | 3 | 5 | 6 | 8..=255 => Ack::Noise,
     }
 }

@@ -32,6 +32,12 @@ enum-told-4 c = search needs
 on-broken-requires-2 : tie.Need-on-broken-requires-2
 on-broken-requires-2 c κs = search needs
 
+enum-told-5 : tie.Need-enum-told-5
+enum-told-5 c = search needs
+
+on-broken-requires-3 : tie.Need-on-broken-requires-3
+on-broken-requires-3 c κs = search needs
+
 returns : tie.Need-returns
 unfolding heard
 returns c = simp (← c .before .before .before .read-ack .ensures .0, c .before .enum-told .given .1, c .on-okay .ensures)
@@ -48,6 +54,10 @@ returns-4 : tie.Need-returns-4
 unfolding heard
 returns-4 c = simp (← c .before .before .before .read-ack .ensures .0, c .before .enum-told4 .given .1, c .on-broken2 .ensures, next-broken)
 
+returns-5 : tie.Need-returns-5
+unfolding heard
+returns-5 c = simp (← c .before .before .before .read-ack .ensures .0, c .before .enum-told5 .given .1, c .on-broken3 .ensures, next-broken)
+
 pub on-reply-spec : {M : Type 1} → statement M
 on-reply-spec =
     tie.close
@@ -61,7 +71,10 @@ on-reply-spec =
     on-broken-requires
     enum-told-4
     on-broken-requires-2
+    enum-told-5
+    on-broken-requires-3
     returns
     returns-2
     returns-3
-    returns-4)
+    returns-4
+    returns-5)
