@@ -55,10 +55,13 @@ on_bench() {
     expect 'done 47775' BOARD='2 1 2' -- 2 1 "$two" kill
     expect 'done 190741' BOARD='3 2 1' -- 3 2 "$three" kill
     expect 'done 203280' BOARD='3 2 1' WAITS=1000 BUSY=3 -- 3 2 "$three" kill
-    # A call that never ends, one that fails, a line that is lost, WAITs without end, a board in KILL, another part.
+    # A call that never ends, one that fails, a line that is lost or noisy, WAITs without end, a board in KILL, another part.
     expect 'failed 18 step 1 transfers 30016' BOARD='1 1 1' BUSY=100000 -- 1 1 "$one" kill
     expect 'failed 19 step 5 transfers 225' BOARD='1 1 1' FAIL=9 -- 1 1 "$one" kill
     expect 'failed 29 step 5 transfers 5000' BOARD='1 1 1' SLIP=5000 -- 1 1 "$one" kill
+    expect 'failed 33 step 5 transfers 5000' BOARD='1 1 1' NOISE=5000 -- 1 1 "$one" kill
+    expect 'failed 26 step 1 transfers 30' BOARD='1 1 1' NOISE=1 -- 1 1 "$one" kill
+    expect 'failed 26 step 1 transfers 30' BOARD='1 1 4' NOISE=1 -- 1 1 "$one" kill
     expect 'failed 26 step 1 transfers 30' BOARD='1 1 1' WAITS=1 -- 1 1 "$one" kill
     expect 'failed 26 step 1 transfers 30' BOARD='1 1 4' -- 1 1 "$one" kill
     expect 'failed 20 step 2 transfers 38' BOARD='3 1 1' -- 1 1 "$one" kill
@@ -73,9 +76,11 @@ on_pins() {
     expect 'done 47775' BOOT_US=0 BOARD='2 1 2' -- 2 1 "$two" kill
     # Not under ASan: the board on pins is copied at each write, which takes ten seconds there.
     [ "$build" = sanitized ] || expect 'done 190741' BOOT_US=0 BOARD='3 2 1' -- 3 2 "$three" kill
-    # The line: a WAIT is one transfer more, a clip that slips is silence.
+    # The line: a WAIT is one transfer more, a clip that slips is silence, a bad cable noise.
     expect 'done 27280' BOOT_US=0 WAIT=5000 -- 1 1 "$one" kill
     expect 'failed 29 step 5 transfers 5001' BOOT_US=0 SLIP=5000 -- 1 1 "$one" kill
+    expect 'failed 33 step 5 transfers 5001' BOOT_US=0 NOISE=5000 -- 1 1 "$one" kill
+    expect 'failed 26 step 1 transfers 30' BOOT_US=0 NOISE=0 -- 1 1 "$one" kill
     # Another part on the clip, a text that can't be used, KILL without leave.
     expect 'failed 20 step 2 transfers 38' BOOT_US=0 BOARD='3 1 1' -- 1 1 "$one" kill
     expect 'refused 3' BOOT_US=0 -- 1 1 "$tools/part1-m1/objcopy-start.hex" kill

@@ -15,7 +15,7 @@ use crate::flow::{exchanged, BIT_31, LOW_28};
 use crate::image::Header;
 use crate::parts::{Sizes, KILL, LOCKS, LOCKS_STEP, PARAMS, PROTECTED, TEST_MODE};
 use crate::rng::Rng;
-use crate::wire::{parity, Answer, Request};
+use crate::wire::{parity, Answer, Request, SILENCE};
 use port::{decode, Port};
 
 #[derive(Clone, Debug)]
@@ -168,10 +168,15 @@ impl Board {
         match self.allowed(port, event.line) {
             Line::Wait => Self::free(2, &event),
             Line::Fault => Self::free(4, &event),
-            Line::SilentLost => Self::free(event.silence, &event),
+            Line::SilentLost => Self::free(SILENCE, &event),
+            Line::NoisyLost => Self::free(event.noise, &event),
             Line::SilentCarriedOut => {
                 self.carry_out(port, word, &event, lists);
-                Self::free(event.silence, &event)
+                Self::free(SILENCE, &event)
+            }
+            Line::NoisyCarriedOut => {
+                self.carry_out(port, word, &event, lists);
+                Self::free(event.noise, &event)
             }
             Line::WrongParity if reads => {
                 self.carry_out(port, word, &event, lists);
@@ -187,7 +192,7 @@ impl Board {
     /// A request that no debug port takes is answered by silence and not carried out.
     fn lost(&mut self, event: &LineEvent) -> Answer {
         self.malformed += 1;
-        Self::free(event.silence, event)
+        Self::free(SILENCE, event)
     }
 
     /// An answer whose word and parity don't matter.
@@ -206,6 +211,7 @@ impl Board {
             return match line {
                 Line::Ok | Line::WrongParity => Line::Fault,
                 Line::SilentCarriedOut => Line::SilentLost,
+                Line::NoisyCarriedOut => Line::NoisyLost,
                 other => other,
             };
         }

@@ -54,13 +54,14 @@ impl Core for Reference {
 pub type Counts = BTreeMap<u8, u64>;
 
 /// Adds counts to others, key by key.
-pub(crate) fn add<K: Ord + Copy>(sum: &mut BTreeMap<K, u64>, more: &BTreeMap<K, u64>) {
+pub fn add<K: Ord + Copy>(sum: &mut BTreeMap<K, u64>, more: &BTreeMap<K, u64>) {
     more.iter().for_each(|(&key, count)| *sum.entry(key).or_default() += count);
 }
 
 #[cfg(test)]
 mod tests {
     use super::*;
+    use crate::flow::Report;
 
     /// The generators reach every number: the counts that a cross-check will show.
     #[test]
@@ -83,6 +84,9 @@ mod tests {
     fn sessions_reach_every_number() {
         let tally = sessions(&Reference, 2, 500);
         println!("{tally:?}");
-        assert!((15..=30).chain([0]).all(|number| tally.numbers.contains_key(&number)), "{tally:?}");
+        assert!(
+            Report::failures().chain([0, 15]).all(|number| tally.numbers.contains_key(&number)),
+            "{tally:?}"
+        );
     }
 }

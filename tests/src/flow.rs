@@ -48,6 +48,7 @@ impl<T: FnMut(Request) -> Answer> Flow<'_, T> {
                 Ack::Wait => continue,
                 Ack::Fault => return Err(28),
                 Ack::Silence => return Err(29),
+                Ack::Noise => return Err(33),
                 // "Word and parity matter only on a read answered OK, the stale one included."
                 Ack::Ok if matches!(request, Request::Read { .. }) && bit != parity(word) => return Err(30),
                 Ack::Ok => return Ok(word),

@@ -90,10 +90,7 @@ impl Fields {
         let sizes = self.header.sizes()?;
         let moves = plan(&sizes, self.entry) + 2 * acquisitions(self.entry);
         let stands = match self.finished {
-            true => {
-                (self.number, self.step) == (0, 9)
-                    || (16..=30).contains(&self.number) && (1..=9).contains(&self.step)
-            }
+            true => Report::fits(self.number, self.step),
             false => {
                 u64::from(self.at) < moves
                     && self.waits <= REPEATS.into()
@@ -157,6 +154,7 @@ impl Fields {
             Ack::Wait => Some(27),
             Ack::Fault => Some(28),
             Ack::Silence => Some(29),
+            Ack::Noise => Some(33),
         };
         match (standing.purpose, broken) {
             (Purpose::IdCode, Some(_)) if self.attempts + 1 == ATTEMPTS.into() => {

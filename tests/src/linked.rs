@@ -58,7 +58,7 @@ fn outcome_of(bytes: &[u8; raw::OUTCOME], number: u32) -> Outcome {
     outcome
 }
 
-/// The ABI's answer. Its acknowledgement is a byte: a larger one is silence, as 255 is.
+/// The ABI's answer. Its acknowledgement is a byte: a larger one is noise, as 255 is.
 pub fn abi_answer(answer: Answer) -> raw::Answer {
     match answer {
         Answer::ResetDone => raw::Answer { reset_done: 1, ack: 0, word: 0, parity: 0 },

@@ -100,6 +100,7 @@ impl Monitor {
             }
             Ack::Fault => self.occurs(28),
             Ack::Silence => self.occurs(29),
+            Ack::Noise => self.occurs(33),
             Ack::Ok if !right => self.occurs(30),
             Ack::Ok => {
                 self.waiting = None;
@@ -263,12 +264,31 @@ mod tests {
     #[test]
     fn attempts() {
         let mut m = monitor();
-        let wrong = [(2, true), (4, true), (0, true), (1, true)];
+        let wrong = [(2, true), (4, true), (0, true), (1, true), (7, true), (255, true)];
         for &(ack, parity) in wrong.iter().cycle().take(29) {
             m.observe(Request::read(Register::IdCode), Answer::Wire { ack, word: 0, parity });
         }
         assert_eq!((m.mishap, m.failed_attempts, m.waits), (None, 29, 0));
         m.observe(Request::read(Register::IdCode), Answer::Wire { ack: 7, word: 0, parity: false });
         assert_eq!(m.mishap, Some(26));
+    }
+
+    /// "29 is left with 7"; 33 is "an acknowledgement other than 1, 2, 4 and 7"; inside an attempt neither counts.
+    #[test]
+    fn silence_and_noise() {
+        let requests = [Request::write(Register::Tar, 4), Request::read(Register::Drw)];
+        for (ack, number) in [(7, 29), (0, 33), (3, 33), (5, 33), (6, 33), (8, 33), (255, 33), (256, 33)] {
+            let answer = Answer::Wire { ack, word: 0, parity: false };
+            for request in requests {
+                let mut m = monitor();
+                m.observe(request, answer);
+                assert_eq!(m.mishap, Some(number), "{ack}, {request:?}");
+            }
+            let mut m = monitor();
+            (0..29).for_each(|_| m.observe(Request::read(Register::IdCode), answer));
+            assert_eq!((m.mishap, m.failed_attempts), (None, 29));
+            m.observe(Request::read(Register::IdCode), answer);
+            assert_eq!(m.mishap, Some(26));
+        }
     }
 }

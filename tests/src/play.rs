@@ -54,13 +54,13 @@ impl RandomLists {
 
     /// Fills in what is free beside the event.
     pub fn event(rng: &mut Rng, line: Line) -> LineEvent {
-        let silence = loop {
+        let noise = loop {
             let ack = if rng.bit() { rng.below(8) as u32 } else { rng.word() };
-            if ![1, 2, 4].contains(&ack) {
+            if !line.is_noisy() || ![1, 2, 4, 7].contains(&ack) {
                 break ack;
             }
         };
-        LineEvent { line, silence, word: rng.word(), parity: rng.bit(), elsewhere: rng.word() }
+        LineEvent { line, noise, word: rng.word(), parity: rng.bit(), elsewhere: rng.word() }
     }
 
     /// A failed call with anything that it may leave.

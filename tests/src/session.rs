@@ -218,6 +218,7 @@ impl Session {
             Ack::Wait => self.waits += 1,
             Ack::Fault => self.finish(28),
             Ack::Silence => self.finish(29),
+            Ack::Noise => self.finish(33),
             Ack::Ok if wrong_parity => self.finish(30),
             Ack::Ok => {
                 self.waits = 0;

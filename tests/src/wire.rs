@@ -49,21 +49,27 @@ pub const fn parity(word: u32) -> bool {
     word.count_ones() % 2 == 1
 }
 
-/// "Acknowledgement 1 is OK, 2 WAIT, 4 FAULT, all others silence."
+/// "Acknowledgement 1 is OK, 2 WAIT, 4 FAULT, all others silence."; of these (Five) "7 means that nobody drives the
+/// wire, and the others that we call silence mean noise".
 #[derive(Clone, Copy, PartialEq, Eq, Debug)]
 pub enum Ack {
     Ok,
     Wait,
     Fault,
     Silence,
+    Noise,
 }
+
+/// "Acknowledgement 7 means that nobody drives the wire".
+pub const SILENCE: u32 = 7;
 
 pub const fn acknowledgement(bits: u32) -> Ack {
     match bits {
         1 => Ack::Ok,
         2 => Ack::Wait,
         4 => Ack::Fault,
-        _ => Ack::Silence,
+        SILENCE => Ack::Silence,
+        _ => Ack::Noise,
     }
 }
 
@@ -129,14 +135,11 @@ mod tests {
     }
 
     #[test]
-    fn other_acknowledgements_are_silence() {
+    fn seven_is_silence_and_the_others_noise() {
+        let known = [(1, Ack::Ok), (2, Ack::Wait), (4, Ack::Fault), (7, Ack::Silence)];
         for bits in 0..512 {
-            let expected = match bits {
-                1 => Ack::Ok,
-                2 => Ack::Wait,
-                4 => Ack::Fault,
-                _ => Ack::Silence,
-            };
+            let expected =
+                known.iter().find(|(number, _)| *number == bits).map_or(Ack::Noise, |(_, ack)| *ack);
             assert_eq!(acknowledgement(bits), expected);
         }
     }

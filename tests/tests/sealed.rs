@@ -41,19 +41,23 @@ fn at_the_sealing_read(level: u8, stored: u8, line: Line) -> (Header, Vec<u8>, P
     (header, image, played)
 }
 
-/// The session hears nothing and reports 29 at step 7: carried out, the board has all of the image; not carried out,
-/// macro 0's locks and the level are as step 3 left them.
+/// The session hears nothing, or noise, and reports 29 or 33 at step 7: carried out, the board has all of the image;
+/// not carried out, macro 0's locks and the level are as step 3 left them.
 #[test]
-fn silence_where_macro_0s_call_ends() {
-    for (stored, transfers) in [(OPEN, 190_673), (PROTECTED, 190_699)] {
+fn unheard_where_macro_0s_call_ends() {
+    let unheard =
+        [(29, Line::SilentCarriedOut, Line::SilentLost), (33, Line::NoisyCarriedOut, Line::NoisyLost)];
+    for ((stored, transfers), (number, carried_out, lost)) in
+        [(OPEN, 190_673), (PROTECTED, 190_699)].into_iter().flat_map(|case| unheard.map(|line| (case, line)))
+    {
         for level in [OPEN, PROTECTED, KILL] {
-            let silent = Report { number: 29, step: 7, transfers };
-            let (header, image, played) = at_the_sealing_read(level, stored, Line::SilentCarriedOut);
-            assert_eq!((played.report, played.sealed), (silent, true));
+            let report = Report { number, step: 7, transfers };
+            let (header, image, played) = at_the_sealing_read(level, stored, carried_out);
+            assert_eq!((played.report, played.sealed), (report, true));
             assert!(played.board.holds(&header, &image));
 
-            let (_, image, played) = at_the_sealing_read(level, stored, Line::SilentLost);
-            assert_eq!((played.report, played.sealed), (silent, false));
+            let (_, image, played) = at_the_sealing_read(level, stored, lost);
+            assert_eq!((played.report, played.sealed), (report, false));
             let (flash, locks) = image.split_at(131_072);
             assert_eq!((played.board.stored, &played.board.locks[..64]), (OPEN, &[0; 64][..]));
             assert!(played.board.flash == flash && played.board.locks[64..] == locks[64..]);

@@ -187,7 +187,8 @@ fn what_matters_of_an_answer() {
     assert_eq!(stale(8, 0x8000_0000, false), (30, 9));
     assert_eq!(stale(6, 1, false).0, 0);
     assert_eq!(stale(3, 0, true).0, 0);
-    for ack in [0, 3, 5, 6, 7, 8, 9, 0x101, u32::MAX] {
+    let noise = [0, 3, 5, 6, 8, 9, 0x101, u32::MAX].map(|ack| (ack, 33));
+    for (ack, number) in noise.into_iter().chain([(7, 29)]) {
         let report = tampered(&header, &image, OPEN, |at, answer| {
             if at == 8 {
                 Answer::Wire { ack, word: 0, parity: false }
@@ -195,6 +196,6 @@ fn what_matters_of_an_answer() {
                 answer
             }
         });
-        assert_eq!(report, Report { number: 29, step: 1, transfers: 9 });
+        assert_eq!(report, Report { number, step: 1, transfers: 9 });
     }
 }

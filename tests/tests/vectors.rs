@@ -53,6 +53,7 @@ fn macro_0_goes_last() {
         ("locks' status, macro 1", "19 7", 190_573),
         ("locks 1 at 0", "23 8", 190_576),
         ("silence where macro 0's call ends, carried out", "29 7", 190_673),
+        ("noise where macro 0's call ends, carried out", "33 7", 190_673),
         ("locks' status, macro 0", "19 7", 190_677),
         ("locks 0 at 60", "23 8", 190_725),
         ("level", "24 8", 190_728),

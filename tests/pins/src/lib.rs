@@ -2,7 +2,8 @@
 //! the wire (both sides driving, a short line reset, a missed window) ends the process with a panic.
 //!
 //! The environment says which board: `BOARD` = "PART MACROS STORED_LEVEL", `BOOT_US` how long it starts
-//! after XRES, `SLIP` at which transfer the clip slips for good (silence), `WAIT` one transfer that waits.
+//! after XRES, `SLIP` at which transfer the clip slips for good (silence), `NOISE` at which one noise sets in for good,
+//! `WAIT` one transfer that waits.
 
 mod port;
 
@@ -36,6 +37,10 @@ fn lists() -> Lists {
     if let Some(at) = number("SLIP") {
         lists.line = vec![LineEvent::OK; at as usize];
         lists.line.extend([LineEvent::of(Line::SilentLost); 64]);
+    }
+    if let Some(at) = number("NOISE") {
+        lists.line = vec![LineEvent::OK; at as usize];
+        lists.line.extend([LineEvent { noise: 5, ..LineEvent::of(Line::NoisyLost) }; 64]);
     }
     if let Some(at) = number("WAIT") {
         lists.line = vec![LineEvent::OK; at as usize];

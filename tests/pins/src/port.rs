@@ -2,7 +2,7 @@
 
 use reference::board::{Board, Lists};
 use reference::parts::TEST_MODE;
-use reference::wire::{parity, Answer, Request};
+use reference::wire::{parity, Answer, Request, SILENCE};
 
 /// Half a clock at 4 MHz, in ns.
 const HALF_CLOCK: u64 = 125;
@@ -156,7 +156,7 @@ impl Port {
         if clocks == 1 {
             assert!(self.host.is_none(), "the host drives SWDIO in the turnaround");
             (ack, word, even) = self.acknowledge(byte);
-            if ![1, 2, 4].contains(&ack) {
+            if ack == SILENCE {
                 return State::Lost;
             }
         }
@@ -167,6 +167,8 @@ impl Port {
             _ => None,
         };
         match (ack == 1, read, clocks) {
+            // Noise has no more than an acknowledgement.
+            (false, _, 4) if ![2, 4].contains(&ack) => return State::Lost,
             (false, _, 5) | (true, true, 38) => {
                 assert!(self.host.is_none(), "the host drives SWDIO in the turnaround");
                 return State::Idle;

@@ -1,8 +1,9 @@
 //! The cross-checks: the proved core's static library held to this crate. `cross [--long] [SEED]`.
 //! The same seed is the same run; any difference ends it with a panic.
 
-use reference::cross::{rows, sessions, texts, Counts, Tally, TextTally};
+use reference::cross::{add, rows, sessions, texts, Counts, Tally, TextTally};
 use reference::cuts::{chains, Cuts};
+use reference::flow::Report;
 use reference::linked::{boards, edges, forged, tools, Boards, Forged, Linked, Pair, ENDS};
 use reference::seal::{self, assert_sealed, places, Places, Sealed, REPORTED};
 use std::time::Instant;
@@ -77,7 +78,7 @@ fn check_sessions(seed: u64, sizes: &Sizes) {
     let Tally { plain, requests, refused, .. } = tally;
     println!("sessions: {} alike, request by request: {requests} requests", tally.sessions());
     println!("  {plain} on a plain board, demand 3's claims asserted; {refused} refused steps between");
-    show("sessions", &tally.numbers, (15..=30).chain([0]));
+    show("sessions", &tally.numbers, Report::failures().chain([0, 15]));
     for ((part, macros, protected, level), (all, done)) in &tally.kinds {
         let entry = if *protected { "PROTECTED" } else { "OPEN" };
         println!("  part {part}, M {macros}, from {entry}, level {level}: {all}, done {done}");
@@ -110,12 +111,15 @@ fn check_forged(seed: u64, sizes: &Sizes) {
         sum.steps += part.steps;
         sum.impossible += part.impossible;
         sum.refused += part.refused;
-        sum.reports += part.reports;
+        add(&mut sum.reports, &part.reports);
         sum.requests += part.requests;
     }
     let Forged { steps, impossible, refused, reports, requests } = sum;
-    println!("forged sessions: {steps} steps alike: 13 {impossible}, 12 or 14 {refused}, reports {reports}, requests {requests}");
-    assert!([impossible, refused, reports, requests].iter().all(|&count| count > 0));
+    println!(
+        "forged sessions: {steps} steps alike: 13 {impossible}, 12 or 14 {refused}, requests {requests}"
+    );
+    show("reports", &reports, Report::failures().chain([0]));
+    assert!([impossible, refused, requests].iter().all(|&count| count > 0));
 }
 
 fn check_boards(seed: u64, sizes: &Sizes) {
@@ -128,7 +132,7 @@ fn check_boards(seed: u64, sizes: &Sizes) {
         sum.sessions
     );
     println!("  {} sessions with disturbances in both lists", sum.disturbed);
-    show("sessions", &sum.numbers, [0, 16, 18, 19, 20, 21, 26, 27, 28, 29, 30]);
+    show("sessions", &sum.numbers, [0, 16, 18, 19, 20, 21, 26, 27, 28, 29, 30, 33]);
     let line: Vec<String> = sum.reached.iter().map(|(name, count)| format!("{name} {count}")).collect();
     println!("  packets: {}", line.join("; "));
     for end in ENDS {
@@ -146,7 +150,7 @@ fn check_cuts(seed: u64, sizes: &Sizes) {
     let Cuts { chains, cuts, requests, refused, .. } = sum;
     println!("cuts: {chains} boards, cut {cuts} times, loaded again or closed by KILL: {requests} requests");
     println!("  on the bench board beside ours, demand 3's claims asserted; {refused} refused steps between");
-    show("sessions cut after their report", &sum.numbers, [0, 19, 26, 27, 28, 29]);
+    show("sessions cut after their report", &sum.numbers, [0, 19, 26, 27, 28, 29, 33]);
     println!("  cuts: {}", sum.line());
     let line: Vec<String> =
         sum.sizes.iter().map(|((part, macros), count)| format!("part {part}, M {macros}: {count}")).collect();

@@ -10,17 +10,41 @@ pub enum Line {
     Fault,
     SilentCarriedOut,
     SilentLost,
+    NoisyCarriedOut,
+    NoisyLost,
     /// On a read, carried out; met by a write it is an OK.
     WrongParity,
 }
 
+impl Line {
+    /// All but OK, the one that is no mishap first.
+    pub const DISTURBANCES: [Line; 7] = [
+        Line::Wait,
+        Line::Fault,
+        Line::SilentCarriedOut,
+        Line::SilentLost,
+        Line::NoisyCarriedOut,
+        Line::NoisyLost,
+        Line::WrongParity,
+    ];
+
+    pub fn mishaps() -> &'static [Line] {
+        &Line::DISTURBANCES[1..]
+    }
+
+    pub const fn is_noisy(self) -> bool {
+        matches!(self, Line::NoisyCarriedOut | Line::NoisyLost)
+    }
+}
+
 /// An entry of the line's list: "Per transfer: OK; WAIT or FAULT, not carried out; silence, carried
-/// out or not; wrong parity on a read, carried out", and what is free beside.
+/// out or not; wrong parity on a read, carried out", by Five "a noisy transfer, like a silent one", and what is free
+/// beside.
 #[derive(Clone, Copy, PartialEq, Eq, Debug)]
 pub struct LineEvent {
     pub line: Line,
-    /// The acknowledgement of a silence.
-    pub silence: u32,
+    /// The acknowledgement of a noise, "other than 1, 2, 4 and 7"; no other line looks at it.
+    pub noise: u32,
     /// Word and parity where they don't matter; the word of a wrong-parity read.
     pub word: u32,
     pub parity: bool,
@@ -30,7 +54,7 @@ pub struct LineEvent {
 
 impl LineEvent {
     /// "past a list's end it is OK"
-    pub const OK: LineEvent = LineEvent { line: Line::Ok, silence: 7, word: 0, parity: false, elsewhere: 0 };
+    pub const OK: LineEvent = LineEvent { line: Line::Ok, noise: 0, word: 0, parity: false, elsewhere: 0 };
 
     pub const fn of(line: Line) -> LineEvent {
         LineEvent { line, ..LineEvent::OK }

@@ -49,7 +49,7 @@ fn call(board: &mut Board, lists: &mut Lists, command: u32, argument: u32) -> Re
     read(board, lists, SYSARG)
 }
 
-/// "PROTECTED in effect answers FAULT for flash and PARAMS"; a silence there is not carried out.
+/// "PROTECTED in effect answers FAULT for flash and PARAMS"; a silence or a noise there is not carried out.
 #[test]
 fn protected_answers_fault() {
     let (mut b, mut lists) = board(PROTECTED);
@@ -60,10 +60,13 @@ fn protected_answers_fault() {
     for address in [131_072, LOCKS, LOCKS + 0x400, LOCKS + 124, SYSREQ, SYSARG, TEST_MODE] {
         assert!(read(&mut b, &mut lists, address).is_ok());
     }
-    let (before, silent) = (b.params.clone(), LineEvent::of(Line::SilentCarriedOut));
-    let mut lists = Lists { line: vec![LineEvent::OK, silent], ..Lists::default() };
-    assert_eq!(write(&mut b, &mut lists, PARAMS, !before[0]), 7);
-    assert_eq!(b.params, before);
+    let before = b.params.clone();
+    for (line, answer) in [(Line::SilentCarriedOut, 7), (Line::NoisyCarriedOut, 5)] {
+        let event = LineEvent { noise: 5, ..LineEvent::of(line) };
+        let mut lists = Lists { line: vec![LineEvent::OK, event], ..Lists::default() };
+        assert_eq!(write(&mut b, &mut lists, PARAMS, !before[0]), answer);
+        assert_eq!(b.params, before);
+    }
 }
 
 /// "KILL is silent", whatever the list says.
@@ -71,24 +74,22 @@ fn protected_answers_fault() {
 fn kill_is_silent() {
     let (mut b, _) = board(KILL);
     let tar = b.tar;
-    for line in
-        [Line::Ok, Line::Wait, Line::Fault, Line::SilentCarriedOut, Line::SilentLost, Line::WrongParity]
-    {
-        let mut lists = Lists { line: vec![LineEvent::of(line)], ..Lists::default() };
+    for line in [Line::Ok].into_iter().chain(Line::DISTURBANCES) {
+        let event = LineEvent { noise: 5, ..LineEvent::of(line) };
+        let mut lists = Lists { line: vec![event], ..Lists::default() };
         assert_eq!(ack(b.answer(Request::write(Register::Tar, !tar), &mut lists)), 7);
-        let mut lists = Lists { line: vec![LineEvent::of(line)], ..Lists::default() };
+        let mut lists = Lists { line: vec![event], ..Lists::default() };
         assert_eq!(ack(b.answer(Request::read(Register::IdCode), &mut lists)), 7);
         assert_eq!((lists.line_used, b.tar), (1, tar));
     }
 }
 
 /// "OK; WAIT or FAULT, not carried out; silence, carried out or not; wrong parity on a read, carried
-/// out".
+/// out"; "a noisy transfer, like a silent one, may have been carried out or not according to its list".
 #[test]
 fn what_is_carried_out() {
-    let lines =
-        [Line::Ok, Line::Wait, Line::Fault, Line::SilentCarriedOut, Line::SilentLost, Line::WrongParity];
-    for (line, carried) in lines.into_iter().zip([true, false, false, true, false, true]) {
+    let lines = [Line::Ok].into_iter().chain(Line::DISTURBANCES);
+    for (line, carried) in lines.zip([true, false, false, true, false, true, false, true]) {
         let (mut b, _) = board(OPEN);
         let mut lists = Lists { line: vec![LineEvent::of(line)], ..Lists::default() };
         b.tar = 4;

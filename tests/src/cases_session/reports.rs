@@ -186,12 +186,13 @@ impl Maker {
         }
     }
 
-    /// Macro 0's 0x0D succeeds on the board, and the session hears nothing.
+    /// Macro 0's 0x0D succeeds on the board, and the session hears nothing, or noise.
     fn unheard(&mut self, reads: &Reads) {
         let Reads { case, requests, .. } = reads;
         // The last poll but one is that call's, and its stale read ends it.
         let ends = requests[requests.len() - 2] - 1;
         self.add("silence where macro 0's call ends, carried out", (29, 7), case, &[wrong(ends, 7)]);
+        self.add("noise where macro 0's call ends, carried out", (33, 7), case, &[wrong(ends, 3)]);
     }
 
     fn comparisons(&mut self, reads: &Reads) {
@@ -245,8 +246,11 @@ impl Maker {
             }
         }
         let again = tests[1] - 8;
-        self.add("29 attempts, both times", (0, 9), case, &[lost(0, 29, 0), lost(again + 29, 29, 0)]);
-        self.add("29 attempts, then 30", (26, 1), case, &[lost(0, 29, 0), lost(again + 29, 30, 0)]);
+        for (ack, what) in [(0, "noise"), (7, "silence")] {
+            let twice = |second| [lost(0, 29, ack), lost(again + 29, second, ack)];
+            self.add(&format!("29 attempts, both times, {what}"), (0, 9), case, &twice(29));
+            self.add(&format!("29 attempts, then 30, {what}"), (26, 1), case, &twice(30));
+        }
         let places = [polls[2], polls[3], again + 3, polls[9], polls[20] - 8, polls[400], polls[last] + 6];
         for at in [1, 6, 7, 8].into_iter().chain(places) {
             self.add(&format!("16 WAITs at {at}"), (0, 9), case, &[lost(at, 16, 2)]);
@@ -256,7 +260,7 @@ impl Maker {
         }
     }
 
-    /// FAULT, silence and wrong parity in every step.
+    /// FAULT, silence, noise and wrong parity in every step.
     pub(super) fn line(&mut self, part: u32, macros: u32, stored: u8) {
         let reads = Reads::of(self.base(part, macros, stored));
         let Reads { case, sizes, args, .. } = &reads;
@@ -267,15 +271,23 @@ impl Maker {
             // The Read's TAR, its stale word, its word.
             let (step, tar, stale) = (step_at(case, read), read - 2, read - 1);
             add(&format!("FAULT at {tar}"), (28, step), lost(tar, 1, 4));
-            add(&format!("silence 0 at {stale}"), (29, step), lost(stale, 1, 0));
-            add(&format!("silence 7 at {read}, carried out"), (29, step), wrong(read, 7));
+            add(&format!("noise 0 at {stale}"), (33, step), lost(stale, 1, 0));
+            add(&format!("noise 5 at {read}, carried out"), (33, step), wrong(read, 5));
+            add(&format!("silence at {stale}"), (29, step), lost(stale, 1, 7));
+            add(&format!("silence at {read}, carried out"), (29, step), wrong(read, 7));
             add(&format!("parity at {stale}, stale"), (30, step), wrong(stale, 1));
             add(&format!("parity at {read}"), (30, step), wrong(read, 1));
         }
         let at = args[3] - 2;
         add("a write's word and parity are free", (0, 9), wrong(at, 1));
-        for ack in [3, 5, 6, 8, 9, 10, 12, 255] {
-            add(&format!("acknowledgement {ack}"), (29, step_at(case, at)), wrong(at, ack));
+        for ack in [0, 3, 5, 6, 7, 8, 9, 10, 12, 255] {
+            let number = if ack == 7 { 29 } else { 33 };
+            // A write, then the stale word and the word of a Read.
+            for at in at..=at + 2 {
+                add(&format!("acknowledgement {ack} at {at}"), (number, step_at(case, at)), wrong(at, ack));
+            }
+            add(&format!("acknowledgement {ack}, 29 attempts"), (0, 9), lost(0, 29, ack));
+            add(&format!("acknowledgement {ack}, 30 attempts"), (26, 1), lost(0, 30, ack));
         }
     }
 }

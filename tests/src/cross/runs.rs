@@ -75,12 +75,11 @@ impl Run {
         // Steps 7 to 9 of two macros are 240 transfers, and 5 calls.
         let transfer = |rng: &mut Rng| when.place(rng, transfers, 150);
         let call = |rng: &mut Rng| when.place(rng, calls, 5);
-        let all = [Line::Wait, Line::Fault, Line::SilentCarriedOut, Line::SilentLost, Line::WrongParity];
         match rng.below(9) {
             0 => self.lists.wait_one_in = 20 + rng.below(200),
             1 => (self.lists.busy_one_in, self.lists.most_busy) = (1 + rng.below(5), 1 + rng.below(40)),
             2 | 3 => {
-                let (at, line) = (transfer(rng), *rng.pick(&all[1..]));
+                let (at, line) = (transfer(rng), *rng.pick(Line::mishaps()));
                 self.lists.line.insert(at, RandomLists::event(rng, line));
             }
             4 => {
@@ -97,7 +96,7 @@ impl Run {
             }
             7 => {
                 for at in 0..25 + rng.below(8) as u64 {
-                    let line = *rng.pick(&all);
+                    let line = *rng.pick(&Line::DISTURBANCES);
                     self.lists.line.insert(at, RandomLists::event(rng, line));
                 }
             }

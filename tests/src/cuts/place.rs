@@ -133,7 +133,7 @@ pub fn disturbed(rng: &mut Rng, board: &Board) -> RandomLists {
         lists.calls.insert(at, RandomLists::failure(rng));
     }
     if rng.chance(3) {
-        let line = *rng.pick(&[Line::Fault, Line::SilentCarriedOut, Line::SilentLost, Line::WrongParity]);
+        let line = *rng.pick(Line::mishaps());
         lists.line.insert(place(rng, plan(sizes, entry)), RandomLists::event(rng, line));
     }
     lists

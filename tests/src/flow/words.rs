@@ -38,6 +38,19 @@ pub struct Report {
     pub transfers: u32,
 }
 
+impl Report {
+    /// The numbers of reports that are not done: document 01's, then those of document 02.
+    pub fn failures() -> impl Iterator<Item = u8> {
+        (16..=30).chain([33])
+    }
+
+    /// Whether a report may have this number and this step.
+    pub fn fits(number: u8, step: u8) -> bool {
+        (number, step) == (0, 9)
+            || Report::failures().any(|failure| failure == number) && (1..=9).contains(&step)
+    }
+}
+
 /// "with 0 and 1 exchanged"
 pub const fn exchanged(level: u8) -> u8 {
     match level {

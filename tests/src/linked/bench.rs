@@ -57,8 +57,10 @@ fn event_bytes(event: &LineEvent, elsewhere: u32) -> [u8; bench::EVENT] {
         Line::WrongParity => 3,
         Line::SilentLost => 4,
         Line::SilentCarriedOut => 5,
+        Line::NoisyLost => 6,
+        Line::NoisyCarriedOut => 7,
     };
-    bytes[1] = u8::try_from(event.silence).unwrap_or(u8::MAX);
+    bytes[1] = u8::try_from(event.noise).unwrap_or(u8::MAX);
     bytes[2..6].copy_from_slice(&event.word.to_le_bytes());
     bytes[6] = event.parity.into();
     bytes[7..].copy_from_slice(&elsewhere.to_le_bytes());
@@ -158,7 +160,7 @@ impl Pair {
             self.leave(call);
         }
         // What isn't taken must not matter.
-        let event = taken.event.unwrap_or(LineEvent { silence: 1, ..LineEvent::of(Line::SilentCarriedOut) });
+        let event = taken.event.unwrap_or(LineEvent { noise: 1, ..LineEvent::of(Line::SilentCarriedOut) });
         let call = taken.call.unwrap_or(CallOutcome { success: false, ..CallOutcome::OK });
         let elsewhere = free_bits.unwrap_or(event.elsewhere);
         let given = self.meet_theirs(request, &event_bytes(&event, elsewhere), &call_bytes(&call));

@@ -121,7 +121,7 @@ fn disturb(rng: &mut Rng, run: &mut Run) {
         lists.calls.insert(rng.below(calls as usize) as u64, RandomLists::failure(rng));
     }
     if rng.chance(4) {
-        let line = *rng.pick(&[Line::Fault, Line::SilentCarriedOut, Line::SilentLost, Line::WrongParity]);
+        let line = *rng.pick(Line::mishaps());
         lists.line.insert(rng.below(transfers as usize) as u64, RandomLists::event(rng, line));
     }
 }

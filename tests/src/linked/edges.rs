@@ -102,7 +102,7 @@ fn bench() -> u64 {
         calls += 1;
     }
     // Lent, byte, the marks that are some.
-    let marks = [(0, 34, 0..=1), (0, 39, 0..=1), (0, 44, 0..=1), (1, 0, 0..=5), (2, 4, 0..=1), (2, 9, 0..=1)];
+    let marks = [(0, 34, 0..=1), (0, 39, 0..=1), (0, 44, 0..=1), (1, 0, 0..=7), (2, 4, 0..=1), (2, 9, 0..=1)];
     for (which, at, some) in marks.into_iter().chain([(3, 0, 1..=4)]) {
         for mark in 0..=255 {
             let mut lent = fine.clone();

@@ -2,6 +2,7 @@
 
 use super::{abi_answer, outcome_bytes, UNWRITTEN};
 use crate::counts::{acquisitions, bound, plan, Entry};
+use crate::cross::Counts;
 use crate::image::{word, Header};
 use crate::indexed::{self, sequence, started, Move, Purpose, BYTES};
 use crate::parts::{IDCODE, SIZES};
@@ -13,12 +14,13 @@ use halzuqeen::raw;
 use std::collections::HashMap;
 
 /// What the forged sessions came to.
-#[derive(Clone, Copy, Default, Debug)]
+#[derive(Clone, Default, Debug)]
 pub struct Forged {
     pub steps: u64,
     pub impossible: u64,
     pub refused: u64,
-    pub reports: u64,
+    /// By number.
+    pub reports: Counts,
     pub requests: u64,
 }
 
@@ -75,7 +77,7 @@ impl Bench {
                     tally.refused += 1;
                 }
             }
-            Outcome::Report(_) => tally.reports += 1,
+            Outcome::Report(report) => *tally.reports.entry(report.number).or_default() += 1,
             Outcome::Request(_) => tally.requests += 1,
         }
         outcome
@@ -149,7 +151,7 @@ fn possible(rng: &mut Rng, header: &Header) -> [u8; BYTES] {
         to.copy_from_slice(&(near(rng, most) as u32).to_le_bytes());
     }
     if rng.chance(8) {
-        (bytes[18], bytes[19]) = (1, *rng.pick(&[0, 16, 22, 30]));
+        (bytes[18], bytes[19]) = (1, *rng.pick(&[0, 16, 22, 30, 33]));
         bytes[20] = if bytes[19] == 0 { 9 } else { 1 + rng.below(9) as u8 };
     }
     bytes

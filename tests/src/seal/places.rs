@@ -39,13 +39,24 @@ impl Places {
 }
 
 /// Every event but OK, and whether a read that meets it is carried out.
-const LINES: [(Line, bool); 5] = [
+const LINES: [(Line, bool); 7] = [
     (Line::Wait, false),
     (Line::Fault, false),
     (Line::SilentLost, false),
     (Line::SilentCarriedOut, true),
+    (Line::NoisyLost, false),
+    (Line::NoisyCarriedOut, true),
     (Line::WrongParity, true),
 ];
+
+/// What a session reports that does not hear its answer.
+const fn unheard(line: Line) -> Option<u8> {
+    match line {
+        Line::SilentCarriedOut | Line::SilentLost => Some(29),
+        Line::NoisyCarriedOut | Line::NoisyLost => Some(33),
+        _ => None,
+    }
+}
 
 /// The place, from 0, of the DRW read in which macro 0's call ends. After it come the other read of its poll, the Read
 /// of its status, those of its locks and of the level, and step 9.
@@ -138,8 +149,8 @@ impl Round<'_> {
                 for (line, carried_out) in LINES {
                     let sealed = at > sealing || at == sealing && carried_out;
                     let report = self.ends(calm.fork().meets(line), sealed);
-                    if at == sealing && matches!(line, Line::SilentCarriedOut | Line::SilentLost) {
-                        assert_eq!(report, Report { number: 29, step: 7, transfers: at as u32 + 1 });
+                    if let Some(number) = unheard(line).filter(|_| at == sealing) {
+                        assert_eq!(report, Report { number, step: 7, transfers: at as u32 + 1 });
                     }
                 }
                 self.cut_before_the_report(calm.fork(), at > sealing);

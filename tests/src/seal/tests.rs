@@ -49,7 +49,7 @@ fn failed(stores: bool) -> CallOutcome {
 fn at_the_read_where_the_call_ends() {
     for level in LEVELS {
         let board = || locking(level, 0, CallOutcome::OK);
-        for line in [Line::Ok, Line::SilentCarriedOut, Line::WrongParity] {
+        for line in [Line::Ok, Line::SilentCarriedOut, Line::NoisyCarriedOut, Line::WrongParity] {
             assert_eq!(after(board(), &[(READ, line), (READ, Line::Fault)]), [true, true]);
             assert_eq!(after(board(), &[(READ, line), (Request::Xres, Line::Ok)]), [true, true]);
         }
@@ -60,7 +60,7 @@ fn at_the_read_where_the_call_ends() {
 #[test]
 fn not_before_it() {
     let board = || locking(KILL, 0, CallOutcome::OK);
-    for line in [Line::Wait, Line::Fault, Line::SilentLost] {
+    for line in [Line::Wait, Line::Fault, Line::SilentLost, Line::NoisyLost] {
         assert_eq!(after(board(), &[(READ, line)]), [false]);
         assert_eq!(after(board(), &[(READ, line), (READ, Line::Ok)]), [false, true]);
     }

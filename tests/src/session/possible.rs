@@ -3,7 +3,7 @@
 use super::place::{list_length, Call, Phase, Place, Shape};
 use super::Session;
 use crate::counts::{bound, Entry};
-use crate::flow::{ATTEMPTS, POLLS, REPEATS};
+use crate::flow::{Report, ATTEMPTS, POLLS, REPEATS};
 use crate::image::header_refusal;
 use crate::parts::{Sizes, TABLE};
 
@@ -37,9 +37,7 @@ impl Session {
                 usize::from(number) < sizes.macros && 4 * usize::from(index) < sizes.lock_bytes()
             }
             Place::Reported(report) => {
-                matches!(report.number, 0 | 16..=30)
-                    && (1..=9).contains(&report.step)
-                    && report.transfers == self.transfers
+                Report::fits(report.number, report.step) && report.transfers == self.transfers
             }
             _ => true,
         };

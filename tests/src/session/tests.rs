@@ -29,7 +29,7 @@ fn forged_place(rng: &mut Rng) -> Place {
         [Phase::List(rng.below(40) as u8), Phase::Argument, Phase::Command, Phase::Poll, Phase::Status];
     let phase = *rng.pick(&phases);
     let report =
-        Report { number: rng.below(32) as u8, step: rng.below(11) as u8, transfers: rng.below(3) as u32 };
+        Report { number: rng.below(36) as u8, step: rng.below(11) as u8, transfers: rng.below(3) as u32 };
     let places = [
         Place::Xres,
         Place::LineReset,

@@ -36,8 +36,7 @@ pub fn any_call(rng: &mut Rng) -> CallOutcome {
 }
 
 fn any_entries(rng: &mut Rng) -> Entries {
-    let lines = [Line::Wait, Line::Fault, Line::SilentCarriedOut, Line::SilentLost, Line::WrongParity];
-    let line = if rng.chance(4) { *rng.pick(&lines) } else { Line::Ok };
+    let line = if rng.chance(4) { *rng.pick(&Line::DISTURBANCES) } else { Line::Ok };
     Entries { event: RandomLists::event(rng, line), call: any_call(rng) }
 }
 

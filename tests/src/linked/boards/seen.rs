@@ -110,7 +110,7 @@ impl Seen<'_> {
 
 type Kind = (&'static str, fn(&Seen) -> bool);
 
-pub const KINDS: [Kind; 44] = [
+pub const KINDS: [Kind; 51] = [
     ("OK", |s| s.ack(Ack::Ok)),
     ("WAIT", |s| s.ack(Ack::Wait)),
     ("FAULT of the list", |s| s.ack(Ack::Fault) && s.line(Line::Fault)),
@@ -121,8 +121,17 @@ pub const KINDS: [Kind; 44] = [
         s.line(Line::SilentCarriedOut) && s.in_effect(PROTECTED) && s.is_kept_read()
     }),
     ("silence not carried out", |s| s.line(Line::SilentLost)),
+    ("noise carried out", |s| s.line(Line::NoisyCarriedOut) && s.ack(Ack::Noise) && s.alters()),
+    ("noise by PROTECTED not carried out", |s| {
+        s.line(Line::NoisyCarriedOut) && s.in_effect(PROTECTED) && s.is_kept_read()
+    }),
+    ("noise not carried out", |s| s.line(Line::NoisyLost) && s.ack(Ack::Noise)),
     ("silence by KILL", |s| s.ack(Ack::Silence) && s.in_effect(KILL) && s.line(Line::Ok)),
     ("silence by KILL, not WAIT", |s| s.in_effect(KILL) && s.line(Line::Wait)),
+    ("silence by KILL, not noise", |s| {
+        s.ack(Ack::Silence) && s.in_effect(KILL) && s.line(Line::NoisyCarriedOut)
+    }),
+    ("noise, and no port takes the request byte", |s| s.line(Line::NoisyLost) && s.ack(Ack::Silence)),
     ("wrong parity", |s| s.line(Line::WrongParity) && s.ack(Ack::Ok) && s.reads()),
     ("wrong parity met by a write", |s| s.line(Line::WrongParity) && s.ack(Ack::Ok) && !s.reads()),
     ("request byte that no port takes", |s| {
@@ -139,11 +148,13 @@ pub const KINDS: [Kind; 44] = [
     ("call while one runs", |s| s.call.is_some() && s.before.running.is_some()),
     ("call with PROTECTED in effect", |s| s.call.is_some() && s.in_effect(PROTECTED)),
     ("call by a silent write", |s| s.call.is_some() && s.ack(Ack::Silence)),
+    ("call by a noisy write", |s| s.call.is_some() && s.ack(Ack::Noise)),
     ("SYSREQ without bit 31 while a call runs", |s| {
         s.writes_drw(|at| at == Place::SysReq) && s.call.is_none() && s.board.running.is_some()
     }),
     ("busy read", |s| s.before.running.is_some_and(|was| s.board.running.is_some_and(|now| now != was))),
     ("call ended by a silent read", |s| s.ended().is_some() && s.ack(Ack::Silence)),
+    ("call ended by a noisy read", |s| s.ended().is_some() && s.ack(Ack::Noise)),
     ("failure with a residue", |s| {
         s.ended().is_some_and(|call| !call.outcome.success && call.outcome.scramble.is_some())
     }),
