@@ -4,6 +4,7 @@
  *     BOARD   "PART MACROS STORED_LEVEL", or "1 1 1"
  *     WAITS   each transfer whose number this divides is answered WAIT
  *     SLIP    from this transfer on there is silence
+ *     NOISE   from this transfer on there is noise
  *     BUSY    how many reads of SYSREQ find each call under way
  *     FAIL    the number of the call that fails */
 #include <stdio.h>
@@ -61,12 +62,14 @@ static void set_up(void)
 /* What becomes of the next transfer, and of the next call. */
 static void set_outcomes(uint8_t *event, uint8_t *call)
 {
-    unsigned long waits = setting("WAITS"), slip = setting("SLIP");
+    unsigned long waits = setting("WAITS"), slip = setting("SLIP"), noise = setting("NOISE");
     if (slip != 0 && transfers + 1 >= slip)
         event[HALZUQEEN_BENCH_EVENT_OUTCOME] = 4;
+    else if (noise != 0 && transfers + 1 >= noise)
+        event[HALZUQEEN_BENCH_EVENT_OUTCOME] = 6;
     else if (waits != 0 && (transfers + 1) % waits == 0)
         event[HALZUQEEN_BENCH_EVENT_OUTCOME] = 1;
-    event[HALZUQEEN_BENCH_EVENT_ACK] = 7;
+    event[HALZUQEEN_BENCH_EVENT_ACK] = 5;
     put_word(event + HALZUQEEN_BENCH_EVENT_WORD, 0xFFFFFFFF);
     put_word(call + HALZUQEEN_BENCH_CALL_BUSY_READS, setting("BUSY"));
     call[HALZUQEEN_BENCH_CALL_SUCCEEDS] = calls + 1 != setting("FAIL");

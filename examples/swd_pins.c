@@ -76,7 +76,7 @@ static struct answer transfer(const uint8_t *outcome)
         answer.word = get(32);
         answer.parity = (uint8_t)get(1);
     } else if (answer.ack != OK && answer.ack != WAIT && answer.ack != FAULT) {
-        let_pass(33); /* silence: as long as a word and its parity take */
+        let_pass(33); /* silence or noise: as long as a word and its parity take */
     }
     let_pass(1);
     if (answer.ack == OK && !reads) {

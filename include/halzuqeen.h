@@ -58,7 +58,7 @@ extern "C" {
 
 /* Offsets in an outcome. */
 #define HALZUQEEN_OUTCOME_KIND 0
-#define HALZUQEEN_OUTCOME_NUMBER 1     /* the refusal's or the report's number (0 done) */
+#define HALZUQEEN_OUTCOME_NUMBER 1     /* the refusal's or the report's number (0 done, 16 to 30 or 33) */
 #define HALZUQEEN_OUTCOME_REQUEST 1    /* a read's or a write's request byte */
 #define HALZUQEEN_OUTCOME_PARITY 2     /* a write's parity bit */
 #define HALZUQEEN_OUTCOME_STEP 2       /* a report's flow step */
@@ -107,7 +107,8 @@ uint32_t halzuqeen_start(const uint8_t *header, size_t header_length, const uint
  * image, image_length: the image that the session was started on, the same bytes at every step.
  * reset_done: anything but 0 says that the reset asked for is done, and the next three are not looked at; 0 says that they answer a
  *     transfer.
- * ack: the acknowledgement, bit 0 first on the wire: 1 OK, 2 WAIT, 4 FAULT, anything else silence.
+ * ack: the acknowledgement, bit 0 first on the wire: 1 OK, 2 WAIT, 4 FAULT, 7 silence (nobody drives the wire: report 29), anything else,
+ *     also over 7, noise (report 33); before IDCODE has been read, both only end an attempt.
  * word, parity: the word and the parity bit of a read answered OK; otherwise not looked at.
  * outcome, outcome_length: as for starting; with a refusal it has the refusal.
  * A session under size is 12, since there is none to look at. Then checks 13, whatever outcome and image are; 12, of outcome and image;

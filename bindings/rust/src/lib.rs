@@ -57,14 +57,15 @@ pub enum Request {
     Write { byte: u8, word: u32, parity: bool },
 }
 
-/// What came back: a reset was done, or the three acknowledgement bits and, on a read, word and parity.
+/// What came back: a reset was done, or the three acknowledgement bits (7 where nobody drives the wire) and, on a read,
+/// word and parity.
 #[derive(Clone, Copy, PartialEq, Eq, Debug)]
 pub enum Answer {
     ResetDone,
     Wire { ack: u8, word: u32, parity: bool },
 }
 
-/// 0 is done; 16 to 30 say what went wrong, in which step of the flow, after how many transfers.
+/// 0 is done; 16 to 30 and 33 say what went wrong, in which step of the flow, after how many transfers.
 #[derive(Clone, Copy, PartialEq, Eq, Debug)]
 pub struct Report {
     pub number: u8,
