@@ -131,7 +131,9 @@ pub const KINDS: [Kind; 51] = [
     ("silence by KILL, not noise", |s| {
         s.ack(Ack::Silence) && s.in_effect(KILL) && s.line(Line::NoisyCarriedOut)
     }),
-    ("noise, and no port takes the request byte", |s| s.line(Line::NoisyLost) && s.ack(Ack::Silence)),
+    ("silence by a packet that is no request, not noise", |s| {
+        s.ack(Ack::Silence) && !s.in_effect(KILL) && s.line(Line::NoisyLost)
+    }),
     ("wrong parity", |s| s.line(Line::WrongParity) && s.ack(Ack::Ok) && s.reads()),
     ("wrong parity met by a write", |s| s.line(Line::WrongParity) && s.ack(Ack::Ok) && !s.reads()),
     ("request byte that no port takes", |s| {
