@@ -108,7 +108,7 @@ uint32_t halzuqeen_start(const uint8_t *header, size_t header_length, const uint
  * reset_done: anything but 0 says that the reset asked for is done, and the next three are not looked at; 0 says that they answer a
  *     transfer.
  * ack: the acknowledgement, bit 0 first on the wire: 1 OK, 2 WAIT, 4 FAULT, 7 silence (nobody drives the wire: report 29), anything else,
- *     also over 7, noise (report 33); before IDCODE has been read, both only end an attempt.
+ *     also over 7, noise (report 33); an attempt to read IDCODE is only ended by either.
  * word, parity: the word and the parity bit of a read answered OK; otherwise not looked at.
  * outcome, outcome_length: as for starting; with a refusal it has the refusal.
  * A session under size is 12, since there is none to look at. Then checks 13, whatever outcome and image are; 12, of outcome and image;
