@@ -58,7 +58,7 @@ extern "C" {
 
 /* Offsets in an outcome. */
 #define HALZUQEEN_OUTCOME_KIND 0
-#define HALZUQEEN_OUTCOME_NUMBER 1     /* the refusal's or the report's number (0 done, 16 to 30 or 33) */
+#define HALZUQEEN_OUTCOME_NUMBER 1     /* the refusal's number (1 to 15), or the report's (0 done, 16 to 30, 33) */
 #define HALZUQEEN_OUTCOME_REQUEST 1    /* a read's or a write's request byte */
 #define HALZUQEEN_OUTCOME_PARITY 2     /* a write's parity bit */
 #define HALZUQEEN_OUTCOME_STEP 2       /* a report's flow step */

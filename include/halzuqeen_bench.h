@@ -41,8 +41,8 @@ extern "C" {
 /* Offsets in an event, which says what becomes of a transfer. */
 #define HALZUQEEN_BENCH_EVENT_OUTCOME 0   /* 0 OK, 1 WAIT, 2 FAULT, 3 wrong parity, 4 silence, not carried out, 5 silence, carried out,
                                            * 6 noise, not carried out, 7 noise, carried out */
-#define HALZUQEEN_BENCH_EVENT_ACK 1       /* this to the parity: what is free in the answer; a noise with 1, 2, 4 or 7 here is answered 0 */
-#define HALZUQEEN_BENCH_EVENT_WORD 2      /* 4 bytes */
+#define HALZUQEEN_BENCH_EVENT_ACK 1       /* the acknowledgement of a noise; 1, 2, 4 and 7, which are none, count as 0 */
+#define HALZUQEEN_BENCH_EVENT_WORD 2      /* this and the parity: what is free in the answer; 4 bytes */
 #define HALZUQEEN_BENCH_EVENT_PARITY 6
 #define HALZUQEEN_BENCH_EVENT_ELSEWHERE 7 /* the word at an address where nothing is, and the bits that are any; 4 bytes */
 
