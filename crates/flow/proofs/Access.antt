@@ -9,21 +9,22 @@ use mathlib.Core.Logic.{_⊎_, inl, inr}
 use Rattle.flow.specs.Exchange.{carry, barred, guarded, isSysreq, isCall, store, begin, fetch}
 use Rattle.flow.specs.Judge.{judge}
 use Rattle.flow.specs.Map.{place}
-use Rattle.flow.specs.Monitor.{noWaits, watching, Watch, Delays, noticed, noticeRead, noticeStore}
-use Rattle.flow.specs.Run.{Run}
+use Rattle.flow.specs.Monitor.{noWaits, Seen, watching, Watch, aimed, noticed, noticeRead, noticeStore}
 use Rattle.flow.specs.Sealing.{succeeds0}
 use Rattle.flow.specs.Sequence.{write, read}
-use Rattle.flow.specs.Session.{running, judgedTo}
+use Rattle.flow.specs.Session.{position, running}
 use Rattle.flow.specs.Target.{Target, CallOutcome, nextOutcome, rest, setTar, setSysarg, setTestMode}
 use Rattle.flow.specs.declared.Entry.{Entry}
 use Rattle.flow.specs.declared.Move.{Move}
+use Rattle.flow.specs.declared.Next.the-variants.{Go}
 use Rattle.flow.specs.declared.Place.{Place}
 use Rattle.flow.specs.declared.Place.the-variants.{InFlash, InLocks, InParams, AtLevel, AtSysreq, AtSysarg, AtTestMode, Elsewhere}
 use Rattle.flow.specs.declared.Purpose.{Purpose}
 use Rattle.flow.specs.declared.Request.the-variants.{ReadDrw, WriteTar, WriteDrw}
 use Rattle.flow.proofs.Decoding.{aTar, aDrw, aRead}
-use Rattle.flow.proofs.Reaches.{Allowance, withTransfer, withMoves, Env, sync, Frame, Lasting, Stood, Stands, Turn, without, same-running, not-idle, Reaches}
+use Rattle.flow.proofs.Reaches.{Allowance, withTransfer, withMoves, Env, tally, seen, sync, after, Frame, Lasting, Stood, Stands, Turn, without, same-running, not-idle, Reaches}
 use Rattle.flow.proofs.Transfer.{transfer}
+use Rattle.flow.specs.declared.Way.the-variants.{Onward}
 use Rattle.image.specs.Image.{Image}
 use Rattle.parts.specs.declared.Geometry.{Geometry}
 
@@ -41,10 +42,6 @@ aim a w b = record {
   posted = w;
   running = b .running;
 }
-
--- what the monitor knows once TAR is written
-abbrev pub aimed : (a : ℕ) → Watch → Watch
-aimed a t = record { tar = a; counts = false; polling = t .polling; due = t .due }
 
 -- the level in effect lets an access to the place through
 pub record Admits (l : ℕ) (pc : Place) : Type 0 where
@@ -102,48 +99,28 @@ store-ends w o AtTestMode b = same-running b (setTestMode w b) refl
 store-ends w o Elsewhere b = same-running b b refl
 
 -- a write elsewhere than SYSREQ starts nothing
-quiet-store : (y : Bool) (pc : Place) (p a : ℕ) (t : Watch) (d : Delays) → isSysreq pc ≡ false → noticeStore y pc p a t d ≡ watching noWaits p a t d
-quiet-store false pc p a t d h = refl
-quiet-store true (InFlash o) p a t d h = refl
-quiet-store true (InLocks o) p a t d h = refl
-quiet-store true (InParams o) p a t d h = refl
-quiet-store true AtLevel p a t d h = refl
-quiet-store true AtSysreq p a t d h = let z : _≡_ {A = ℕ} 0 1 = cc in absurd (omega arith)
-quiet-store true AtSysarg p a t d h = refl
-quiet-store true AtTestMode p a t d h = refl
-quiet-store true Elsewhere p a t d h = refl
+quiet-store : (y : Bool) (pc : Place) (x : Seen) → isSysreq pc ≡ false → noticeStore y pc x ≡ watching x
+quiet-store false pc x h = refl
+quiet-store true (InFlash o) x h = refl
+quiet-store true (InLocks o) x h = refl
+quiet-store true (InParams o) x h = refl
+quiet-store true AtLevel x h = refl
+quiet-store true AtSysreq x h = let z : _≡_ {A = ℕ} 0 1 = cc in absurd (omega arith)
+quiet-store true AtSysarg x h = refl
+quiet-store true AtTestMode x h = refl
+quiet-store true Elsewhere x h = refl
 
 same-calls : (y : Bool) (l : List CallOutcome) → cond (y && false) (rest l) l ≡ l
 same-calls true l = refl
 same-calls false l = refl
 
 module _ {i : Image} (f : Frame i) where
-  -- the run after a DRW write answered OK
-  abbrev written : (w : ℕ) → Place → Entry → (n p a k : ℕ) → Target → Watch → Env → Run
-  written w pc y n p a k b t e = record {
-    session = running y n 0 p a k (e .traffic .transfers);
-    target = b;
-    lists = e .lists;
-    monitor = noticeStore (isCall w) pc p a t (e .delays);
-    traffic = e .traffic;
-  }
-
-  -- the run after the DRW read whose word counts
-  abbrev pub readRun : (s : ℕ) → Purpose → Entry → (n p a k x : ℕ) → Place → Target → Watch → Env → Run
-  readRun s u y n p a k x pc b t e = record {
-    session = judgedTo (judge i u p k x) y n s a (e .traffic .transfers);
-    target = b;
-    lists = e .lists;
-    monitor = noticeRead pc x p a t (e .delays);
-    traffic = e .traffic;
-  }
-
   module _ (s a w : ℕ) {z : Bool} {y : Entry} {n : ℕ} {ms : List Move} {κ : Allowance} {e : Env} {p c k : ℕ} {b : Target} {t : Watch} where
     write-any : Stands f y n (write s a w) ms κ e → (pc : Place) → place (i .geometry) a ≡ pc → Admits (b .effect) pc → Lasting (f .Safe z) b
         → Lasting (f .Safe z) (store w (nextOutcome (e .lists .calls)) pc (setTar a b))
         → (next : (e′ : Env) → e′ .lists .calls ≡ cond (isCall w && isSysreq pc) (rest (e .lists .calls)) (e .lists .calls) → Stood f y (suc (suc n)) ms κ e′
-        → Reaches f z (written w pc y (suc (suc n)) p c k (store w (nextOutcome (e .lists .calls)) pc (setTar a b)) (aimed a t) e′))
-        → Reaches f z (sync y n p c k b t e)
+        → Reaches f z (after (Go Onward (tally p c k)) (position y (suc n)) s (store w (nextOutcome (e .lists .calls)) pc (setTar a b)) (noticeStore (isCall w) pc (seen noWaits p c (aimed a t) (e′ .delays))) e′))
+        → Reaches f z (sync (position y n) (tally p c k) b t e)
     unfolding write withMoves carry judge noticed
     write-any st pc hp ok safe safe′ next =
         transfer f aTar st (ok .not-killed) (barred-tar (i .geometry) a b) safe (λ o. safe) (λ o. without (same-running b (setTar a b) refl)) λ o₁ e₁ h₁ st₁.
@@ -154,18 +131,18 @@ module _ {i : Image} (f : Frame i) where
     -- a Write elsewhere than SYSREQ
     pub write-reaches : Stands f y n (write s a w) ms κ e → (pc : Place) → place (i .geometry) a ≡ pc → Admits (b .effect) pc → Lasting (f .Safe z) b → Lasting (f .Safe z) (store w (nextOutcome (e .lists .calls)) pc (setTar a b)) → isSysreq pc ≡ false
         → (next : (e′ : Env) → e′ .lists .calls ≡ e .lists .calls → Stood f y (suc (suc n)) ms κ e′
-        → Reaches f z (sync y (suc (suc n)) p c k (store w (nextOutcome (e .lists .calls)) pc (setTar a b)) (aimed a t) e′))
-        → Reaches f z (sync y n p c k b t e)
+        → Reaches f z (sync (position y (suc (suc n))) (tally p c k) (store w (nextOutcome (e .lists .calls)) pc (setTar a b)) (aimed a t) e′))
+        → Reaches f z (sync (position y n) (tally p c k) b t e)
     write-reaches st pc hp ok safe safe′ hs next =
         write-any st pc hp ok safe safe′ λ e′ h st′.
-        rw (quiet-store (isCall w) pc p c (aimed a t) (e′ .delays) hs) (next e′ ((rw hs at h) ∙ same-calls (isCall w) (e .lists .calls)) st′)
+        rw (quiet-store (isCall w) pc (seen noWaits p c (aimed a t) (e′ .delays)) hs) (next e′ ((rw hs at h) ∙ same-calls (isCall w) (e .lists .calls)) st′)
 
   -- the Write of SYSREQ that starts a call
   pub call-reaches : (s a w : ℕ) {z : Bool} {y : Entry} {n : ℕ} {ms : List Move} {κ : Allowance} {e : Env} {c k : ℕ} {b : Target} {t : Watch}
       → Stands f y n (write s a w) ms κ e → place (i .geometry) a ≡ AtSysreq → Admits (b .effect) AtSysreq → Lasting (f .Safe z) b → Lasting (f .Safe z) (begin true w (nextOutcome (e .lists .calls)) (setTar a b)) → isCall w ≡ true
       → (next : (e′ : Env) → e′ .lists .calls ≡ rest (e .lists .calls) → Stood f y (suc (suc n)) ms κ e′
-      → Reaches f z (sync y (suc (suc n)) 0 c k (begin true w (nextOutcome (e .lists .calls)) (setTar a b)) (record { tar = a; counts = false; polling = true; due = true }) e′))
-      → Reaches f z (sync y n 0 c k b t e)
+      → Reaches f z (sync (position y (suc (suc n))) (tally 0 c k) (begin true w (nextOutcome (e .lists .calls)) (setTar a b)) (record { tar = a; counts = false; polling = true; due = true }) e′))
+      → Reaches f z (sync (position y n) (tally 0 c k) b t e)
   call-reaches s a w st hp ok safe safe′ hc next = write-any s a w st AtSysreq hp ok safe (rw hc safe′) λ e′ h st′. rw hc (next e′ (rw hc at h) st′)
 
   module _ (s a : ℕ) (u : Purpose) {z : Bool} {y : Entry} {n : ℕ} {ms : List Move} {κ : Allowance} {e : Env} {p c k : ℕ} {b : Target} {t : Watch} where
@@ -177,8 +154,8 @@ module _ {i : Image} (f : Frame i) where
         → ((o : ℕ) → Lasting (f .Safe z₁) (b₁ o)) → ((o o′ : ℕ) → Lasting (f .Safe z₂) (b₂ o o′))
         → ((o : ℕ) → Turn s z (setTar a b) (b₁ o) z₁) → ((o o′ : ℕ) → Turn s z₁ (b₁ o) (b₂ o o′) z₂)
         → (next : (o o′ : ℕ) (e′ : Env) → e′ .lists .calls ≡ e .lists .calls → Stood f y (suc (suc (suc n))) ms κ e′
-        → Reaches f z₂ (readRun s u y (suc (suc n)) p c k ((b₁ o) .posted) pc (b₂ o o′) (aimed a t) e′))
-        → Reaches f z (sync y n p c k b t e)
+        → Reaches f z₂ (after (judge i u (tally p c k) ((b₁ o) .posted)) (position y (suc (suc n))) s (b₂ o o′) (noticeRead pc ((b₁ o) .posted) (seen noWaits p c (aimed a t) (e′ .delays))) e′))
+        → Reaches f z (sync (position y n) (tally p c k) b t e)
     unfolding read withMoves judge noticed
     read-any {z₁} {z₂} st pc hp ok safe b₁ b₂ h₁ h₂ ht he safe₁ safe₂ turn₁ turn₂ next =
         let first : (o : ℕ) → Turn s z b (carry (i .geometry) (WriteTar a) o (nextOutcome (e .lists .calls)) b) z = unfold carry in (λ o. without (same-running b (setTar a b) refl)) in
@@ -198,8 +175,8 @@ module _ {i : Image} (f : Frame i) where
     pub read-still : Stood f y n (read s a u ++ ms) (withTransfer (withTransfer (withTransfer κ))) e → (pc : Place) → place (i .geometry) a ≡ pc → Admits (b .effect) pc → Lasting (f .Safe z) b
         → (v : ℕ → ℕ) → ((o z : ℕ) → fetch (i .geometry) o pc (aim a z b) ≡ aim a (v o) b)
         → (next : (o o′ : ℕ) (e′ : Env) → e′ .lists .calls ≡ e .lists .calls → Stood f y (suc (suc (suc n))) ms κ e′
-        → Reaches f z (readRun s u y (suc (suc n)) p c k (v o) pc (aim a (v o′) b) (aimed a t) e′))
-        → Reaches f z (sync y n p c k b t e)
+        → Reaches f z (after (judge i u (tally p c k) (v o)) (position y (suc (suc n))) s (aim a (v o′) b) (noticeRead pc (v o) (seen noWaits p c (aimed a t) (e′ .delays))) e′))
+        → Reaches f z (sync (position y n) (tally p c k) b t e)
     read-still st pc hp ok safe v still next =
         read-any st pc hp ok safe (λ o. aim a (v o) b) (λ o o′. aim a (v o′) b) (λ o. still o (b .posted)) (λ o o′. still o′ (v o)) (λ o. refl) (λ o. refl) (λ o. safe) (λ o o′. safe)
         (λ o. without (same-running (setTar a b) (aim a (v o) b) refl)) (λ o o′. without (same-running (aim a (v o) b) (aim a (v o′) b) refl)) next

@@ -9,12 +9,13 @@ use lib.ListN.{length}
 use borrow.Author.Tests.{eq-eqb}
 use Rattle.flow.specs.Calls.{finish, effectOf, sysargAfter, sysreqAfter, afterFailure}
 use Rattle.flow.specs.Exchange.{carry}
-use Rattle.flow.specs.Judge.{free, succeeded, testBitSet, idsFit, levelIn, judge}
+use Rattle.flow.specs.Judge.{judge}
 use Rattle.flow.specs.Monitor.{noWaits, watching, noticed, noticeRead}
 use Rattle.flow.specs.Run.{Run}
 use Rattle.flow.specs.Sequence.{move, key, write, read, poll, call, imoCall, acquire}
-use Rattle.flow.specs.Session.{judgedTo}
+use Rattle.flow.specs.Session.{position, running}
 use Rattle.flow.specs.Target.{Target, Memory, Residue, idle, setReset}
+use Rattle.flow.specs.Words.{free, succeeded, testBitSet, idsFit, levelIn}
 use Rattle.flow.specs.declared.Entry.{Entry}
 use Rattle.flow.specs.declared.Move.{Move}
 use Rattle.flow.specs.declared.Place.the-variants.{AtSysreq, AtSysarg, AtTestMode}
@@ -30,7 +31,7 @@ use Rattle.flow.proofs.Legs.{Core, core, Leg}
 use Rattle.flow.proofs.Phases.{call15, same-core}
 use Rattle.flow.proofs.Places.{place-sysreq, place-sysarg, place-test}
 use Rattle.flow.proofs.Polling.{idleAt, poll-idle}
-use Rattle.flow.proofs.Reaches.{Allowance, withTransfer, withRead, withRequest, withMoves, Env, sync, rightSilicon, Frame, Lasting, at-rest, Stood, Stands, less-room, without, same-running, Reaches}
+use Rattle.flow.proofs.Reaches.{Allowance, withTransfer, withRead, withRequest, withMoves, Env, sync, rightSilicon, Frame, Lasting, at-rest, Stood, Stands, less-room, without, same-running, Reaches, tally, seen, after}
 use Rattle.flow.proofs.Table.{Facts}
 use Rattle.flow.proofs.Transfer.{transfer}
 use Rattle.image.specs.Image.{Image}
@@ -147,7 +148,7 @@ unfolding succeeded sysargAfter
 good-0 x m hb = eq-eqb ((0xA0000000 + x .revision * 65536 + x .high * 256 + x .low) / 268435456 % 16) 0xA (omega arith)
 
 -- what step 2 reads is what the target is
-pub ids-read : (i : Image) (x : Silicon) (m : Memory) (l : ℕ) → Bytes x → idsFit i (sysargAfter 0 x m) (sysreqAfter 0 x l) ≡ rightSilicon i x
+pub ids-read : (i : Image) (x : Silicon) (m : Memory) (l : ℕ) → Bytes x → idsFit (i .geometry) (i .header) (sysargAfter 0 x m) (sysreqAfter 0 x l) ≡ rightSilicon i x
 unfolding idsFit rightSilicon sysargAfter sysreqAfter
 ids-read i x m l hb = rw (high, low, family)
   where
@@ -167,18 +168,14 @@ level-read x l hb hl = omega arith
 module _ {i : Image} (f : Frame i) (fx : Facts (i .geometry)) (m : Memory) (answering : Answering (m .stored)) (safe : f .Safe false m) (hb : Bytes (f .silicon)) (hl : m .stored < 16) where
   -- the run after the Read of SYSREQ
   abbrev pub identified : Purpose → Entry → (n k : ℕ) → Target → Env → Run
-  identified u y n k b e = record {
-    session = judgedTo (judge i u 0 (sysargAfter 0 (f .silicon) m) (sysreqAfter 0 (f .silicon) (m .stored))) y n 2 0 (e .traffic .transfers);
-    target = b;
-    lists = e .lists;
-    monitor = watching noWaits 0 0 (idleAt (sysreqOf (i .geometry))) (e .delays);
-    traffic = e .traffic;
-  }
+  identified u y n k b e =
+      after (judge i u (tally 0 0 (sysargAfter 0 (f .silicon) m)) (sysreqAfter 0 (f .silicon) (m .stored))) (position y n) 2 b
+      (watching (seen noWaits 0 0 (idleAt (sysreqOf (i .geometry))) (e .delays))) e
 
   pub silicon-reaches : (u : Purpose) {y : Entry} {n x k : ℕ} {ms : List Move} {κ : Allowance} {e : Env} {b : Target} → Acquired f m k (core b)
       → Stands f y n (call (i .geometry) 2 0 (key 0)) (read 2 (sysargOf (i .geometry)) Keep ++ (read 2 (sysreqOf (i .geometry)) u ++ ms)) (withTransfer (withTransfer (withTransfer (withTransfer (withTransfer (withTransfer κ)))))) e
       → (next : (b′ : Target) → core b′ ≡ core b → (n′ : ℕ) (e′ : Env) → Stood f y (suc n′) ms κ e′ → Reaches f false (identified u y n′ k b′ e′))
-      → Reaches f false (sync y n 0 0 k b (idleAt x) e)
+      → Reaches f false (sync (position y n) (tally 0 0 k) b (idleAt x) e)
   unfolding judge noticeRead
   silicon-reaches u {b = b} p st next =
       let sf : f .Safe false (b .memory) = rw (p .fresh .memory) safe in

@@ -6,13 +6,15 @@ use Prim.Native.Nat.{ℕ, _+_, _*_, _/_, _%_}
 use native.Mathlib.Omega.{arith}
 use lib.Dec.{eqb, lit≤}
 use Rattle.flow.specs.Calls.{finish, afterFailure, effectOf, sysargAfter, sysreqAfter, failedArg, listAt}
+use Rattle.flow.specs.Session.{position}
 use Rattle.flow.specs.Terms.{CalmCalls, callsEnd, calmCall}
 use Rattle.flow.specs.Exchange.{isCall}
-use Rattle.flow.specs.Judge.{free, succeeded, judge}
+use Rattle.flow.specs.Judge.{judge}
 use Rattle.flow.specs.Monitor.{Watch, noticeRead}
 use Rattle.flow.specs.Sealing.{onMacro0, succeeds0, reopens}
 use Rattle.flow.specs.Sequence.{call, poll, read, write}
 use Rattle.flow.specs.Target.{Target, Residue, CallOutcome, idle, busy, nextOutcome}
+use Rattle.flow.specs.Words.{free, succeeded}
 use Rattle.flow.specs.declared.Entry.{Entry}
 use Rattle.flow.specs.declared.Move.{Move}
 use Rattle.flow.specs.declared.Place.the-variants.{AtSysreq, AtSysarg}
@@ -20,7 +22,7 @@ use Rattle.flow.specs.declared.Purpose.the-variants.{Status}
 use Rattle.flow.proofs.Access.{aim, Answering, admits, write-reaches, call-reaches, read-still}
 use Rattle.flow.proofs.Places.{place-sysreq, place-sysarg}
 use Rattle.flow.proofs.Polling.{idleAt, during, looping, loopAt, poll-busy}
-use Rattle.flow.proofs.Reaches.{Allowance, withTransfer, withMoves, Env, sync, Frame, at-rest, Stood, Stands, less-room, Turn, without, reopening, sealing, and-false, Reaches, stop}
+use Rattle.flow.proofs.Reaches.{Allowance, withTransfer, withMoves, Env, sync, Frame, at-rest, Stood, Stands, less-room, Turn, without, reopening, sealing, and-false, Reaches, stop, tally}
 use Rattle.flow.proofs.Table.{Facts}
 use Rattle.image.specs.Image.{Image}
 use Rattle.parts.specs.Sizes.{sysreqOf, sysargOf}
@@ -76,11 +78,6 @@ failed w = by (eqb (w / 268435456 % 16) 0xA) refl
     by true h = rw h
     by false h = rw h h
 
--- the monitor's test of a status
-status-is : (w : ℕ) → eqb (w / 268435456 % 16) 0xA ≡ succeeded w
-unfolding succeeded
-status-is w = refl
-
 pub free-zero : free 0 ≡ true
 unfolding free
 free-zero = refl
@@ -113,20 +110,20 @@ module _ {i : Image} (f : Frame i) (fx : Facts (i .geometry)) where
       → (f .Still → q ≡ 0) → (f .Still → s₀ ≡ true)
       → free (sysreqAfter c (b .silicon) (b .effect)) ≡ true → succeeded (sysargAfter c (b .silicon) (b .memory)) ≡ true
       → (next : (b′ : Target) → Returned (i .geometry) c (b .sysarg) b b′ → (n′ : ℕ) (e′ : Env) → Stood f y n′ ms κ e′
-      → Reaches f z′ (sync y n′ 0 0 k b′ (idleAt (sysargOf (i .geometry))) e′))
-      → Reaches f z (sync y n 0 0 k (aim x u (during (busy q s₀ r₀ c) b)) (loopAt x v true) e)
+      → Reaches f z′ (sync (position y n′) (tally 0 0 k) b′ (idleAt (sysargOf (i .geometry))) e′))
+      → Reaches f z (sync (position y n) (tally 0 0 k) (aim x u (during (busy q s₀ r₀ c) b)) (loopAt x v true) e)
   unfolding finish judge noticeRead
   call-tail true r₀ q c s b x u st answering safe won lost ends idles wins ready good next =
       poll-busy f (place-sysreq (i .geometry) fx) s true r₀ c b (admits (b .effect) AtSysreq refl answering) safe lost (won r₀) ready (λ a v a′ v′. end-turn (i .geometry) ends good r₀ a v a′ v′) q 9999 0 x u refl st idles λ e₁ h₁ st₁.
       read-still f s (sysargOf (i .geometry)) Status st₁ AtSysarg (place-sysarg (i .geometry) fx) (admits (b .effect) AtSysarg refl answering) (record { now = won r₀; cut = λ r. won r₀ })
       (λ o. sysargAfter c (b .silicon) (b .memory)) (λ o z. refl) λ o o′ e₂ h₂ st₂.
-      rw (good, status-is (sysargAfter c (b .silicon) (b .memory)), good) (
+      rw good (
       next _ (record { silicon = refl; effect = refl; params = refl; memory = refl; sysarg = refl; sysreq = refl; ended = refl }) _ e₂ st₂)
   call-tail false r₀ q c s b x u st answering safe won lost ends idles wins ready good next =
       poll-busy f (place-sysreq (i .geometry) fx) s false r₀ c b (admits (b .effect) AtSysreq refl answering) safe lost (lost r₀) free-zero (λ a v a′ v′. without (fails-without (i .geometry) r₀ c a v a′ v′ b)) q 9999 0 x u refl st idles λ e₁ h₁ st₁.
       read-still f s (sysargOf (i .geometry)) Status st₁ AtSysarg (place-sysarg (i .geometry) fx) (admits (b .effect) AtSysarg refl answering) (record { now = lost r₀; cut = λ r. lost r₀ })
       (λ o. failedArg (r₀ .sysarg)) (λ o z. refl) λ o o′ e₂ h₂ st₂.
-      rw (failed (r₀ .sysarg), status-is (failedArg (r₀ .sysarg)), failed (r₀ .sysarg)) (
+      rw (failed (r₀ .sysarg)) (
       stop (f .caught 19 s _ _ _ (lit≤ tt) (λ still. let no′ : false ≡ true = wins still in let z : _≡_ {A = ℕ} 0 1 = cc in omega arith) (record { now = lost r₀; cut = λ r. lost r₀ })))
 
   -- what a cut would leave once the call is asked for
@@ -146,8 +143,8 @@ module _ {i : Image} (f : Frame i) (fx : Facts (i .geometry)) where
       → Ends s c (asked c w b) z z′
       → free (sysreqAfter c (b .silicon) (b .effect)) ≡ true → succeeded (sysargAfter c (b .silicon) (b .memory)) ≡ true
       → (next : (b′ : Target) → Returned (i .geometry) c w b b′ → (n′ : ℕ) (e′ : Env) → Stood f y n′ ms κ e′
-      → Reaches f z′ (sync y n′ 0 0 k b′ (idleAt (sysargOf (i .geometry))) e′))
-      → Reaches f z (sync y n 0 0 k b t e)
+      → Reaches f z′ (sync (position y n′) (tally 0 0 k) b′ (idleAt (sysargOf (i .geometry))) e′))
+      → Reaches f z (sync (position y n) (tally 0 0 k) b t e)
   unfolding call write read withMoves
   calling {z = z} s c w {ms = ms} {κ = κ} {b = b} cmd st answering quiet safe won lost ends ready good next =
       write-reaches f s (sysargOf (i .geometry)) w (call-allowance s c w ms κ st) AtSysarg (place-sysarg (i .geometry) fx) (admits (b .effect) AtSysarg refl answering) (at-rest (f .Safe z) b quiet safe) (record { now = safe; cut = λ r. rw quiet safe }) refl λ e₁ h₁ st₁.

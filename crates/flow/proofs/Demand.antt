@@ -53,15 +53,15 @@ module _ (i : Image) where
   met-traffic r = by (r .session)
     where
       by : (s : SessionState) → going s ≡ true → (advanceBy i s r) .traffic ≡ handedOutBy i s (r .traffic)
-      by (running y n w p a k h) e = refl
+      by (running o c h) e = refl
       by (reported x s h) e = absurd (false≢true e)
 
   stands-one : (s : SessionState) (t : Traffic) → going s ≡ true → total (handedOutBy i s t) ≡ suc (total t)
-  stands-one (running y n w p a k h) t e = one-more ((moveAt i y n) .request) t
+  stands-one (running o c h) t e = one-more ((moveAt i o) .request) t
   stands-one (reported x s h) t e = absurd (false≢true e)
 
   stands-none : (s : SessionState) (t : Traffic) → going s ≡ false → handedOutBy i s t ≡ t
-  stands-none (running y n w p a k h) t e = absurd (false≢true (sym e))
+  stands-none (running o c h) t e = absurd (false≢true (sym e))
   stands-none (reported x s h) t e = refl
 
   -- after the report nothing changes
@@ -70,7 +70,7 @@ module _ (i : Image) where
   advance-ended r = by (r .session)
     where
       by : (s : SessionState) → going s ≡ false → advanceBy i s r ≡ r
-      by (running y n w p a k h) e = absurd (false≢true (sym e))
+      by (running o c h) e = absurd (false≢true (sym e))
       by (reported x s h) e = refl
 
   pub stays : (n : ℕ) (r : Run) → going (r .session) ≡ false → runAfter i n r ≡ r
@@ -131,7 +131,7 @@ module _ (i : Image) (lv : Level (i .header .level)) (b : Target) (l : Lists) wh
 
   -- a reported session, taken apart
   as-report : (s : SessionState) → going s ≡ false → record { number : ℕ; step : ℕ; sent : ℕ; is : s ≡ reported number step sent }
-  as-report (running y n w p a k h) e = absurd (false≢true (sym e))
+  as-report (running o c h) e = absurd (false≢true (sym e))
   as-report (reported x s h) e = record { number = x; step = s; sent = h; is = refl }
 
   not-going : (s : SessionState) (x t h : ℕ) → s ≡ reported x t h → going s ≡ true → ⊥

@@ -9,9 +9,9 @@ use lib.Dec.{ltb, lit≤}
 use borrow.Author.Tests.{ltb-true, ltb-false}
 use lib.ListN.{length, getD, List·getD-append}
 use lib.Seq.{getD-append-add}
-use Rattle.flow.specs.Monitor.{isAttempt}
+use Rattle.flow.specs.Packets.{isAttempt}
 use Rattle.flow.specs.Sequence.{key, write, read, call, writes, listed, imoCall, acquire, silicon, opening, afterwards, sequence, endMove}
-use Rattle.flow.specs.Session.{moveAt}
+use Rattle.flow.specs.Session.{position, moveAt}
 use Rattle.flow.specs.declared.Entry.{Entry}
 use Rattle.flow.specs.declared.Entry.the-variants.{FromOpen, FromProtected}
 use Rattle.flow.specs.declared.Move.{Move}
@@ -132,16 +132,16 @@ module _ (i : Image) where
   abbrev pub start : ℕ
   start = length (opening i)
 
-  pub early-move : (y : Entry) (n : ℕ) → n < start → MildMove (moveAt i y n)
+  pub early-move : (y : Entry) (n : ℕ) → n < start → MildMove (moveAt i (position y n))
   unfolding sequence
   early-move y n h = rw (List·getD-append (opening i) (afterwards i y) endMove n h) (all-at (mild-opening i) n h)
 
-  pub late-move : (y : Entry) (n : ℕ) → start ≤ n → Later y (n - start) (moveAt i y n)
+  pub late-move : (y : Entry) (n : ℕ) → start ≤ n → Later y (n - start) (moveAt i (position y n))
   unfolding sequence
   late-move y n h =
       let e : n ≡ start + (n - start) = omega arith in
       subst (Later y (n - start)) (sym (ap (λ (k : ℕ). getD (opening i ++ afterwards i y) k endMove) e ∙ getD-append-add (opening i) (afterwards i y) (n - start) endMove)) (later y (n - start))
 
-  pub first-xres : (y : Entry) → (moveAt i y 0) .request ≡ Xres
+  pub first-xres : (y : Entry) → (moveAt i (position y 0)) .request ≡ Xres
   unfolding sequence opening acquire
   first-xres y = refl

@@ -13,7 +13,7 @@ use Rattle.flow.specs.Packets.{verdict, heard}
 use Rattle.flow.specs.Plan.{Traffic}
 use Rattle.flow.specs.Run.{Run, advance, runAfter, started}
 use Rattle.flow.specs.Sequence.{sequence, opening, acquire}
-use Rattle.flow.specs.Session.{SessionState, running, reported, stepOf}
+use Rattle.flow.specs.Session.{SessionState, running, reported, position, stepOf, noCounts}
 use Rattle.flow.specs.Target.{Target, Lists, idle, setReset}
 use Rattle.flow.specs.declared.Answer.the-variants.{ResetDone}
 use Rattle.flow.specs.declared.Entry.the-variants.{FromOpen}
@@ -36,28 +36,32 @@ secondFaults = record { line = event Clean ∷ event Faults ∷ []; calls = [] }
 abbrev traffic : (transfers xresets lineResets : ℕ) → Traffic
 traffic t x l = record { transfers = t; xresets = x; lineResets = l }
 
+-- at one of the first moves, with so many transfers answered
+abbrev under : (at transfers : ℕ) → SessionState
+under n h = running (position FromOpen n) noCounts h
+
 module _ (i : Image) (b : Target) (quiet : b .running ≡ idle) (awake : eqb (b .memory .stored) 4 ≡ false) (own : b .silicon .idcode ≡ 0x0BB11477) where
   abbrev at : SessionState → Target → Lists → Monitor → Traffic → Run
   at s c l m t = record { session = s; target = c; lists = l; monitor = m; traffic = t }
 
-  xres : advance i (started b secondFaults) ≡ at (running FromOpen 1 0 0 0 0 0) (setReset b) secondFaults nothingSeen (traffic 0 1 0)
+  xres : advance i (started b secondFaults) ≡ at (under 1 0) (setReset b) secondFaults nothingSeen (traffic 0 1 0)
   unfolding advance stepOf watch meet decode reset sequence opening acquire
   xres = rw quiet
 
-  line-reset : (m : Monitor) → advance i (at (running FromOpen 1 0 0 0 0 0) (setReset b) secondFaults m (traffic 0 1 0))
-      ≡ at (running FromOpen 2 0 0 0 0 0) (setReset b) secondFaults (watch (i .geometry) LineReset ResetDone m) (traffic 0 1 1)
+  line-reset : (m : Monitor) → advance i (at (under 1 0) (setReset b) secondFaults m (traffic 0 1 0))
+      ≡ at (under 2 0) (setReset b) secondFaults (watch (i .geometry) LineReset ResetDone m) (traffic 0 1 1)
   unfolding advance stepOf meet decode sequence opening acquire
   line-reset m = refl
 
   abbrev faultNext : Lists
   faultNext = record { line = event Faults ∷ []; calls = [] }
 
-  idcode : (m : Monitor) → advance i (at (running FromOpen 2 0 0 0 0 0) (setReset b) secondFaults m (traffic 0 1 1))
-      ≡ at (running FromOpen 3 0 0 0 0 1) (setReset b) faultNext (watch (i .geometry) ReadIdcode (okayWith (b .silicon .idcode)) m) (traffic 1 1 1)
+  idcode : (m : Monitor) → advance i (at (under 2 0) (setReset b) secondFaults m (traffic 0 1 1))
+      ≡ at (under 3 1) (setReset b) faultNext (watch (i .geometry) ReadIdcode (okayWith (b .silicon .idcode)) m) (traffic 1 1 1)
   unfolding advance stepOf sequence opening acquire transferred carry judge
   idcode m = rw (meets (i .geometry) attempt secondFaults (setReset b), awake, barred-off (i .geometry) ReadIdcode (setReset b) refl, right-idcode (b .silicon .idcode), own)
 
-  setup : (m : Monitor) → advance i (at (running FromOpen 3 0 0 0 0 1) (setReset b) faultNext m (traffic 1 1 1))
+  setup : (m : Monitor) → advance i (at (under 3 1) (setReset b) faultNext m (traffic 1 1 1))
       ≡ at (reported 28 1 2) (setReset b) (record { line = []; calls = [] }) (watch (i .geometry) (WriteSetup CtrlStat 0x54000000) (answer 4 13 1) m) (traffic 2 1 1)
   unfolding advance stepOf sequence opening acquire transferred verdict heard
   setup m = rw (meets (i .geometry) (plain (aCtrl {w = 0x54000000})) faultNext (setReset b), awake, barred-off (i .geometry) (WriteSetup CtrlStat 0x54000000) (setReset b) refl)

@@ -8,16 +8,19 @@ use native.Mathlib.Nat.{zero-mul}
 use native.Mathlib.Omega.{arith}
 use borrow.Author.Tests.{eq-eqb}
 use Rattle.flow.specs.Calls.{finish, effectOf, sysargAfter, sysreqAfter, afterFailure}
-use Rattle.flow.specs.Judge.{free, succeeded, sumsFit, judge}
+use Rattle.flow.specs.Judge.{judge}
 use Rattle.flow.specs.Monitor.{noWaits, watching, noticeRead}
 use Rattle.flow.specs.Run.{Run}
 use Rattle.flow.specs.Sealing.{HoldsImage}
 use Rattle.flow.specs.Sequence.{key, call, read, privileged, inTurn, programRow, verifyRow, macroDown, lockAndVerify, program}
-use Rattle.flow.specs.Session.{judgedTo}
+use Rattle.flow.specs.Session.{position, running}
 use Rattle.flow.specs.Target.{Target, Memory, Residue}
+use Rattle.flow.specs.Words.{free, succeeded, sumsFit}
 use Rattle.flow.specs.declared.Entry.{Entry}
 use Rattle.flow.specs.declared.Move.{Move}
 use Rattle.flow.specs.declared.Place.the-variants.{AtSysarg}
+use Rattle.flow.specs.declared.Position.{Position}
+use Rattle.flow.specs.declared.Next.{Next}
 use Rattle.flow.specs.declared.Purpose.{Purpose}
 use Rattle.flow.specs.declared.Purpose.the-variants.{Keep, StoredLevel, LastSum}
 use Rattle.flow.specs.declared.Silicon.{Silicon}
@@ -28,7 +31,7 @@ use Rattle.flow.proofs.Phases.{Valid, Opened, Sized, Wrote, Locked, wro
 use Rattle.flow.proofs.Places.{place-sysarg}
 use Rattle.flow.proofs.Polling.{idleAt}
 use Rattle.flow.proofs.Programming.{rows-leg}
-use Rattle.flow.proofs.Reaches.{Allowance, withTransfer, withMoves, Env, sync, Frame, at-rest, Stood, Stands, split, Reaches, here}
+use Rattle.flow.proofs.Reaches.{Allowance, withTransfer, withMoves, Env, sync, Frame, at-rest, Stood, Stands, split, Reaches, here, tally, seen, after}
 use Rattle.flow.proofs.Table.{Facts}
 use Rattle.flow.proofs.Verifying.{flash-leg, macros-leg, level-leg}
 use Rattle.image.specs.Image.{Image}
@@ -69,7 +72,7 @@ effect-B g l a ps m = refl
 
 -- the difference of the two sums is the flash's own sum
 sums-fit : (i : Image) (x : Silicon) (m : Memory) (k : ℕ) → k % 268435456 ≡ x .«privileged_sum» % 268435456 → m .flash ≡ i .flash → total (i .flash) % 65536 ≡ i .header .sum
-    → sumsFit i (sysargAfter 0x0B x m) k ≡ true
+    → sumsFit (i .header) (sysargAfter 0x0B x m) k ≡ true
 unfolding sumsFit
 sums-fit i x m k hk hf hs = eq-eqb ((sysargAfter 0x0B x m % 268435456 + 268435456 - k % 268435456) % 65536) (i .header .sum) (rw (low-28 x m, hk, hf) (omega arith))
 
@@ -88,19 +91,13 @@ module _ {i : Image} (f : Frame i) (fx : Facts (i .geometry)) (v : Valid i) wher
   sumWord = key 0x0B + 0x80000000
 
   -- the run after the Read of SYSARG
-  abbrev summed : (s : ℕ) → Purpose → Entry → (n k : ℕ) → Memory → Target → Env → Run
-  summed s u y n k m b e = record {
-    session = judgedTo (judge i u 0 k (sysargAfter 0x0B (f .silicon) m)) y n s 0 (e .traffic .transfers);
-    target = b;
-    lists = e .lists;
-    monitor = watching noWaits 0 0 (idleAt (sysargOf (i .geometry))) (e .delays);
-    traffic = e .traffic;
-  }
+  abbrev summed : Next → (s : ℕ) → Position → Target → Env → Run
+  summed x s o b e = after x o s b (watching (seen noWaits 0 0 (idleAt (sysargOf (i .geometry))) (e .delays))) e
 
   sum-reaches : (s : ℕ) (u : Purpose) {z : Bool} {y : Entry} {n x k : ℕ} {ms : List Move} {κ : Allowance} {e : Env} {b : Target} → Opened f (core b) → f .Safe z (b .memory)
       → Stands f y n (call (i .geometry) s 0x0B sumWord) (read s (sysargOf (i .geometry)) u ++ ms) (withTransfer (withTransfer (withTransfer κ))) e
-      → (next : (b′ : Target) → core b′ ≡ core b → (n′ : ℕ) (e′ : Env) → Stood f y (suc n′) ms κ e′ → Reaches f z (summed s u y n′ k (b .memory) b′ e′))
-      → Reaches f z (sync y n 0 0 k b (idleAt x) e)
+      → (next : (b′ : Target) → core b′ ≡ core b → (n′ : ℕ) (e′ : Env) → Stood f y (suc n′) ms κ e′ → Reaches f z (summed (judge i u (tally 0 0 k) (sysargAfter 0x0B (f .silicon) (b .memory))) s (position y n′) b′ e′))
+      → Reaches f z (sync (position y n) (tally 0 0 k) b (idleAt x) e)
   unfolding noticeRead
   sum-reaches s u {z = z} {b = b} p safe st next =
       calling f fx s 0x0B sumWord commandB st (inl (p .effect)) (p .quiet) safe (λ r. rw (still-B (i .geometry) true r _) safe) (λ r. rw (still-B (i .geometry) false r _) safe) (ordinary (λ r. refl)) (free-B _ _) (good-B _ _) λ b₁ ret n₁ e₁ st₁.
@@ -153,7 +150,7 @@ module _ {i : Image} (f : Frame i) (fx : Facts (i .geometry)) (v : Valid i) wher
 
   -- step 9
   last-reaches : {y : Entry} {n x k : ℕ} {e : Env} {b : Target} → Locked f 0 k (core b)
-      → Stands f y n (privileged (i .geometry) 9 LastSum) [] nothing e → Reaches f true (sync y n 0 0 k b (idleAt x) e)
+      → Stands f y n (privileged (i .geometry) 9 LastSum) [] nothing e → Reaches f true (sync (position y n) (tally 0 0 k) b (idleAt x) e)
   unfolding privileged read withMoves judge nothing
   last-reaches {k = k} {b = b} p st =
       sum-reaches 9 LastSum {κ = nothing} (p .opened) (f .safeSealed (p .opened .right) true (b .memory) (all-held p))
@@ -167,7 +164,7 @@ module _ {i : Image} (f : Frame i) (fx : Facts (i .geometry)) (v : Valid i) wher
           rw m (all-held p)
 
   pub program-reaches : {y : Entry} {n x k : ℕ} {e : Env} {b : Target} → Blank f k (core b) → Stands f y n (program i) [] nothing e
-      → Reaches f false (sync y n 0 0 k b (idleAt x) e)
+      → Reaches f false (sync (position y n) (tally 0 0 k) b (idleAt x) e)
   unfolding program
   program-reaches {y} blank st =
       (first-leg y) .along _ _ _ _ _ _ _ blank (split (privileged (i .geometry) 4 Keep) after4 [] nothing st) λ k₁ b₁ w₁ n₁ x₁ e₁ st₁.

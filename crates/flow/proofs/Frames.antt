@@ -15,6 +15,7 @@ use Rattle.flow.specs.Session.{reported}
 use Rattle.flow.specs.Target.{Target, Memory, idle, Lists}
 use Rattle.flow.specs.declared.Entry.the-variants.{FromOpen}
 use Rattle.flow.specs.declared.Move.{Move}
+use Rattle.flow.specs.declared.Next.the-variants.{Stop}
 use Rattle.flow.specs.declared.Purpose.{Purpose}
 use Rattle.flow.specs.declared.Purpose.the-variants.{Sent, Idcode, TestBit, Poll, Status, Keep, EntryLevel, Reopened, FlashWord, LockWord, StoredLevel, LastSum}
 use Rattle.flow.specs.declared.Request.{Request}
@@ -120,9 +121,9 @@ frame i lv b l = record {
   safeImage = λ right m e. (subst Level (sym e) lv, (λ q. absurd (false≢true q)));
   safeSealed = λ right z m e. (subst Level (sym (e .level)) lv, (λ q. e));
   caught = λ n s b l t some bad safe. record { number = n; step = s; is = refl; why = mishap n some bad; sound = safe };
-  finished = λ b l w d t right quiet holds-image count calm. (refl, record { is = refl; right = right; clean = clear noWaits 0 0 w d; holds-image = holds-image; count = count; calm = calm; quiet = quiet });
-  wrongId = λ s w p a b l x d t safe h. record { number = 16; step = s; is = refl; why = otherId (clear w p a x d) h; sound = safe };
-  wrongPart = λ s w p a b l x d t safe h. record { number = 20; step = s; is = refl; why = otherPart (clear w p a x d) h; sound = safe };
+  finished = λ b l w d t right quiet holds-image count calm. (refl, record { is = refl; right = right; clean = clear _; holds-image = holds-image; count = count; calm = calm; quiet = quiet });
+  wrongId = λ s b l x t safe h. record { number = 16; step = s; is = refl; why = otherId (clear x) h; sound = safe };
+  wrongPart = λ s b l x t safe h. record { number = 20; step = s; is = refl; why = otherPart (clear x) h; sound = safe };
 }
 
 -- ---- the start

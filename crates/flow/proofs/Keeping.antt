@@ -132,9 +132,9 @@ unfolding advance meet
 advance-keeps i r = by (r .session)
   where
     by : (s : SessionState) → Keeps (r .target) ((advanceBy i s r) .target)
-    by (running y n w p a k h) =
+    by (running o c h) =
         packet-keeps (i .geometry) (Keeps (r .target)) (λ b k. then (r .target) b (reset (i .geometry) b) k (reset-keeps (i .geometry) b))
-        (λ q. carried-keeps (i .geometry) (Keeps (r .target)) q (λ o c b k. then (r .target) b (carry (i .geometry) q o c b) k (carry-keeps (i .geometry) q o c b))) (decode (packetOf ((moveAt i y n) .request))) (r .lists) (r .target) (keep (r .target))
+        (λ q. carried-keeps (i .geometry) (Keeps (r .target)) q (λ o c b k. then (r .target) b (carry (i .geometry) q o c b) k (carry-keeps (i .geometry) q o c b))) (decode (packetOf ((moveAt i o) .request))) (r .lists) (r .target) (keep (r .target))
     by (reported n s h) = keep (r .target)
 
 pub run-keeps : (i : Image) (n : ℕ) (r : Run) → Keeps (r .target) ((runAfter i n r) .target)

@@ -5,12 +5,13 @@ use mathlib.Core.Path.{_≡_}
 use Prim.Native.Nat.{ℕ, zero, suc, _+_, _<_}
 use native.Mathlib.Omega.{arith}
 use Rattle.flow.specs.Sequence.{inTurn}
+use Rattle.flow.specs.Session.{position}
 use Rattle.flow.specs.Target.{Target, Memory, Running}
 use Rattle.flow.specs.declared.Entry.{Entry}
 use Rattle.flow.specs.declared.Move.{Move}
 use Rattle.flow.specs.declared.Silicon.{Silicon}
 use Rattle.flow.proofs.Polling.{idleAt}
-use Rattle.flow.proofs.Reaches.{Allowance, withMoves, Env, sync, Frame, Stood, Stands, split, Reaches}
+use Rattle.flow.proofs.Reaches.{Allowance, withMoves, Env, sync, Frame, Stood, Stands, split, Reaches, tally}
 use Rattle.image.specs.Image.{Image}
 
 -- the target but for its registers
@@ -31,8 +32,8 @@ Known = ℕ → Core → Type 0
 -- from rest to rest over ms: P held before, Q holds after; z and z′: the board is sealed before, and after
 pub record Leg {i : Image} (f : Frame i) (z z′ : Bool) (y : Entry) (ms : List Move) (P Q : Known) : Type 0 where
   pub along : (n x k : ℕ) (later : List Move) (κ : Allowance) (e : Env) (b : Target) → P k (core b) → Stands f y n ms later κ e
-      → ((k′ : ℕ) (b′ : Target) → Q k′ (core b′) → (n′ x′ : ℕ) (e′ : Env) → Stood f y n′ later κ e′ → Reaches f z′ (sync y n′ 0 0 k′ b′ (idleAt x′) e′))
-      → Reaches f z (sync y n 0 0 k b (idleAt x) e)
+      → ((k′ : ℕ) (b′ : Target) → Q k′ (core b′) → (n′ x′ : ℕ) (e′ : Env) → Stood f y n′ later κ e′ → Reaches f z′ (sync (position y n′) (tally 0 0 k′) b′ (idleAt x′) e′))
+      → Reaches f z (sync (position y n) (tally 0 0 k) b (idleAt x) e)
 
 module _ {i : Image} (f : Frame i) (y : Entry) where
   pub leg-append : (a b : List Move) {z z′ z″ : Bool} {P Q R : Known} → Leg f z z′ y a P Q → Leg f z′ z″ y b Q R → Leg f z z″ y (a ++ b) P R

@@ -17,6 +17,7 @@ pub mod Places
 pub mod Counting
 pub mod Reaches
 pub mod Moves
+pub mod Ways
 pub mod Machine
 pub mod Transfer
 pub mod Access

@@ -8,9 +8,10 @@ use native.Mathlib.Omega.{arith}
 use lib.Dec.{eqb}
 use lib.ListN.{length, drop, length-append}
 use Rattle.flow.specs.Calls.{finish, effectOf, sysargAfter, sysreqAfter}
-use Rattle.flow.specs.Judge.{free, succeeded}
 use Rattle.flow.specs.Sequence.{call, write, writes, listed}
+use Rattle.flow.specs.Session.{position}
 use Rattle.flow.specs.Target.{Target, Residue, idle}
+use Rattle.flow.specs.Words.{free, succeeded}
 use Rattle.flow.specs.declared.Entry.{Entry}
 use Rattle.flow.specs.declared.Move.{Move}
 use Rattle.flow.specs.declared.Place.the-variants.{InParams}
@@ -19,7 +20,7 @@ use Rattle.flow.proofs.Calling.{Command, ordinary, calling}
 use Rattle.flow.proofs.Lists.{lay-next, length-lay}
 use Rattle.flow.proofs.Places.{place-params}
 use Rattle.flow.proofs.Polling.{idleAt}
-use Rattle.flow.proofs.Reaches.{Allowance, withMoves, Env, sync, Frame, at-rest, Stood, Stands, split, Reaches}
+use Rattle.flow.proofs.Reaches.{Allowance, withMoves, Env, sync, Frame, at-rest, Stood, Stands, split, Reaches, tally}
 use Rattle.flow.proofs.Table.{Facts}
 use Rattle.image.specs.Image.{Image}
 use Rattle.parts.specs.Sizes.{rowBytes, sysargOf, PARAMS}
@@ -49,8 +50,8 @@ module _ {i : Image} (f : Frame i) (fx : Facts (i .geometry)) where
   writes-from : (ws pre tl : List ℕ) (s a j : ℕ) {z : Bool} {y : Entry} {n : ℕ} {ms : List Move} {κ : Allowance} {e : Env} {k : ℕ} (b : Target) {x : ℕ}
       → b .params ≡ pre ++ tl → length pre ≡ j → a ≡ PARAMS + 4 * j → j + length ws ≤ 2 + rowBytes (i .geometry) / 4 → j + length ws ≤ length (b .params)
       → Stands f y n (writes s a ws) ms κ e → b .effect ≡ 1 → b .running ≡ idle → f .Safe z (b .memory)
-      → (next : (b′ : Target) → Filled (pre ++ ws) b b′ → (n′ x′ : ℕ) (e′ : Env) → Stood f y n′ ms κ e′ → Reaches f z (sync y n′ 0 0 k b′ (idleAt x′) e′))
-      → Reaches f z (sync y n 0 0 k b (idleAt x) e)
+      → (next : (b′ : Target) → Filled (pre ++ ws) b b′ → (n′ x′ : ℕ) (e′ : Env) → Stood f y n′ ms κ e′ → Reaches f z (sync (position y n′) (tally 0 0 k) b′ (idleAt x′) e′))
+      → Reaches f z (sync (position y n) (tally 0 0 k) b (idleAt x) e)
   unfolding writes write withMoves
   writes-from [] pre tl s a j {n = n} {e = e} b {x} hp hl ha fits room st he quiet safe next =
       next b (record { behind = tl; silicon = refl; effect = refl; memory = refl; params = rw (append-nil pre) hp; room = refl; quiet = quiet }) n x e st
@@ -79,8 +80,8 @@ module _ {i : Image} (f : Frame i) (fx : Facts (i .geometry)) where
       → ((y : Bool) (r : Residue) (b′ : Target) → b′ .effect ≡ b .effect → b′ .memory ≡ b .memory → b′ .sysarg ≡ PARAMS → f .Safe z ((finish (i .geometry) y r c b′) .memory))
       → free (sysreqAfter c (b .silicon) (b .effect)) ≡ true → succeeded (sysargAfter c (b .silicon) (b .memory)) ≡ true
       → (next : (b′ : Target) → ListReturned (i .geometry) c ws b b′ → (n′ : ℕ) (e′ : Env) → Stood f y n′ ms κ e′
-      → Reaches f z (sync y n′ 0 0 k b′ (idleAt (sysargOf (i .geometry))) e′))
-      → Reaches f z (sync y n 0 0 k b (idleAt x) e)
+      → Reaches f z (sync (position y n′) (tally 0 0 k) b′ (idleAt (sysargOf (i .geometry))) e′))
+      → Reaches f z (sync (position y n) (tally 0 0 k) b (idleAt x) e)
   unfolding listed
   listing s c ws {ms = ms} {κ = κ} {b = b} cmd st fits room he quiet safe other safes ready good next =
       writes-from ws [] (b .params) s PARAMS 0 b refl refl (omega arith) (omega arith) (omega arith)

@@ -7,6 +7,8 @@ use Rattle.flow.specs.Map.{search, regions, lockRegions}
 use Rattle.flow.specs.Mishaps.{okayWith, WordMishaps, Breaks, LineMishaps}
 use Rattle.flow.specs.Monitor.{noticeRead, noticed, watch}
 use Rattle.flow.specs.Packets.{heard, verdict, okay, broken}
+use Rattle.flow.specs.Words.{testBitSet}
+use Rattle.flow.specs.Words.{testBitSet, free, succeeded}
 use Rattle.flow.specs.declared.Request.the-variants.{ReadIdcode, ReadDrw}
 use Rattle.parts.specs.Sizes.{rowsOf, locksIn, flashSize}
 use Rattle.wire.specs.Wire.{parity, ackOf}
@@ -22,7 +24,7 @@ unfolding verdict heard
 right-idcode w = rw (eq-eqb (parity w) (parity w) refl)
 
 pub word-mishaps : WordMishaps
-unfolding watch noticed noticeRead search regions lockRegions rowsOf locksIn flashSize
+unfolding watch noticed noticeRead testBitSet free succeeded search regions lockRegions rowsOf locksIn flashSize
 word-mishaps = record {
   testBitClear = rw (right 0x7FFFFFFF);
   testBitSet = rw (right 0x80000000);
@@ -77,6 +79,6 @@ line-mishaps = record {
   noise8 = breaks 8 33 (λ r. refl);
   noise255 = breaks 255 33 (λ r. refl);
   first = λ q r number. refl;
-  xres = λ w p a t d. refl;
-  lineReset = λ w p a t d. refl;
+  xres = λ x. refl;
+  lineReset = λ x. refl;
 }

@@ -9,7 +9,7 @@ use Rattle.flow.proofs.Decoding.{aTar, aDrw, aRead, aCtrl, aSelect, aCs
 use Rattle.flow.specs.Exchange.{decode}
 use Rattle.flow.specs.Packets.{packetOf}
 use Rattle.flow.specs.Sequence.{move, write, read, call, writes, listed, inTurn, imoCall, acquire, silicon, privileged, programRow, verifyRow, lockMacro, verifyMacro, macroDown, program, opening, afterwards, sequence, endMove, key}
-use Rattle.flow.specs.Session.{moveAt}
+use Rattle.flow.specs.Session.{position, moveAt}
 use Rattle.flow.specs.declared.Decoded.the-variants.{Known}
 use Rattle.flow.specs.declared.Entry.{Entry}
 use Rattle.flow.specs.declared.Entry.the-variants.{FromOpen, FromProtected}
@@ -206,7 +206,7 @@ around (more h hs) p q zero = relaxed (λ x. absurd x) h
 around (more h hs) p q (suc n) = relaxed (λ x. ap suc x) (around hs p q n)
 
 -- every move is proper, and only the last of steps 1 and 2 decides the entry
-pub proper-at : (i : Image) (y : Entry) (n : ℕ) → Proper (suc n ≡ length (opening i)) 1 (moveAt i y n)
+pub proper-at : (i : Image) (y : Entry) (n : ℕ) → Proper (suc n ≡ length (opening i)) 1 (moveAt i (position y n))
 unfolding sequence
 proper-at i y n =
     let g = i .geometry in

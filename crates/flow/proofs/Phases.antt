@@ -9,10 +9,10 @@ use lib.Dec.{eqb, eqb·suc-zero}
 use lib.ListN.{length, take, drop, drop-of-length-le}
 use lib.Seq.{take-all}
 use Rattle.flow.specs.Calls.{finish, effectOf, sysargAfter, sysreqAfter, afterFailure}
-use Rattle.flow.specs.Judge.{free, succeeded}
 use Rattle.flow.specs.Sealing.{HoldsImage}
 use Rattle.flow.specs.Sequence.{lockStart}
 use Rattle.flow.specs.Target.{Target, Memory, Residue, idle}
+use Rattle.flow.specs.Words.{free, succeeded}
 use Rattle.flow.specs.declared.Silicon.{Silicon}
 use Rattle.flow.proofs.Calling.{Command, Returned}
 use Rattle.flow.proofs.Legs.{Core, core}

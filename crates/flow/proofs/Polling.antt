@@ -8,17 +8,19 @@ use lib.Dec.{eqb, lit≤}
 use borrow.Author.Tests.{lt-ltb, le-ltb, eq-eqb, ne-eqb, eqb-true, eqb-false}
 use Rattle.flow.specs.Calls.{finish, afterFailure}
 use Rattle.flow.specs.Exchange.{fetch}
-use Rattle.flow.specs.Judge.{free, judge}
+use Rattle.flow.specs.Judge.{judge}
 use Rattle.flow.specs.Map.{place}
-use Rattle.flow.specs.Monitor.{Watch, oneBusy, stillBusy, noticeRead}
+use Rattle.flow.specs.Monitor.{Watch, oneBusy, noticeRead}
 use Rattle.flow.specs.Sequence.{poll}
+use Rattle.flow.specs.Session.{position}
 use Rattle.flow.specs.Target.{Target, Residue, Running, idle, busy, setSysreq}
+use Rattle.flow.specs.Words.{free}
 use Rattle.flow.specs.declared.Entry.{Entry}
 use Rattle.flow.specs.declared.Move.{Move}
 use Rattle.flow.specs.declared.Place.the-variants.{AtSysreq}
 use Rattle.flow.specs.declared.Purpose.the-variants.{Poll}
 use Rattle.flow.proofs.Access.{aim, Admits, read-any, read-still}
-use Rattle.flow.proofs.Reaches.{Allowance, withTransfer, Env, sync, Frame, Lasting, at-rest, Stood, less-room, Turn, without, same-running, not-idle, Reaches, stop}
+use Rattle.flow.proofs.Reaches.{Allowance, withTransfer, Env, tally, sync, Frame, Lasting, at-rest, Stood, less-room, Turn, without, same-running, not-idle, Reaches, stop}
 use Rattle.image.specs.Image.{Image}
 use Rattle.parts.specs.Sizes.{sysreqOf}
 use Rattle.parts.specs.declared.Geometry.{Geometry}
@@ -50,27 +52,13 @@ last-poll κ m st = less-room (κ .room) (omega arith) st
 
 -- ---- words
 
--- the monitor's test and the session's are one
-pub polls-agree : (w : ℕ) → stillBusy w ≡ not (free w)
-unfolding free
-polls-agree w = by (eqb (w / 2147483648 % 2) 0) (eqb (w / 268435456 % 2) 0) refl refl
-  where
-    bit : (x : ℕ) (y : Bool) → eqb (x % 2) 0 ≡ y → eqb (x % 2) 1 ≡ not y
-    bit x true h = ne-eqb (x % 2) 1 (λ e. let z = eqb-true (x % 2) 0 h in omega arith)
-    bit x false h = eq-eqb (x % 2) 1 (let z = eqb-false (x % 2) 0 h in omega arith)
-
-    by : (x y : Bool) → eqb (w / 2147483648 % 2) 0 ≡ x → eqb (w / 268435456 % 2) 0 ≡ y → stillBusy w ≡ not (eqb (w / 2147483648 % 2) 0 && eqb (w / 268435456 % 2) 0)
-    by true true p q = rw (bit (w / 2147483648) true p, bit (w / 268435456) true q, p, q)
-    by true false p q = rw (bit (w / 2147483648) true p, bit (w / 268435456) false q, p, q)
-    by false y p q = rw (bit (w / 2147483648) false p, p)
-
 -- a busy word: any but for bit 31
 abbrev busyWord : ℕ → ℕ
-busyWord o = 2147483648 + o % 2147483648
+busyWord o = 0x80000000 + o % 0x80000000
 
 busy-word : (o : ℕ) → free (busyWord o) ≡ false
 unfolding free
-busy-word o = rw (ne-eqb (busyWord o / 2147483648 % 2) 0 (omega arith))
+busy-word o = rw (ne-eqb (busyWord o / 0x80000000 % 2) 0 (omega arith))
 
 -- ---- the target
 
@@ -116,12 +104,12 @@ module _ {i : Image} (f : Frame i) (hp : place (i .geometry) (sysreqOf (i .geome
   pub poll-idle : {z : Bool} (s : ℕ) {y : Entry} {n : ℕ} {ms : List Move} {κ : Allowance} {e : Env} {p a k : ℕ} (b : Target) {x : ℕ} {c d : Bool}
       → Stood f y n (poll (i .geometry) s ++ ms) (withTransfer (withTransfer (withTransfer κ))) e → Admits (b .effect) AtSysreq → f .Safe z (b .memory) → b .running ≡ idle → free (b .sysreq) ≡ true
       → (next : (e′ : Env) → e′ .lists .calls ≡ e .lists .calls → Stood f y (suc (suc (suc n))) ms κ e′
-      → Reaches f z (sync y (suc (suc (suc n))) 0 a k (aim (sysreqOf (i .geometry)) (b .sysreq) b) (record { tar = sysreqOf (i .geometry); counts = false; polling = false; due = d }) e′))
-      → Reaches f z (sync y n p a k b (loopAt x c d) e)
+      → Reaches f z (sync (position y (suc (suc (suc n)))) (tally 0 a k) (aim (sysreqOf (i .geometry)) (b .sysreq) b) (record { tar = sysreqOf (i .geometry); counts = false; polling = false; due = d }) e′))
+      → Reaches f z (sync (position y n) (tally p a k) b (loopAt x c d) e)
   unfolding judge noticeRead
   poll-idle {z = z} s b st ok safe rest ready next =
       read-still f s (sysreqOf (i .geometry)) Poll st AtSysreq hp ok (at-rest (f .Safe z) b rest safe) (λ o. b .sysreq) (λ o z. rw rest) λ o o′ e′ h st′.
-      rw (ready, polls-agree (b .sysreq), ready) (next e′ h st′)
+      rw ready (next e′ h st′)
 
   module _ (s : ℕ) (s₀ : Bool) (r₀ : Residue) (c₀ : ℕ) (b : Target) (ok : Admits (b .effect) AtSysreq) {z z′ : Bool} (safe : f .Safe z (b .memory))
       (fails : (r : Residue) → f .Safe z (afterFailure c₀ (b .sysarg) r (b .memory)))
@@ -153,8 +141,8 @@ module _ {i : Image} (f : Frame i) (hp : place (i .geometry) (sysreqOf (i .geome
     pub poll-busy : (q m : ℕ) {y : Entry} {n : ℕ} {ms : List Move} {κ : Allowance} {e : Env} {a k : ℕ} (p x v : ℕ) {c d : Bool}
         → p + suc m ≡ 10000 → Stood f y n (poll (i .geometry) s ++ ms) (looping m κ) e → (f .Still → q ≡ 0)
         → (next : (e′ : Env) → e′ .lists .calls ≡ e .lists .calls → Stood f y (suc (suc (suc n))) ms κ e′
-        → Reaches f z′ (sync y (suc (suc (suc n))) 0 a k (aim (sysreqOf (i .geometry)) (over .sysreq) over) (record { tar = sysreqOf (i .geometry); counts = false; polling = false; due = d }) e′))
-        → Reaches f z (sync y n p a k (aim x v (during (busy q s₀ r₀ c₀) b)) (loopAt x c d) e)
+        → Reaches f z′ (sync (position y (suc (suc (suc n)))) (tally 0 a k) (aim (sysreqOf (i .geometry)) (over .sysreq) over) (record { tar = sysreqOf (i .geometry); counts = false; polling = false; due = d }) e′))
+        → Reaches f z (sync (position y n) (tally p a k) (aim x v (during (busy q s₀ r₀ c₀) b)) (loopAt x c d) e)
     unfolding judge noticeRead
     poll-busy zero m {κ = κ} p x v count st calm next =
         read-any f s (sysreqOf (i .geometry)) Poll (this-poll κ m st) AtSysreq hp ok going
@@ -162,14 +150,14 @@ module _ {i : Image} (f : Frame i) (hp : place (i .geometry) (sysreqOf (i .geome
         (λ o. fetch-last (i .geometry) s₀ r₀ c₀ (sysreqOf (i .geometry)) v o b) (λ o o′. fetch-ended (i .geometry) s₀ r₀ c₀ (sysreqOf (i .geometry)) (over .sysreq) o′ b)
         (λ o. refl) (λ o. finish-effect (i .geometry) s₀ r₀ c₀ b) (λ o. gone) (λ o o′. gone)
         (λ o. turn _ _ _ _) (λ o o′. without (same-running (aim (sysreqOf (i .geometry)) (over .sysreq) over) (aim (sysreqOf (i .geometry)) (over .sysreq) over) refl)) λ o o′ e′ h st′.
-        rw (ready, polls-agree (over .sysreq), ready) (next e′ h (last-poll κ m st′))
+        rw ready (next e′ h (last-poll κ m st′))
     poll-busy (suc zero) zero {κ = κ} p x v count st calm next =
         read-any f s (sysreqOf (i .geometry)) Poll (this-poll κ 0 st) AtSysreq hp ok going
         (λ o. aim (sysreqOf (i .geometry)) (busyWord o) (during (busy 0 s₀ r₀ c₀) b)) (λ o o′. aim (sysreqOf (i .geometry)) (over .sysreq) over)
         (λ o. refl) (λ o o′. fetch-last (i .geometry) s₀ r₀ c₀ (sysreqOf (i .geometry)) (busyWord o) o′ b)
         (λ o. refl) (λ o. refl) (λ o. going) (λ o o′. gone)
         (λ o. without (not-idle (aim (sysreqOf (i .geometry)) v (during (busy 1 s₀ r₀ c₀) b)) (aim (sysreqOf (i .geometry)) (busyWord o) (during (busy 0 s₀ r₀ c₀) b)) refl)) (λ o o′. turn _ _ _ _) λ o o′ e′ h st′.
-        rw (busy-word o, polls-agree (busyWord o), busy-word o, le-ltb (suc p) 10000 (omega arith)) (stop (f .caught 18 s _ _ _ (lit≤ tt) (λ still. let e = calm still in omega arith) gone))
+        rw (busy-word o, le-ltb (suc p) 10000 (omega arith)) (stop (f .caught 18 s _ _ _ (lit≤ tt) (λ still. let e = calm still in omega arith) gone))
     poll-busy (suc zero) (suc m) {n = n} {κ = κ} p x v count st calm next =
         let again : suc (suc n) - 2 ≡ n = omega arith in
         read-any f s (sysreqOf (i .geometry)) Poll (this-poll κ (suc m) st) AtSysreq hp ok going
@@ -177,7 +165,7 @@ module _ {i : Image} (f : Frame i) (hp : place (i .geometry) (sysreqOf (i .geome
         (λ o. refl) (λ o o′. fetch-last (i .geometry) s₀ r₀ c₀ (sysreqOf (i .geometry)) (busyWord o) o′ b)
         (λ o. refl) (λ o. refl) (λ o. going) (λ o o′. gone)
         (λ o. without (not-idle (aim (sysreqOf (i .geometry)) v (during (busy 1 s₀ r₀ c₀) b)) (aim (sysreqOf (i .geometry)) (busyWord o) (during (busy 0 s₀ r₀ c₀) b)) refl)) (λ o o′. turn _ _ _ _) λ o o′ e′ h st′.
-        rw (busy-word o, polls-agree (busyWord o), busy-word o, lt-ltb (suc p) 10000 (omega arith), again) (
+        rw (busy-word o, lt-ltb (suc p) 10000 (omega arith), again) (
         poll-idle s (aim (sysreqOf (i .geometry)) (over .sysreq) over) (this-poll κ m (back κ m st st′ (λ still. let e = calm still in omega arith)))
         (rw (finish-effect (i .geometry) s₀ r₀ c₀ b) ok) safe′ (finish-idle (i .geometry) s₀ r₀ c₀ b) ready λ e″ h″ st″.
         next e″ (h″ ∙ h) (last-poll κ m st″))
@@ -187,7 +175,7 @@ module _ {i : Image} (f : Frame i) (hp : place (i .geometry) (sysreqOf (i .geome
         (λ o. refl) (λ o o′. refl) (λ o. refl) (λ o. refl) (λ o. going) (λ o o′. going)
         (λ o. without (not-idle (aim (sysreqOf (i .geometry)) v (during (busy (suc (suc q)) s₀ r₀ c₀) b)) (aim (sysreqOf (i .geometry)) (busyWord o) (during (busy (suc q) s₀ r₀ c₀) b)) refl))
         (λ o o′. without (not-idle (aim (sysreqOf (i .geometry)) (busyWord o) (during (busy (suc q) s₀ r₀ c₀) b)) (aim (sysreqOf (i .geometry)) (busyWord o′) (during (busy q s₀ r₀ c₀) b)) refl)) λ o o′ e′ h st′.
-        rw (busy-word o, polls-agree (busyWord o), busy-word o, le-ltb (suc p) 10000 (omega arith)) (stop (f .caught 18 s _ _ _ (lit≤ tt) (λ still. let e = calm still in omega arith) going))
+        rw (busy-word o, le-ltb (suc p) 10000 (omega arith)) (stop (f .caught 18 s _ _ _ (lit≤ tt) (λ still. let e = calm still in omega arith) going))
     poll-busy (suc (suc q)) (suc m) {n = n} {κ = κ} p x v count st calm next =
         let again : suc (suc n) - 2 ≡ n = omega arith in
         read-any f s (sysreqOf (i .geometry)) Poll (this-poll κ (suc m) st) AtSysreq hp ok going
@@ -195,7 +183,7 @@ module _ {i : Image} (f : Frame i) (hp : place (i .geometry) (sysreqOf (i .geome
         (λ o. refl) (λ o o′. refl) (λ o. refl) (λ o. refl) (λ o. going) (λ o o′. going)
         (λ o. without (not-idle (aim (sysreqOf (i .geometry)) v (during (busy (suc (suc q)) s₀ r₀ c₀) b)) (aim (sysreqOf (i .geometry)) (busyWord o) (during (busy (suc q) s₀ r₀ c₀) b)) refl))
         (λ o o′. without (not-idle (aim (sysreqOf (i .geometry)) (busyWord o) (during (busy (suc q) s₀ r₀ c₀) b)) (aim (sysreqOf (i .geometry)) (busyWord o′) (during (busy q s₀ r₀ c₀) b)) refl)) λ o o′ e′ h st′.
-        rw (busy-word o, polls-agree (busyWord o), busy-word o, lt-ltb (suc p) 10000 (omega arith), again) (
+        rw (busy-word o, lt-ltb (suc p) 10000 (omega arith), again) (
         poll-busy q m (suc p) (sysreqOf (i .geometry)) (busyWord o′) (omega arith) (back κ m st st′ (λ still. let e = calm still in omega arith))
         (λ still. let e = calm still in absurd (omega arith)) λ e″ h″ st″.
         next e″ (h″ ∙ h) st″)

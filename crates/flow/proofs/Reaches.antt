@@ -9,17 +9,20 @@ use lib.Seq.{getD-drop, drop-drop}
 use mathlib.Core.Bool.{Bool, true, false, _&&_, not}
 use Rattle.flow.specs.Terms.{CalmLine, CalmCalls, NoError}
 use Rattle.flow.specs.Cuts.{cutMemory}
-use Rattle.flow.specs.Judge.{succeeded}
-use Rattle.flow.specs.Monitor.{Monitor, Waits, noWaits, watching, linkError, Watch, Delays, delayed}
+use Rattle.flow.specs.Monitor.{Monitor, Waits, noWaits, Seen, watching, linkError, Watch, Delays, delayed}
 use Rattle.flow.specs.Plan.{Traffic}
 use Rattle.flow.specs.Run.{Run, advance, handedOut}
 use Rattle.flow.specs.Sequence.{sequence, endMove}
-use Rattle.flow.specs.Session.{SessionState, running, reported, moveAt}
+use Rattle.flow.specs.Session.{position, SessionState, running, reported, moveAt, standAfter}
 use Rattle.flow.specs.SealedRuns.{stepAt}
 use Rattle.flow.specs.Sealing.{isIdle, onMacro0, succeeds0, reopens, seals, HoldsImage}
 use Rattle.flow.specs.Target.{Target, Memory, Residue, Running, idle, busy, Lists}
+use Rattle.flow.specs.Words.{succeeded}
+use Rattle.flow.specs.declared.Counters.{Counters}
 use Rattle.flow.specs.declared.Entry.{Entry}
 use Rattle.flow.specs.declared.Move.{Move}
+use Rattle.flow.specs.declared.Next.{Next}
+use Rattle.flow.specs.declared.Position.{Position}
 use Rattle.flow.specs.declared.Purpose.{Purpose}
 use Rattle.flow.specs.declared.Purpose.the-variants.{Sent, Idcode, TestBit, Poll, Status, Keep, EntryLevel, Reopened, FlashWord, LockWord, StoredLevel, LastSum}
 use Rattle.flow.specs.declared.Request.{Request}
@@ -84,15 +87,26 @@ pub record Env : Type 0 where
   pub delays : Delays
   pub traffic : Traffic
 
+-- no transfer waits
+abbrev pub tally : (polls attempts kept : ℕ) → Counters
+tally p a k = record { waits = 0; polls = p; attempts = a; kept = k }
+
+abbrev pub seen : Waits → (polls attempts : ℕ) → Watch → Delays → Seen
+seen w p a t d = record { waits = w; polls = p; attempts = a; watch = t; delays = d }
+
 -- a run whose monitor has counted as the session has; no transfer waits
-abbrev pub sync : Entry → (n p a k : ℕ) → Target → Watch → Env → Run
-sync y n p a k b t e = record {
-  session = running y n 0 p a k (e .traffic .transfers);
+abbrev pub sync : Position → Counters → Target → Watch → Env → Run
+sync o c b t e = record {
+  session = running o c (e .traffic .transfers);
   target = b;
   lists = e .lists;
-  monitor = watching noWaits p a t (e .delays);
+  monitor = watching (seen noWaits (c .polls) (c .attempts) t (e .delays));
   traffic = e .traffic;
 }
+
+-- a run after an answer to a move of flow step s
+abbrev pub after : Next → Position → (s : ℕ) → Target → Monitor → Env → Run
+after x o s b m e = record { session = standAfter x o s (e .traffic .transfers); target = b; lists = e .lists; monitor = m; traffic = e .traffic }
 
 -- a run that has reported
 abbrev pub ended : (n s : ℕ) → Target → Lists → Monitor → Traffic → Run
@@ -166,12 +180,12 @@ pub record Frame (i : Image) : Type 1 where
   pub caught : {z : Bool} (n s : ℕ) (b : Target) (l : Lists) (t : Traffic) → 1 ≤ n → (Still → ⊥) → Lasting (Safe z) b → Stop z (ended n s b l (linkError n) t)
   -- done
   pub finished : (b : Target) (l : Lists) (w : Watch) (d : Delays) (t : Traffic) → RightIds i silicon → b .running ≡ idle → HoldsImage i (b .memory)
-      → t .transfers ≡ planned + delayed d → (Still → delayed d ≡ 0) → Goal true (ended 0 9 b l (watching noWaits 0 0 w d) t)
+      → t .transfers ≡ planned + delayed d → (Still → delayed d ≡ 0) → Goal true (ended 0 9 b l (watching (seen noWaits 0 0 w d)) t)
   -- another part
-  pub wrongId : {z : Bool} (s : ℕ) (w : Waits) (p a : ℕ) (b : Target) (l : Lists) (x : Watch) (d : Delays) (t : Traffic) → Lasting (Safe z) b
-      → eqb (silicon .idcode) 0x0BB11477 ≡ false → Stop z (ended 16 s b l (watching w p a x d) t)
-  pub wrongPart : {z : Bool} (s : ℕ) (w : Waits) (p a : ℕ) (b : Target) (l : Lists) (x : Watch) (d : Delays) (t : Traffic) → Lasting (Safe z) b
-      → rightSilicon i silicon ≡ false → Stop z (ended 20 s b l (watching w p a x d) t)
+  pub wrongId : {z : Bool} (s : ℕ) (b : Target) (l : Lists) (x : Seen) (t : Traffic) → Lasting (Safe z) b
+      → eqb (silicon .idcode) 0x0BB11477 ≡ false → Stop z (ended 16 s b l (watching x) t)
+  pub wrongPart : {z : Bool} (s : ℕ) (b : Target) (l : Lists) (x : Seen) (t : Traffic) → Lasting (Safe z) b
+      → rightSilicon i silicon ≡ false → Stop z (ended 20 s b l (watching x) t)
 
 -- the lists that are left are calm, and nothing was delayed
 pub record StillCalm (e : Env) : Type 0 where
@@ -204,7 +218,7 @@ split a b ms κ st = rw (append-assoc a b ms, with-moves-append a b κ) at st
 
 module _ {i : Image} {f : Frame i} {y : Entry} {n : ℕ} {m : Move} {ms : List Move} {κ : Allowance} {e : Env} where
   -- the standing move
-  pub at-move : Stood f y n (m ∷ ms) κ e → moveAt i y n ≡ m
+  pub at-move : Stood f y n (m ∷ ms) κ e → moveAt i (position y n) ≡ m
   at-move s =
       let z : n + 0 ≡ n = omega arith in
       ap (λ (x : ℕ). getD (sequence i y) x endMove) (sym z) ∙ sym (getD-drop n (sequence i y) 0 endMove) ∙ ap (λ (l : List Move). getD l 0 endMove) (s .at)
@@ -223,7 +237,7 @@ pub record Bounded {i : Image} (f : Frame i) (t : Traffic) : Type 0 where
 
 -- not reported yet
 abbrev pub going : SessionState → Bool
-going (running y n w p a k h) = true
+going (running o c h) = true
 going (reported x s h) = false
 
 -- the session comes to Goal, or stops for a reason; on the way the memory is safe, and no more is handed out than is allowed
@@ -233,16 +247,16 @@ pub data Reaches {i : Image} (f : Frame i) : (sealed : Bool) → Run → Type 0 
   step : {z z′ : Bool} {r : Run} → going (r .session) ≡ true → Lasting (f .Safe z) (r .target) → Bounded f (handedOut i r) → NoError (r .monitor)
       → Turn (stepAt i (r .session)) z (r .target) ((advance i r) .target) z′ → Reaches f z′ (advance i r) → Reaches f z r
 
-pub clear : (w : Waits) (p a : ℕ) (t : Watch) (d : Delays) → NoError (watching w p a t d)
-clear w p a t d n e = let no : _≡_ {A = ℕ} 0 1 = cc in omega arith
+pub clear : (x : Seen) → NoError (watching x)
+clear x n e = let no : _≡_ {A = ℕ} 0 1 = cc in omega arith
 
 -- where a step that stands at flow step s leads from b, and whether the board is sealed there
-pub record Next {i : Image} (f : Frame i) (s : ℕ) (z : Bool) (b : Target) (r : Run) : Type 0 where
-  pub after : Bool
-  pub turn : Turn s z b (r .target) after
-  pub reaches : Reaches f after r
+pub record Onto {i : Image} (f : Frame i) (s : ℕ) (z : Bool) (b : Target) (r : Run) : Type 0 where
+  pub sealed : Bool
+  pub turn : Turn s z b (r .target) sealed
+  pub reaches : Reaches f sealed r
 
 -- a step whose outcome is known
 pub steps : {i : Image} (f : Frame i) {s : ℕ} {z : Bool} (r r′ : Run) → going (r .session) ≡ true → stepAt i (r .session) ≡ s → Lasting (f .Safe z) (r .target) → Bounded f (handedOut i r) → NoError (r .monitor)
-    → advance i r ≡ r′ → Next f s z (r .target) r′ → Reaches f z r
-steps f r r′ goes at safe most clean e l = step {z′ = l .after} {r = r} goes safe most clean (rw (at, e) (l .turn)) (rw e (l .reaches))
+    → advance i r ≡ r′ → Onto f s z (r .target) r′ → Reaches f z r
+steps f r r′ goes at safe most clean e l = step {z′ = l .sealed} {r = r} goes safe most clean (rw (at, e) (l .turn)) (rw e (l .reaches))

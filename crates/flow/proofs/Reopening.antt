@@ -14,11 +14,12 @@ use Rattle.flow.specs.Monitor.{noWaits, watching}
 use Rattle.flow.specs.Plan.{trafficIn, pollsIn}
 use Rattle.flow.specs.Run.{Run, advance, runAfter, started}
 use Rattle.flow.specs.Sequence.{key, write, read, poll, call, acquire, silicon, program, opening, afterwards, sequence}
-use Rattle.flow.specs.Session.{SessionState, running, judgedTo}
+use Rattle.flow.specs.Session.{position, SessionState, running, standAfter}
 use Rattle.flow.specs.Target.{Target, Memory, nextOutcome}
 use Rattle.flow.specs.Terms.{Passes, Startable, RightPart, calmEnd, callsEnd}
 use Rattle.flow.specs.declared.Entry.the-variants.{FromOpen, FromProtected}
 use Rattle.flow.specs.declared.Move.{Move}
+use Rattle.flow.specs.declared.Next.the-variants.{Stop}
 use Rattle.flow.specs.declared.Place.the-variants.{AtSysreq, AtSysarg}
 use Rattle.flow.specs.declared.Purpose.the-variants.{Keep, EntryLevel, Reopened, Status}
 use Rattle.flow.proofs.Access.{admits, write-reaches, call-reaches}
@@ -31,7 +32,7 @@ use Rattle.flow.proofs.Passing.{table-facts}
 use Rattle.flow.proofs.Phases.{callD}
 use Rattle.flow.proofs.Places.{place-sysreq, place-sysarg}
 use Rattle.flow.proofs.Polling.{idleAt}
-use Rattle.flow.proofs.Reaches.{Allowance, withMoves, Env, sync, RightIds, Frame, Lasting, Stands, split, Reaches, here, stop, step}
+use Rattle.flow.proofs.Reaches.{Allowance, withMoves, Env, sync, RightIds, Frame, Lasting, Stands, split, Reaches, here, stop, step, tally, seen}
 use Rattle.flow.proofs.Table.{Facts}
 use Rattle.image.specs.Image.{Image, imageOf}
 use Rattle.image.specs.declared.Header.{Header}
@@ -81,8 +82,8 @@ module _ (i : Image) (b : Target) (right : RightIds i (b .silicon)) where
     safeSealed = λ r z m e. tt;
     caught = λ n s b l t some bad safe. bad tt;
     finished = λ b l w d t r quiet holds count calm few. absurd (omega (arith, far));
-    wrongId = λ s w p a b l x d t safe h. false≢true (sym h ∙ right .idcode);
-    wrongPart = λ s w p a b l x d t safe h. false≢true (sym h ∙ right .silicon);
+    wrongId = λ s b l x t safe h. false≢true (sym h ∙ right .idcode);
+    wrongPart = λ s b l x t safe h. false≢true (sym h ∙ right .silicon);
   }
 
   -- the run passes a state where the call runs
@@ -100,7 +101,7 @@ module _ (i : Image) (b : Target) (right : RightIds i (b .silicon)) where
     any c = record { now = tt; cut = λ r. tt }
 
     reopens : {n x k : ℕ} (later : List Move) {e : Env} {c : Target} → Acquired short (b .memory) k (core c) → Stands short FromProtected n lead later behind e
-        → Reaches short false (sync FromProtected n 0 0 k c (idleAt x) e)
+        → Reaches short false (sync (position FromProtected n) (tally 0 0 k) c (idleAt x) e)
     unfolding short write
     reopens later {c = c} p st =
         let g = i .geometry in
@@ -137,8 +138,8 @@ module _ (i : Image) (b : Target) (right : RightIds i (b .silicon)) where
 
     -- step 2 finds PROTECTED
     enters : Bytes (b .silicon) → (n h : ℕ)
-        → judgedTo (judge i EntryLevel 0 (sysargAfter 0 (b .silicon) (b .memory)) (sysreqAfter 0 (b .silicon) (b .memory .stored))) FromOpen n 2 0 h
-        ≡ running FromProtected (suc n) 0 0 0 (sysargAfter 0 (b .silicon) (b .memory)) h
+        → standAfter (judge i EntryLevel (tally 0 0 (sysargAfter 0 (b .silicon) (b .memory))) (sysreqAfter 0 (b .silicon) (b .memory .stored))) (position FromOpen n) 2 h
+        ≡ running (position FromProtected (suc n)) (tally 0 0 (sysargAfter 0 (b .silicon) (b .memory))) h
     unfolding judge
     enters hb n h = rw (ids-read i (b .silicon) (b .memory) (b .memory .stored) hb, right .silicon, level-read (b .silicon) (b .memory .stored) hb (omega arith), two)
 
@@ -154,7 +155,7 @@ module _ (i : Image) (b : Target) (right : RightIds i (b .silicon)) where
           session = s;
           target = b₂;
           lists = e₂ .lists;
-          monitor = watching noWaits 0 0 (idleAt (sysreqOf g)) (e₂ .delays);
+          monitor = watching (seen noWaits 0 0 (idleAt (sysreqOf g)) (e₂ .delays));
           traffic = e₂ .traffic;
         })) (sym (enters hb n₂ (e₂ .traffic .transfers))) (
         reopens later (acquired-with (subst (Acquired short (b .memory) k₁) (sym same) a₁))

@@ -12,11 +12,11 @@ use Rattle.flow.specs.Calls.{effectOf, sysargAfter, sysreqAfter, afterFa
 use Rattle.flow.specs.CutExamples.{underWay, poweredUp}
 use Rattle.flow.specs.Examples.{partOne}
 use Rattle.flow.specs.Exchange.{Met, decode, carry, barred, transferred, meet}
-use Rattle.flow.specs.Judge.{succeeded}
 use Rattle.flow.specs.Map.{search, regions, lockRegions}
 use Rattle.flow.specs.Sealing.{seals, HoldsImage}
 use Rattle.flow.specs.SealingExamples.{locking, sealedBy, image, latch, holding, SealingExamples}
 use Rattle.flow.specs.Target.{Target, idle, Lists, nextEvent}
+use Rattle.flow.specs.Words.{succeeded}
 use Rattle.flow.specs.declared.Request.the-variants.{ReadDrw, WriteTar}
 use Rattle.flow.specs.declared.TransferOutcome.the-variants.{Silent, Noisy}
 use Rattle.parts.specs.Sizes.{rowsOf, locksIn, flashSize}

@@ -3,7 +3,7 @@ use mathlib.Core.Bool.{Bool, true, false}
 use mathlib.Core.Path.{_≡_, refl}
 use Prim.Native.Nat.{ℕ}
 use lib.Count.{ones}
-use Rattle.flow.specs.Judge.{judge, free, succeeded}
+use Rattle.flow.specs.Judge.{judge}
 use Rattle.flow.specs.Packets.{verdict, heard, broken}
 use Rattle.flow.specs.Sequence.{sequence, opening, acquire, silicon, call, write, read, writes, listed, inTurn, imoCall, privileged, programRow, program, lockMacro, verifyMacro, afterwards}
 use Rattle.flow.specs.Session.{stepOf}
@@ -12,6 +12,7 @@ use Rattle.flow.proofs.Mishaps.{right, right-idcode}
 use Rattle.image.specs.Words.{wordAt, wordsAt}
 use Rattle.parts.specs.Sizes.{rowsOf, locksIn}
 use Rattle.wire.specs.Wire.{ackOf}
+use Rattle.flow.specs.Words.{free, succeeded}
 
 pub move-examples : MoveExamples
 unfolding sequence opening acquire silicon call write read writes listed inTurn imoCall privileged programRow program lockMacro verifyMacro afterwards rowsOf locksIn wordAt wordsAt

@@ -9,24 +9,29 @@ use Rattle.flow.specs.Calls.{reset}
 use Rattle.flow.specs.Exchange.{decode, transferred, meet}
 use Rattle.flow.specs.Run.{Run, advanceBy, advance, runAfter}
 use Rattle.flow.specs.Sequence.{sequence, opening, acquire}
-use Rattle.flow.specs.Session.{SessionState, running, reported, tryAgain, stepOf}
+use Rattle.flow.specs.Session.{SessionState, running, reported, position, tryAgain, standAfter, stepOf, firstSession}
 use Rattle.flow.specs.Target.{idle, Target, nextEvent}
 use Rattle.flow.specs.declared.Entry.the-variants.{FromOpen}
 use Rattle.flow.specs.declared.Request.the-variants.{ReadIdcode}
 use Rattle.flow.proofs.Decoding.{attempt, meets}
 use Rattle.flow.proofs.Hearing.{silence-heard}
+use Rattle.flow.proofs.Reaches.{tally}
 use Rattle.image.specs.Image.{Image}
+
+-- at one of the moves of step 1, with a attempts failed
+abbrev attempting : (at a : ℕ) → SessionState
+attempting n a = running (position FromOpen n) (tally 0 a 0) a
 
 -- where a session stands with such a target, m requests from its end: before its XRES, at the line reset or the read of attempt a with c
 -- attempts after it, or at its end
 pub data Attempting (b : Target) (m : ℕ) : SessionState → Type 0 where
-  atXres : m ≡ 61 → b .memory .stored ≡ 4 → b .running ≡ idle → Attempting b m (running FromOpen 0 0 0 0 0 0)
-  atLineReset : (a c : ℕ) → a + suc c ≡ 30 → m ≡ 2 + 2 * c → b .effect ≡ 4 → Attempting b m (running FromOpen 1 0 0 a 0 a)
-  atIdcode : (a c : ℕ) → a + suc c ≡ 30 → m ≡ 1 + 2 * c → b .effect ≡ 4 → Attempting b m (running FromOpen 2 0 0 a 0 a)
+  atXres : m ≡ 61 → b .memory .stored ≡ 4 → b .running ≡ idle → Attempting b m firstSession
+  atLineReset : (a c : ℕ) → a + suc c ≡ 30 → m ≡ 2 + 2 * c → b .effect ≡ 4 → Attempting b m (attempting 1 a)
+  atIdcode : (a c : ℕ) → a + suc c ≡ 30 → m ≡ 1 + 2 * c → b .effect ≡ 4 → Attempting b m (attempting 2 a)
   atReport : m ≡ 0 → Attempting b m (reported 26 1 30)
 
 -- one more attempt, or the last
-missed : (b : Target) (m a c : ℕ) → a + suc c ≡ 30 → m ≡ 2 * c → b .effect ≡ 4 → Attempting b m (tryAgain (ltb (suc a) 30) FromOpen 2 1 0 a 0 (suc a))
+missed : (b : Target) (m a c : ℕ) → a + suc c ≡ 30 → m ≡ 2 * c → b .effect ≡ 4 → Attempting b m (standAfter (tryAgain (ltb (suc a) 30) (tally 0 a 0)) (position FromOpen 2) 1 (suc a))
 missed b m a zero h e dark =
     let last : a ≡ 29 = omega arith in
     let over : ltb (suc a) 30 ≡ false = le-ltb (suc a) 30 (omega arith) in
@@ -38,15 +43,15 @@ module _ (i : Image) (r : Run) where
   abbrev On : ℕ → SessionState → Type 0
   On m s = Attempting ((advanceBy i s r) .target) m ((advanceBy i s r) .session)
 
-  on-xres : r .target .memory .stored ≡ 4 → r .target .running ≡ idle → On 60 (running FromOpen 0 0 0 0 0 0)
+  on-xres : r .target .memory .stored ≡ 4 → r .target .running ≡ idle → On 60 firstSession
   unfolding stepOf meet decode reset sequence opening acquire
   on-xres kill quiet = rw quiet (atLineReset 0 29 refl refl kill)
 
-  on-line-reset : (m a c : ℕ) → a + suc c ≡ 30 → m ≡ 1 + 2 * c → r .target .effect ≡ 4 → On m (running FromOpen 1 0 0 a 0 a)
+  on-line-reset : (m a c : ℕ) → a + suc c ≡ 30 → m ≡ 1 + 2 * c → r .target .effect ≡ 4 → On m (attempting 1 a)
   unfolding stepOf meet decode sequence opening acquire
   on-line-reset m a c h e dark = atIdcode a c h e dark
 
-  on-idcode : (m a c : ℕ) → a + suc c ≡ 30 → m ≡ 2 * c → r .target .effect ≡ 4 → On m (running FromOpen 2 0 0 a 0 a)
+  on-idcode : (m a c : ℕ) → a + suc c ≡ 30 → m ≡ 2 * c → r .target .effect ≡ 4 → On m (attempting 2 a)
   unfolding stepOf sequence opening acquire transferred
   on-idcode m a c h e dark =
       rw (meets (i .geometry) attempt (r .lists) (r .target), eq-eqb (r .target .effect) 4 dark, silence-heard ReadIdcode ((nextEvent (r .lists .line)) .filler))

@@ -13,6 +13,7 @@ use Rattle.flow.proofs.Frames.{start-stands}
 use Rattle.flow.proofs.Passing.{table-facts, valid}
 use Rattle.flow.proofs.Reaches.{RightIds, Frame, going, Reaches, here, stop, step}
 use Rattle.image.specs.Image.{Image, imageOf}
+use Rattle.flow.specs.declared.Next.the-variants.{Stop}
 
 module _ (i : Image) (b : Target) (wrong : RightIds i (b .silicon) → ⊥) where
   -- the session has reported, and nothing was altered
@@ -36,8 +37,8 @@ module _ (i : Image) (b : Target) (wrong : RightIds i (b .silicon) → ⊥) wher
     safeSealed = λ right z m e. absurd (wrong right);
     caught = λ n s b l t some bad safe. record { ended = refl; same = safe .now };
     finished = λ b l w d t right quiet holds count calm. wrong right;
-    wrongId = λ s w p a b l x d t safe h. record { ended = refl; same = safe .now };
-    wrongPart = λ s w p a b l x d t safe h. record { ended = refl; same = safe .now };
+    wrongId = λ s b l x t safe h. record { ended = refl; same = safe .now };
+    wrongPart = λ s b l x t safe h. record { ended = refl; same = safe .now };
   }
 
   spares : (n : ℕ) {z : Bool} (r : Run) → Reaches sparing z r → (runAfter i n r) .target .memory ≡ b .memory

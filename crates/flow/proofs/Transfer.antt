@@ -8,24 +8,27 @@ use lib.Dec.{lit≤}
 use borrow.Author.Tests.{lt-ltb, le-ltb, eq-eqb}
 use Rattle.flow.specs.Terms.{CalmLine, calmEnd, calmEvent, CalmCalls, callsEnd, calmCall}
 use Rattle.flow.specs.Exchange.{carry, gives, barred, killed, callsOn, Met, transferred}
-use Rattle.flow.specs.Judge.{judge}
-use Rattle.flow.specs.Monitor.{Waits, noWaits, waitsOn, watching, Watch, oneWait, waitsOf, watchBy, noticed, watch}
+use Rattle.flow.specs.Judge.{withWaits, judge}
+use Rattle.flow.specs.Monitor.{Delays, Waits, noWaits, waitsOn, Monitor, watching, Watch, oneWait, waitsOf, watchBy, noticed, watch}
 use Rattle.flow.specs.Packets.{Verdict, again, verdict, packetOf, byteIn, wordIn}
 use Rattle.flow.specs.Plan.{Traffic, counting}
 use Rattle.flow.specs.Run.{Run, advance, handedOut}
 use Rattle.flow.specs.Sequence.{move}
-use Rattle.flow.specs.Session.{running, judgedTo, heardBy, stepOf}
+use Rattle.flow.specs.Session.{position, running, heardBy, stepOf}
 use Rattle.flow.specs.Target.{Target, Lists, CallOutcome, nextEvent, nextOutcome, rest}
+use Rattle.flow.specs.declared.Counters.{Counters}
 use Rattle.flow.specs.declared.Entry.{Entry}
 use Rattle.flow.specs.declared.LineEvent.{LineEvent}
 use Rattle.flow.specs.declared.Move.{Move}
+use Rattle.flow.specs.declared.Position.{Position}
 use Rattle.flow.specs.declared.Purpose.{Purpose}
 use Rattle.flow.specs.declared.Request.{Request}
 use Rattle.flow.specs.declared.TransferOutcome.the-variants.{Clean}
 use Rattle.flow.proofs.Decoding.{Plain, aTar, aDrw, aRead, aCtrl, aSelect, aCsw, plain, meets}
 use Rattle.flow.proofs.Hearing.{listsAfter, Heard, heardOkay, heardWait, heardError, heardErrorDone, hears}
-use Rattle.flow.proofs.Reaches.{Allowance, withTransfer, Env, sync, Frame, Lasting, Stood, at-move, at-next, Bounded, Turn, without, same-running, Reaches, stop, Next, steps, clear}
+use Rattle.flow.proofs.Reaches.{Allowance, withTransfer, Env, tally, seen, sync, after, Frame, Lasting, Stood, at-move, at-next, Bounded, Turn, without, same-running, Reaches, stop, Onto, steps, clear}
 use Rattle.image.specs.Image.{Image}
+use Rattle.parts.specs.declared.Geometry.{Geometry}
 
 -- one transfer more
 abbrev pub more : Traffic → Traffic
@@ -72,73 +75,62 @@ waits-so-far q zero = refl
 waits-so-far q (suc w) = rw (eq-eqb (byteIn (packetOf q)) (byteIn (packetOf q)) refl, eq-eqb (wordIn (packetOf q)) (wordIn (packetOf q)) refl)
 
 -- a run in which the standing request has been answered so; with none it is `sync`
-abbrev paused : Request → Entry → (n w p a k : ℕ) → Target → Watch → Env → Run
-paused q y n w p a k b t e = record {
-  session = running y n w p a k (e .traffic .transfers);
+abbrev paused : Request → Position → Counters → Target → Watch → Env → Run
+paused q o c b t e = record {
+  session = running o c (e .traffic .transfers);
   target = b;
   lists = e .lists;
-  monitor = watching (waitingFor q w) p a t (e .delays);
+  monitor = watching (seen (waitingFor q (c .waits)) (c .polls) (c .attempts) t (e .delays));
   traffic = e .traffic;
 }
 
+-- what the monitor makes of a verdict on it, and of an OK with a word
+abbrev sees : Geometry → Request → Verdict → Counters → Watch → Delays → Monitor
+sees g q v c t d = watchBy false g q v (seen (waitingFor q (c .waits)) (c .polls) (c .attempts) t d)
+
+abbrev pub notes : Geometry → Request → (word : ℕ) → Counters → Watch → Delays → Monitor
+notes g q x c t d = noticed g q x (seen noWaits (c .polls) (c .attempts) t d)
+
 module _ {i : Image} (f : Frame i) where
-  -- the run after a verdict
-  abbrev onward : (s : ℕ) → Request → Purpose → Entry → (n w p a k : ℕ) → Target → Watch → Lists → Verdict → Env → Run
-  onward s q u y n w p a k b t l v e = record {
-    session = heardBy false i (move s q u) v y n w p a k (suc (e .traffic .transfers));
-    target = b;
-    lists = l;
-    monitor = watchBy false (i .geometry) q v (waitingFor q w) p a t (e .delays);
-    traffic = more (e .traffic);
-  }
-
-  -- the run after an OK with the word x
-  abbrev pub okayed : (s : ℕ) → Request → Purpose → Entry → (n p a k x : ℕ) → Target → Watch → Env → Run
-  okayed s q u y n p a k x b t e = record {
-    session = judgedTo (judge i u p k x) y n s a (e .traffic .transfers);
-    target = b;
-    lists = e .lists;
-    monitor = noticed (i .geometry) q x p a t (e .delays);
-    traffic = e .traffic;
-  }
-
   abbrev metBy : Request → Target → Env → Met
   metBy q b e = transferred (i .geometry) q (nextEvent (e .lists .line)) (e .lists) b
 
-  arrives : {q : Request} → Plain q → {s : ℕ} {u : Purpose} {y : Entry} {n : ℕ} {ms : List Move} {κ : Allowance} {e : Env} (w p a k : ℕ) (b : Target) (t : Watch)
+  arrives : {q : Request} → Plain q → {s : ℕ} {u : Purpose} {y : Entry} {n : ℕ} {ms : List Move} {κ : Allowance} {e : Env} (c : Counters) (b : Target) (t : Watch)
       → Stood f y n (move s q u ∷ ms) κ e
-      → advance i (paused q y n w p a k b t e) ≡ onward s q u y n w p a k ((metBy q b e) .target) t ((metBy q b e) .lists) (verdict q ((metBy q b e) .answer)) e
+      → advance i (paused q (position y n) c b t e)
+      ≡ after (heardBy false i u (verdict q ((metBy q b e) .answer)) c) (position y n) s ((metBy q b e) .target)
+      (sees (i .geometry) q (verdict q ((metBy q b e) .answer)) c t (e .delays)) (passed ((metBy q b e) .lists) e)
   unfolding advance stepOf watch
-  arrives (aTar {a = v}) {e = e} w p a k b t st = rw (at-move st, meets (i .geometry) (plain (aTar {a = v})) (e .lists) b)
-  arrives (aDrw {w = v}) {e = e} w p a k b t st = rw (at-move st, meets (i .geometry) (plain (aDrw {w = v})) (e .lists) b)
-  arrives aRead {e = e} w p a k b t st = rw (at-move st, meets (i .geometry) (plain aRead) (e .lists) b)
-  arrives (aCtrl {w = v}) {e = e} w p a k b t st = rw (at-move st, meets (i .geometry) (plain (aCtrl {w = v})) (e .lists) b)
-  arrives (aSelect {w = v}) {e = e} w p a k b t st = rw (at-move st, meets (i .geometry) (plain (aSelect {w = v})) (e .lists) b)
-  arrives (aCsw {w = v}) {e = e} w p a k b t st = rw (at-move st, meets (i .geometry) (plain (aCsw {w = v})) (e .lists) b)
+  arrives (aTar {a = v}) {e = e} c b t st = rw (at-move st, meets (i .geometry) (plain (aTar {a = v})) (e .lists) b)
+  arrives (aDrw {w = v}) {e = e} c b t st = rw (at-move st, meets (i .geometry) (plain (aDrw {w = v})) (e .lists) b)
+  arrives aRead {e = e} c b t st = rw (at-move st, meets (i .geometry) (plain aRead) (e .lists) b)
+  arrives (aCtrl {w = v}) {e = e} c b t st = rw (at-move st, meets (i .geometry) (plain (aCtrl {w = v})) (e .lists) b)
+  arrives (aSelect {w = v}) {e = e} c b t st = rw (at-move st, meets (i .geometry) (plain (aSelect {w = v})) (e .lists) b)
+  arrives (aCsw {w = v}) {e = e} c b t st = rw (at-move st, meets (i .geometry) (plain (aCsw {w = v})) (e .lists) b)
 
-  bounded : {q : Request} → Plain q → {s : ℕ} {u : Purpose} {y : Entry} {n : ℕ} {ms : List Move} (v : ℕ) (κ : Allowance) {e : Env} (w p a k : ℕ) (b : Target) (t : Watch)
-      → Stood f y n (move s q u ∷ ms) (waiting v κ) e → Bounded f (handedOut i (paused q y n w p a k b t e))
-  bounded h v κ {e} w p a k b t st =
+  bounded : {q : Request} → Plain q → {s : ℕ} {u : Purpose} {y : Entry} {n : ℕ} {ms : List Move} (v : ℕ) (κ : Allowance) {e : Env} (c : Counters) (b : Target) (t : Watch)
+      → Stood f y n (move s q u ∷ ms) (waiting v κ) e → Bounded f (handedOut i (paused q (position y n) c b t e))
+  bounded h v κ {e} c b t st =
       rw (at-move st, counts h (e .traffic)) (record { transfers = omega (arith, st .room); xresets = omega (arith, st .xres); lineResets = omega (arith, st .lines) })
 
   -- one exchange: `onWait` is where a WAIT leads to
-  once : {z z′ : Bool} {q : Request} → Plain q → {s : ℕ} {u : Purpose} {y : Entry} {n : ℕ} {ms : List Move} (v : ℕ) {κ : Allowance} {e : Env} (w p a k : ℕ) (b : Target) (t : Watch)
+  once : {z z′ : Bool} {q : Request} → Plain q → {s : ℕ} {u : Purpose} {y : Entry} {n : ℕ} {ms : List Move} (v : ℕ) {κ : Allowance} {e : Env} (c : Counters) (b : Target) (t : Watch)
       → Stood f y n (move s q u ∷ ms) (waiting v κ) e → killed b ≡ false → barred (i .geometry) q b ≡ false
       → Lasting (f .Safe z) b → ((o : ℕ) → Lasting (f .Safe z′) (carry (i .geometry) q o (nextOutcome (e .lists .calls)) b))
       → ((o : ℕ) → Turn s z b (carry (i .geometry) q o (nextOutcome (e .lists .calls)) b) z′)
-      → (onWait : (f .Still → ⊥) → Reaches f z (onward s q u y n w p a k b t (record { line = rest (e .lists .line); calls = e .lists .calls }) again e))
+      → (onWait : (f .Still → ⊥) → Reaches f z (after (heardBy false i u again c) (position y n) s b (sees (i .geometry) q again c t (e .delays)) (passed (record { line = rest (e .lists .line); calls = e .lists .calls }) e)))
       → (next : (o : ℕ) → Stood f y (suc n) ms κ (passed (listsAfter (i .geometry) q b (e .lists)) e)
-      → Reaches f z′ (okayed s q u y n p a k (gives q b) (carry (i .geometry) q o (nextOutcome (e .lists .calls)) b) t (passed (listsAfter (i .geometry) q b (e .lists)) e)))
-      → Reaches f z (paused q y n w p a k b t e)
-  once {z} {z′} {q} h {s} {u} {y} {n} {ms} v {κ} {e} w p a k b t st not-killed free safe safe′ turn onWait next =
-      steps f (paused q y n w p a k b t e) met refl (ap (λ (m : Move). m .step) (at-move st)) safe (bounded h v κ w p a k b t st) (clear (waitingFor q w) p a t (e .delays)) (arrives h w p a k b t st)
+      → Reaches f z′ (after (judge i u (withWaits 0 c) (gives q b)) (position y n) s (carry (i .geometry) q o (nextOutcome (e .lists .calls)) b) (notes (i .geometry) q (gives q b) c t (e .delays)) (passed (listsAfter (i .geometry) q b (e .lists)) e)))
+      → Reaches f z (paused q (position y n) c b t e)
+  once {z} {z′} {q} h {s} {u} {y} {n} {ms} v {κ} {e} c b t st not-killed free safe safe′ turn onWait next =
+      steps f (paused q (position y n) c b t e) met refl (ap (λ (m : Move). m .step) (at-move st)) safe (bounded h v κ c b t st) (clear _) (arrives h c b t st)
       (by (hears (i .geometry) (e .lists) b (plain h) (nextEvent (e .lists .line)) not-killed free))
     where
       not-calm : ((nextEvent (e .lists .line)) .outcome ≡ Clean → ⊥) → f .Still → ⊥
       not-calm bad still = bad (calm-event ((st .calm still) .line))
 
       met : Run
-      met = onward s q u y n w p a k ((metBy q b e) .target) t ((metBy q b e) .lists) (verdict q ((metBy q b e) .answer)) e
+      met = after (heardBy false i u (verdict q ((metBy q b e) .answer)) c) (position y n) s ((metBy q b e) .target) (sees (i .geometry) q (verdict q ((metBy q b e) .answer)) c t (e .delays)) (passed ((metBy q b e) .lists) e)
 
       stood : Stood f y (suc n) ms κ (passed (listsAfter (i .geometry) q b (e .lists)) e)
       stood = record {
@@ -155,31 +147,31 @@ module _ {i : Image} (f : Frame i) where
       same : Turn s z b b z
       same = without (same-running b b refl)
 
-      by : Heard (i .geometry) q (nextEvent (e .lists .line)) (e .lists) b (metBy q b e) → Next f s z b met
-      by (heardOkay hb hv hl) = rw (hb, hv, hl) (record { after = z′; turn = turn ((nextEvent (e .lists .line)) .other); reaches = next ((nextEvent (e .lists .line)) .other) stood })
-      by (heardWait bad hb hv hl) = rw (hb, hv, hl) (record { after = z; turn = same; reaches = onWait (not-calm bad) })
-      by (heardError c hn bad hb hv) = rw (hb, hv) (record { after = z; turn = same; reaches = stop (f .caught c s b _ (more (e .traffic)) hn (not-calm bad) safe) })
-      by (heardErrorDone c hn bad hb hv) =
-          rw (hb, hv) (record { after = z′; turn = turn ((nextEvent (e .lists .line)) .other); reaches = stop (f .caught c s _ _ (more (e .traffic)) hn (not-calm bad) (safe′ ((nextEvent (e .lists .line)) .other))) })
+      by : Heard (i .geometry) q (nextEvent (e .lists .line)) (e .lists) b (metBy q b e) → Onto f s z b met
+      by (heardOkay hb hv hl) = rw (hb, hv, hl) (record { sealed = z′; turn = turn ((nextEvent (e .lists .line)) .other); reaches = next ((nextEvent (e .lists .line)) .other) stood })
+      by (heardWait bad hb hv hl) = rw (hb, hv, hl) (record { sealed = z; turn = same; reaches = onWait (not-calm bad) })
+      by (heardError x hn bad hb hv) = rw (hb, hv) (record { sealed = z; turn = same; reaches = stop (f .caught x s b _ (more (e .traffic)) hn (not-calm bad) safe) })
+      by (heardErrorDone x hn bad hb hv) =
+          rw (hb, hv) (record { sealed = z′; turn = turn ((nextEvent (e .lists .line)) .other); reaches = stop (f .caught x s _ _ (more (e .traffic)) hn (not-calm bad) (safe′ ((nextEvent (e .lists .line)) .other))) })
 
   -- v more repeats are allowed
-  transfer-from : (v : ℕ) {z z′ : Bool} {q : Request} → Plain q → {s : ℕ} {u : Purpose} {y : Entry} {n : ℕ} {ms : List Move} {κ : Allowance} (e : Env) (w p a k : ℕ) (b : Target) (t : Watch)
-      → w + v ≡ 16
+  transfer-from : (v : ℕ) {z z′ : Bool} {q : Request} → Plain q → {s : ℕ} {u : Purpose} {y : Entry} {n : ℕ} {ms : List Move} {κ : Allowance} (e : Env) (c : Counters) (b : Target) (t : Watch)
+      → c .waits + v ≡ 16
       → Stood f y n (move s q u ∷ ms) (waiting v κ) e → killed b ≡ false → barred (i .geometry) q b ≡ false
       → Lasting (f .Safe z) b → ((o : ℕ) → Lasting (f .Safe z′) (carry (i .geometry) q o (nextOutcome (e .lists .calls)) b))
       → ((o : ℕ) → Turn s z b (carry (i .geometry) q o (nextOutcome (e .lists .calls)) b) z′)
       → (next : (o : ℕ) (e′ : Env) → e′ .lists .calls ≡ cond (callsOn (i .geometry) q b) (rest (e .lists .calls)) (e .lists .calls) → Stood f y (suc n) ms κ e′
-      → Reaches f z′ (okayed s q u y n p a k (gives q b) (carry (i .geometry) q o (nextOutcome (e .lists .calls)) b) t e′))
-      → Reaches f z (paused q y n w p a k b t e)
-  transfer-from zero {q} h {s = s} e w p a k b t count st not-killed free safe safe′ turn next =
-      once h 0 w p a k b t st not-killed free safe safe′ turn
-      (λ bad. rw (waits-so-far q w, le-ltb w 16 (omega arith)) (stop (f .caught 27 s b _ (more (e .traffic)) (lit≤ tt) bad safe)))
+      → Reaches f z′ (after (judge i u (withWaits 0 c) (gives q b)) (position y n) s (carry (i .geometry) q o (nextOutcome (e .lists .calls)) b) (notes (i .geometry) q (gives q b) c t (e′ .delays)) e′))
+      → Reaches f z (paused q (position y n) c b t e)
+  transfer-from zero {q} h {s = s} e c b t count st not-killed free safe safe′ turn next =
+      once h 0 c b t st not-killed free safe safe′ turn
+      (λ bad. rw (waits-so-far q (c .waits), le-ltb (c .waits) 16 (omega arith)) (stop (f .caught 27 s b _ (more (e .traffic)) (lit≤ tt) bad safe)))
       (λ o st′. next o _ refl st′)
-  transfer-from (suc v) {q} h {κ = κ} e w p a k b t count st not-killed free safe safe′ turn next =
-      once h (suc v) w p a k b t st not-killed free safe safe′ turn
-      (λ bad. rw (waits-so-far q w, lt-ltb w 16 (omega arith))
+  transfer-from (suc v) {q} h {κ = κ} e c b t count st not-killed free safe safe′ turn next =
+      once h (suc v) c b t st not-killed free safe safe′ turn
+      (λ bad. rw (waits-so-far q (c .waits), lt-ltb (c .waits) 16 (omega arith))
       (transfer-from v h (record { lists = record { line = rest (e .lists .line); calls = e .lists .calls }; delays = oneWait (e .delays); traffic = more (e .traffic) })
-      (suc w) p a k b t (omega arith)
+      (withWaits (suc (c .waits)) c) b t (omega arith)
       (record { at = st .at; accounted = omega (arith, st .accounted); room = omega (arith, st .room); xres = st .xres; lines = st .lines; calm = λ still. absurd (bad still) })
       not-killed free safe safe′ turn next))
       (λ o st′. next o _ refl st′)
@@ -190,6 +182,6 @@ module _ {i : Image} (f : Frame i) where
       → Lasting (f .Safe z) b → ((o : ℕ) → Lasting (f .Safe z′) (carry (i .geometry) q o (nextOutcome (e .lists .calls)) b))
       → ((o : ℕ) → Turn s z b (carry (i .geometry) q o (nextOutcome (e .lists .calls)) b) z′)
       → (next : (o : ℕ) (e′ : Env) → e′ .lists .calls ≡ cond (callsOn (i .geometry) q b) (rest (e .lists .calls)) (e .lists .calls) → Stood f y (suc n) ms κ e′
-      → Reaches f z′ (okayed s q u y n p a k (gives q b) (carry (i .geometry) q o (nextOutcome (e .lists .calls)) b) t e′))
-      → Reaches f z (sync y n p a k b t e)
-  transfer h {e = e} st not-killed free safe safe′ turn next = transfer-from 16 h e 0 _ _ _ _ _ refl st not-killed free safe safe′ turn next
+      → Reaches f z′ (after (judge i u (tally p a k) (gives q b)) (position y n) s (carry (i .geometry) q o (nextOutcome (e .lists .calls)) b) (notes (i .geometry) q (gives q b) (tally p a k) t (e′ .delays)) e′))
+      → Reaches f z (sync (position y n) (tally p a k) b t e)
+  transfer h {e = e} st not-killed free safe safe′ turn next = transfer-from 16 h e (tally _ _ _) _ _ refl st not-killed free safe safe′ turn next

@@ -182,7 +182,7 @@ unfolding advance meet
 advance-used i r = by (r .session)
   where
     by : (s : SessionState) → Used (r .lists) ((advanceBy i s r) .lists)
-    by (running y n w p a k h) = meet-used (i .geometry) (decode (packetOf ((moveAt i y n) .request))) (r .lists) (r .target)
+    by (running o c h) = meet-used (i .geometry) (decode (packetOf ((moveAt i o) .request))) (r .lists) (r .target)
     by (reported n s h) = used (whole (r .lists .line)) (whole (r .lists .calls))
 
 pub after-used : (i : Image) (n : ℕ) (r : Run) → Used (r .lists) ((runAfter i n r) .lists)
@@ -208,11 +208,11 @@ module _ (i : Image) where
     where
       by : (s : SessionState) → AlikeRun x (advanceBy i s r) (advanceBy i s (runBehind x r))
       by (reported n s h) = sameRun refl
-      by (running y n w p a k h) = met-run (meet-alike (i .geometry) x (decode (packetOf ((moveAt i y n) .request))) (r .lists) (r .target))
+      by (running o c h) = met-run (meet-alike (i .geometry) x (decode (packetOf ((moveAt i o) .request))) (r .lists) (r .target))
         where
-          met-run : Alike x (meetOn (i .geometry) (decode (packetOf ((moveAt i y n) .request))) (r .lists) (r .target))
-              (meetOn (i .geometry) (decode (packetOf ((moveAt i y n) .request))) (behind x (r .lists)) (r .target))
-              → AlikeRun x (advanceBy i (running y n w p a k h) r) (advanceBy i (running y n w p a k h) (runBehind x r))
+          met-run : Alike x (meetOn (i .geometry) (decode (packetOf ((moveAt i o) .request))) (r .lists) (r .target))
+              (meetOn (i .geometry) (decode (packetOf ((moveAt i o) .request))) (behind x (r .lists)) (r .target))
+              → AlikeRun x (advanceBy i (running o c h) r) (advanceBy i (running o c h) (runBehind x r))
           met-run (same e) = sameRun (rw e)
           met-run (into z) = intoRun z
 

@@ -7,18 +7,18 @@ use Prim.Native.Nat.{ℕ, zero, suc}
 use Rattle.flow.specs.BoardExamples.{none}
 use Rattle.flow.specs.Calls.{dropped, finish, reset}
 use Rattle.flow.specs.Exchange.{decode, carry, killed, barred, carriedOut, gives, silentReply, replyTo, Met, met, transferred, meetOn, meet}
-use Rattle.flow.specs.Judge.{succeeded}
-use Rattle.flow.specs.Monitor.{isReset, isAttempt}
-use Rattle.flow.specs.Packets.{packetOf, isRead}
+use Rattle.flow.specs.Packets.{packetOf, isRead, isReset, isAttempt}
 use Rattle.flow.specs.Run.{Run, served, advanceBy, advance, runAfter, started}
 use Rattle.flow.specs.SealedRuns.{stepAt, SealedUnheard}
 use Rattle.flow.specs.Sealing.{onMacro0, succeeds0, seals}
 use Rattle.flow.specs.Session.{SessionState, running, reported, moveAt, act, stepOf}
 use Rattle.flow.specs.Target.{Target, CallOutcome, Running, idle, busy, nextEvent}
+use Rattle.flow.specs.Words.{succeeded}
 use Rattle.flow.specs.declared.Answer.the-variants.{Transferred}
 use Rattle.flow.specs.declared.Decoded.{Decoded}
 use Rattle.flow.specs.declared.Decoded.the-variants.{Known, Unknown}
-use Rattle.flow.specs.declared.Entry.{Entry}
+use Rattle.flow.specs.declared.Counters.{Counters}
+use Rattle.flow.specs.declared.Position.{Position}
 use Rattle.flow.specs.declared.LineEvent.{LineEvent}
 use Rattle.flow.specs.declared.Move.{Move}
 use Rattle.flow.specs.declared.Reply.{Reply}
@@ -183,15 +183,15 @@ module _ (i : Image) where
     where
       by : (s : SessionState) → AheadRun es (λ line. advanceBy i s (runOn line r))
       by (reported x s h) = record { line = es; same = refl; bare = refl }
-      by (running y n w p a k h) =
-          let m = moveAt i y n in
+      by (running o c h) =
+          let m = moveAt i o in
           let x = meet-ahead (i .geometry) (r .lists .calls) (r .target) es (decode (packetOf (m .request))) in
-          let f : Met → Run = λ z. served i (running y n w p a k h) m z r in
+          let f : Met → Run = λ z. served i (running o c h) m z r in
           record { line = x .line; same = ap f (x .same); bare = ap f (x .bare) }
 
-  silence-ends : (m : Move) → Outside (m .request) → (j : Reply) (y : Entry) (n w p a k h : ℕ)
-      → act i m (Transferred (silentReply j)) y n w p a k h ≡ reported 29 (m .step) (suc h)
-  silence-ends m q j y n w p a k h = rw (q .transfers, q .counts, silence-heard (m .request) j)
+  silence-ends : (m : Move) → Outside (m .request) → (j : Reply) (o : Position) (c : Counters) (h : ℕ)
+      → act i m (Transferred (silentReply j)) o c h ≡ reported 29 (m .step) (suc h)
+  silence-ends m q j o c h = rw (q .transfers, q .counts, silence-heard (m .request) j)
 
   at-once : (r : Run) → seals (r .target) ((advance i (runOn [] r)) .target) ≡ true → Ends i 0 (runOn (silent ∷ []) r)
   unfolding runAfter advance meet stepOf
@@ -199,14 +199,14 @@ module _ (i : Image) where
     where
       by : (s : SessionState) → r .session ≡ s → seals (r .target) ((advanceBy i s (runOn [] r)) .target) ≡ true → Ends i 0 (runOn (silent ∷ []) r)
       by (reported x s h) e z = absurd (no (no-seal (r .target) (r .target) (same-running (r .target) (r .target) refl)) z)
-      by (running y n w p a k h) e z =
-          let m = moveAt i y n in
+      by (running o c h) e z =
+          let m = moveAt i o in
           let x = meet-unanswered (i .geometry) (r .lists .calls) (r .target) (decode (packetOf (m .request))) z in
           let q = is-outside (i .geometry) (r .lists .calls) (r .target) (m .request) z in
           record {
             seals = rw (e, x .target) z;
             sent = suc h;
-            reports = rw (e, x .answer) (silence-ends m q (silent .filler) y n w p a k h);
+            reports = rw (e, x .answer) (silence-ends m q (silent .filler) o c h);
           }
 
   -- one step sooner

@@ -8,13 +8,16 @@ use native.Mathlib.Omega.{arith}
 use lib.Dec.{eqb, eqb·suc-zero}
 use borrow.Author.Tests.{eq-eqb, ne-eqb}
 use Rattle.flow.specs.Exchange.{levelWord}
-use Rattle.flow.specs.Judge.{go, goIf, judge, levelShown}
+use Rattle.flow.specs.Judge.{goIf, judge}
 use Rattle.flow.specs.Map.{place}
 use Rattle.flow.specs.Monitor.{noticeRead}
 use Rattle.flow.specs.Sequence.{read, inTurn, compareWords, verifyRow, lockStart, lockMacro, verifyMacro, macroDown, lockAndVerify}
+use Rattle.flow.specs.Session.{position, running}
 use Rattle.flow.specs.Target.{Target, idle}
+use Rattle.flow.specs.Words.{levelShown}
 use Rattle.flow.specs.declared.Entry.{Entry}
 use Rattle.flow.specs.declared.Move.{Move}
+use Rattle.flow.specs.declared.Next.the-variants.{Go}
 use Rattle.flow.specs.declared.Purpose.{Purpose}
 use Rattle.flow.specs.declared.Place.the-variants.{InFlash, InLocks, AtLevel}
 use Rattle.flow.specs.declared.Purpose.the-variants.{FlashWord, LockWord, StoredLevel}
@@ -25,13 +28,14 @@ use Rattle.flow.proofs.Locking.{macro-leg}
 use Rattle.flow.proofs.Phases.{Level, isOpen, isProtected, isKill, Valid, Wrote, Locked, all-held, level-safe, wrote-all}
 use Rattle.flow.proofs.Places.{place-flash, place-locks, place-level}
 use Rattle.flow.proofs.Polling.{idleAt}
-use Rattle.flow.proofs.Reaches.{Allowance, withTransfer, withRead, withMoves, Env, sync, Frame, at-rest, Stood, Stands, Reaches}
+use Rattle.flow.proofs.Reaches.{Allowance, withTransfer, withRead, withMoves, Env, sync, Frame, at-rest, Stood, Stands, Reaches, tally}
 use Rattle.flow.proofs.Table.{Facts}
 use Rattle.image.proofs.Words.{part-word}
 use Rattle.image.specs.Image.{Image}
 use Rattle.image.specs.Words.{wordAt}
 use Rattle.parts.specs.Sizes.{rowBytes, macrosOf, rowsOf, flashSize, locksIn, locksAt, levelAt}
 use Rattle.parts.specs.declared.Geometry.{Geometry}
+use Rattle.flow.specs.declared.Way.the-variants.{Onward}
 
 -- the word at the address a is w
 pub data Holds (g : Geometry) (c : Core) (a w : ℕ) : Type 0 where
@@ -46,10 +50,10 @@ level-read isKill o = let e : (o / 268435456 * 268435456 + 4 * 16777216 + o % 16
 
 -- a purpose that takes the word w, and costs what any read does
 record Takes (i : Image) (u : Purpose) (w : ℕ) : Type 0 where
-  pub judged : (k : ℕ) → judge i u 0 k w ≡ go 0 k
+  pub judged : (k : ℕ) → judge i u (tally 0 0 k) w ≡ Go Onward (tally 0 0 k)
   pub cost : (κ : Allowance) → withRead u κ ≡ withTransfer κ
 
-same-go : (y : Bool) (number k : ℕ) → y ≡ true → goIf y number 0 k ≡ go 0 k
+same-go : (y : Bool) (number k : ℕ) → y ≡ true → goIf y number (tally 0 0 k) ≡ Go Onward (tally 0 0 k)
 same-go true number k e = refl
 same-go false number k e = absurd (false≢true e)
 
@@ -71,8 +75,8 @@ takes-locks i m o h = record {
 module _ {i : Image} (f : Frame i) (y : Entry) where
   word-reaches : (s a w : ℕ) (u : Purpose) → Takes i u w → {z : Bool} {n x k : ℕ} {later : List Move} {κ : Allowance} {e : Env} {b : Target} → Holds (i .geometry) (core b) a w → b .effect ≡ 1 → b .running ≡ idle → f .Safe z (b .memory)
       → Stands f y n (read s a u) later κ e
-      → (next : (n′ : ℕ) (e′ : Env) → Stood f y n′ later κ e′ → Reaches f z (sync y n′ 0 0 k (aim a w b) (idleAt a) e′))
-      → Reaches f z (sync y n 0 0 k b (idleAt x) e)
+      → (next : (n′ : ℕ) (e′ : Env) → Stood f y n′ later κ e′ → Reaches f z (sync (position y n′) (tally 0 0 k) (aim a w b) (idleAt a) e′))
+      → Reaches f z (sync (position y n) (tally 0 0 k) b (idleAt x) e)
   unfolding noticeRead withMoves read
   word-reaches s a w u takes {z = z} {k = k} {κ = κ} {b = b} (flashHolds o hp hw) he quiet safe st next =
       read-still f s a u (rw (takes .cost κ) at st) (InFlash o) hp (admits-open (b .effect) (InFlash o) he) (at-rest (f .Safe z) b quiet safe) (λ _. w) (λ _ _. rw hw) λ _ _ e′ h st′.

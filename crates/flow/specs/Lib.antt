@@ -7,6 +7,7 @@ pub mod Target
 pub mod Calls
 pub mod Cuts
 pub mod Exchange
+pub mod Words
 pub mod Monitor
 pub mod Judge
 pub mod Session

@@ -3,7 +3,7 @@ use mathlib.Core.Bool.{Bool, true, false}
 use mathlib.Core.Path.{_≡_}
 use Prim.Native.Nat.{ℕ}
 use Rattle.flow.specs.Examples.{partOne}
-use Rattle.flow.specs.Monitor.{Delays, noDelays, Watch, Waits, noWaits, waitsOn, Monitor, watching, linkError, watch}
+use Rattle.flow.specs.Monitor.{Delays, noDelays, Watch, noWaits, waitsOn, Seen, noneWaits, Monitor, watching, linkError, watch}
 use Rattle.flow.specs.declared.Answer.{Answer}
 use Rattle.flow.specs.declared.Answer.the-variants.{ResetDone, Transferred}
 use Rattle.flow.specs.declared.Request.{Request}
@@ -33,20 +33,25 @@ countingAt a y u = record { tar = a; counts = true; polling = y; due = u }
 abbrev pub readAt : (address : ℕ) → (polling due : Bool) → Watch
 readAt a y u = record { tar = a; counts = false; polling = y; due = u }
 
--- polls of this loop, attempts running; no transfer waits, nothing has been delayed
+-- polls of this loop, attempts running; no transfer waits
+abbrev pub seenWith : Delays → (polls attempts : ℕ) → Watch → Monitor
+seenWith d p a t = watching (record { waits = noWaits; polls = p; attempts = a; watch = t; delays = d })
+
+-- nothing has been delayed
 abbrev pub seen : (polls attempts : ℕ) → Watch → Monitor
-seen p a t = watching noWaits p a t noDelays
+seen p a t = seenWith noDelays p a t
 
 -- one busy poll, one failed attempt more than that
 abbrev pub polledBusy : (polls attempts : ℕ) → Watch → Monitor
-polledBusy p a t = watching noWaits p a t (record { waits = 0; busyPolls = 1; missed = 0 })
+polledBusy p a t = seenWith (record { waits = 0; busyPolls = 1; missed = 0 }) p a t
 
 abbrev pub missedOne : (polls attempts : ℕ) → Watch → Monitor
-missedOne p a t = watching noWaits p a t (record { waits = 0; busyPolls = 0; missed = 1 })
+missedOne p a t = seenWith (record { waits = 0; busyPolls = 0; missed = 1 }) p a t
 
 -- a request has been answered by WAIT so often, `all` WAITs in all
 abbrev pub waited : Request → (times all : ℕ) → Monitor
-waited q n k = watching (waitsOn q n) 0 0 (readAt 0 false false) (record { waits = k; busyPolls = 0; missed = 0 })
+waited q n k =
+    watching (record { waits = waitsOn q n; polls = 0; attempts = 0; watch = readAt 0 false false; delays = record { waits = k; busyPolls = 0; missed = 0 } })
 
 -- a DRW read, and an attempt's read of IDCODE
 abbrev pub afterRead : Answer → Monitor → Monitor
@@ -124,5 +129,5 @@ pub record LineMishaps : Type 0 where
   pub noise255 : Breaks 255 33
   -- the first mishap stays; a reset is none, and changes nothing else of what has been seen
   pub first : (q : Request) (r : Answer) (number : ℕ) → watch partOne q r (linkError number) ≡ linkError number
-  pub xres : (w : Waits) (p a : ℕ) (t : Watch) (d : Delays) → watch partOne Xres ResetDone (watching w p a t d) ≡ watching noWaits p a t d
-  pub lineReset : (w : Waits) (p a : ℕ) (t : Watch) (d : Delays) → watch partOne LineReset ResetDone (watching w p a t d) ≡ watching noWaits p a t d
+  pub xres : (x : Seen) → watch partOne Xres ResetDone (watching x) ≡ watching (noneWaits x)
+  pub lineReset : (x : Seen) → watch partOne LineReset ResetDone (watching x) ≡ watching (noneWaits x)

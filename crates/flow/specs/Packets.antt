@@ -1,5 +1,5 @@
 -- What goes over the wire for each request, and how an answer reads: document 01, 'Wire'. Assumes nothing.
-use mathlib.Core.Bool.{Bool, true, false, _&&_, cond}
+use mathlib.Core.Bool.{Bool, true, false, _&&_, not, cond}
 use Prim.Native.Nat.{ℕ}
 use lib.Dec.{eqb}
 use Rattle.flow.specs.declared.Answer.{Answer}
@@ -57,6 +57,31 @@ isRead ReadDrw = true
 isRead (WriteTar w) = false
 isRead (WriteDrw w) = false
 isRead (WriteSetup r w) = false
+
+-- 'the reads and writes handed out, repeats included, resets not': a reset is no transfer
+abbrev pub isReset : Request → Bool
+isReset Xres = true
+isReset LineReset = true
+isReset ReadIdcode = false
+isReset ReadDrw = false
+isReset (WriteTar w) = false
+isReset (WriteDrw w) = false
+isReset (WriteSetup r w) = false
+
+-- 'attempts of line reset and read IDCODE'
+abbrev pub isAttempt : Request → Bool
+isAttempt Xres = false
+isAttempt LineReset = false
+isAttempt ReadIdcode = true
+isAttempt ReadDrw = false
+isAttempt (WriteTar w) = false
+isAttempt (WriteDrw w) = false
+isAttempt (WriteSetup r w) = false
+
+-- '14 reset answered by an acknowledgement or the reverse'
+abbrev pub answers : Request → Answer → Bool
+answers q ResetDone = isReset q
+answers q (Transferred r) = not (isReset q)
 
 -- what an answer says: OK with this word; WAIT; or the number that a FAULT, a silence, a noise or a wrong parity has
 pub data Verdict : Type 0 where

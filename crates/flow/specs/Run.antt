@@ -28,9 +28,9 @@ served i s m r run = record {
 
 -- the target's answer to the standing request, given to the session; after the report nothing changes
 abbrev pub advanceBy : Image → SessionState → Run → Run
-advanceBy i (running y n w p a k h) run =
-    let m = moveAt i y n in
-    served i (running y n w p a k h) m (meet (i .geometry) (packetOf (m .request)) (run .lists) (run .target)) run
+advanceBy i (running p c h) run =
+    let m = moveAt i p in
+    served i (running p c h) m (meet (i .geometry) (packetOf (m .request)) (run .lists) (run .target)) run
 advanceBy i (reported x s h) run = run
 
 unfoldable pub advance : Image → Run → Run
@@ -52,7 +52,7 @@ started b l = record {
 
 -- the requests handed out: those answered, and the one that stands
 abbrev pub handedOutBy : Image → SessionState → Traffic → Traffic
-handedOutBy i (running y n w p a k h) t = counting ((moveAt i y n) .request) t
+handedOutBy i (running p c h) t = counting ((moveAt i p) .request) t
 handedOutBy i (reported x s h) t = t
 
 abbrev pub handedOut : Image → Run → Traffic

@@ -15,7 +15,7 @@ use Rattle.parts.specs.declared.Geometry.{Geometry}
 
 -- the flow step of the move that stands
 abbrev pub stepAt : Image → SessionState → ℕ
-stepAt i (running y n w p a k h) = (moveAt i y n) .step
+stepAt i (running p c h) = (moveAt i p) .step
 stepAt i (reported x s h) = s
 
 -- a call 0x0D for macro 0 that succeeds is step 7's where it seals, and step 3's where it doesn't

@@ -6,9 +6,10 @@ use Prim.Native.Nat.{ℕ}
 use lib.Dec.{eqb}
 use Rattle.flow.specs.Calls.{levelSent, macroSent}
 use Rattle.flow.specs.Cuts.{CutTo}
-use Rattle.flow.specs.Judge.{succeeded}
+use Rattle.flow.specs.Session.{running}
 use Rattle.flow.specs.Target.{Target, Memory, Running, idle, busy}
 use Rattle.image.specs.Image.{Image}
+use Rattle.flow.specs.Words.{succeeded}
 
 abbrev pub isIdle : Running → Bool
 isIdle idle = true

@@ -6,41 +6,49 @@ use Rattle.flow.specs.Examples.{twoMacros}
 use Rattle.flow.specs.Judgements.{openImage}
 use Rattle.flow.specs.Mishaps.{answer, okayWith, wait}
 use Rattle.flow.specs.Sequence.{move, lockMacro, verifyMacro, afterwards, endMove}
-use Rattle.flow.specs.Session.{SessionState, running, reported, moveAt, stepOf}
+use Rattle.flow.specs.Session.{SessionState, running, reported, position, moveAt, stepOf}
 use Rattle.flow.specs.declared.Answer.{Answer}
 use Rattle.flow.specs.declared.Answer.the-variants.{ResetDone}
+use Rattle.flow.specs.declared.Counters.{Counters}
 use Rattle.flow.specs.declared.Entry.the-variants.{FromOpen, FromProtected}
+use Rattle.flow.specs.declared.Position.{Position}
 use Rattle.flow.specs.declared.Purpose.the-variants.{Sent, Idcode, Poll, Status}
 use Rattle.flow.specs.declared.Request.the-variants.{Xres, ReadIdcode, ReadDrw, WriteTar, WriteDrw, WriteSetup}
 use Rattle.wire.specs.declared.Register.the-variants.{CtrlStat}
 
+abbrev pub fromOpen : (at : ℕ) → Position
+fromOpen n = position FromOpen n
+
+abbrev pub counting : (waits polls attempts : ℕ) → Counters
+counting w p a = record { waits = w; polls = p; attempts = a; kept = 7 }
+
 -- a session on an image of part 1 at the index `at`, with 7 kept and 40 transfers counted
 abbrev pub standing : (at waits polls attempts : ℕ) → SessionState
-standing n w p a = running FromOpen n w p a 7 40
+standing n w p a = running (fromOpen n) (counting w p a) 40
 
 -- after one more transfer
 abbrev pub onto : (at waits polls attempts : ℕ) → SessionState
-onto n w p a = running FromOpen n w p a 7 41
+onto n w p a = running (fromOpen n) (counting w p a) 41
 
 abbrev pub after : SessionState → Answer → SessionState
 after s a = stepOf openImage s a
 
 -- some moves, at their indices
 pub record MoveExamples : Type 0 where
-  pub xres : moveAt openImage FromOpen 0 ≡ move 1 Xres Sent
-  pub idcode : moveAt openImage FromOpen 2 ≡ move 1 ReadIdcode Idcode
-  pub setup : moveAt openImage FromOpen 3 ≡ move 1 (WriteSetup CtrlStat 0x54000000) Sent
-  pub testMode : moveAt openImage FromOpen 7 ≡ move 1 (WriteDrw 0x80000000) Sent
-  pub stale : moveAt openImage FromOpen 12 ≡ move 1 ReadDrw Sent
-  pub poll : moveAt openImage FromOpen 13 ≡ move 1 ReadDrw Poll
+  pub xres : moveAt openImage (fromOpen 0) ≡ move 1 Xres Sent
+  pub idcode : moveAt openImage (fromOpen 2) ≡ move 1 ReadIdcode Idcode
+  pub setup : moveAt openImage (fromOpen 3) ≡ move 1 (WriteSetup CtrlStat 0x54000000) Sent
+  pub testMode : moveAt openImage (fromOpen 7) ≡ move 1 (WriteDrw 0x80000000) Sent
+  pub stale : moveAt openImage (fromOpen 12) ≡ move 1 ReadDrw Sent
+  pub poll : moveAt openImage (fromOpen 13) ≡ move 1 ReadDrw Poll
   -- the calls of steps 1 and 2, 0x15 and 0, alter nothing; 0x0A, which erases, comes in step 3
-  pub imo : moveAt openImage FromOpen 17 ≡ move 1 (WriteDrw 0x80000015) Sent
-  pub identify : moveAt openImage FromOpen 27 ≡ move 2 (WriteDrw 0x80000000) Sent
-  pub erase : moveAt openImage FromOpen 45 ≡ move 3 (WriteDrw 0x8000000A) Sent
+  pub imo : moveAt openImage (fromOpen 17) ≡ move 1 (WriteDrw 0x80000015) Sent
+  pub identify : moveAt openImage (fromOpen 27) ≡ move 2 (WriteDrw 0x80000000) Sent
+  pub erase : moveAt openImage (fromOpen 45) ≡ move 3 (WriteDrw 0x8000000A) Sent
   pub reopened : getD (afterwards openImage FromProtected) 37 endMove ≡ move 2 (WriteDrw 0x80000000) Sent
   -- the last move of row 0, and the first word of row 1's list
-  pub row : moveAt openImage FromOpen 122 ≡ move 5 ReadDrw Status
-  pub nextRow : moveAt openImage FromOpen 124 ≡ move 5 (WriteDrw 0x0000D7B6) Sent
+  pub row : moveAt openImage (fromOpen 122) ≡ move 5 ReadDrw Status
+  pub nextRow : moveAt openImage (fromOpen 124) ≡ move 5 (WriteDrw 0x0000D7B6) Sent
   -- step 7 sends the image's level, here OPEN, for macro 0; step 8 reads macro 1's locks at their own address
   pub lock : getD (lockMacro openImage 0) 31 endMove ≡ move 7 (WriteDrw 0x0001E0B6) Sent
   pub locks : getD (verifyMacro twoMacros 1) 0 endMove ≡ move 8 (WriteTar 0x0FFFF400) Sent
@@ -55,7 +63,7 @@ pub record Ends (ack number : ℕ) : Type 0 where
 
 pub record SessionExamples : Type 0 where
   -- a reset is no transfer; a transfer answered OK leads to the next move and is counted
-  pub reset : after (standing 0 0 0 0) ResetDone ≡ running FromOpen 1 0 0 0 7 40
+  pub reset : after (standing 0 0 0 0) ResetDone ≡ standing 1 0 0 0
   pub next : after (standing 3 0 0 0) (answer 1 0 0) ≡ onto 4 0 0 0
   pub nextRow : after (standing 122 0 0 0) (okayWith 0xA0000000) ≡ onto 123 0 0 0
   -- 'up to 30 attempts of line reset and read IDCODE'; 'any mishap ends the attempt only'

@@ -69,7 +69,7 @@ entryOf b = cond (eqb (b .memory .stored) 2) FromProtected FromOpen
 
 -- what the monitor has counted
 abbrev pub delaysIn : Monitor → ℕ
-delaysIn (watching w p a t d) = delayed d
+delaysIn (watching x) = delayed (x .delays)
 delaysIn (linkError n) = 0
 
 -- the entries that were used: what the lists have lost

@@ -1,6 +1,9 @@
 // The programming sequence as moves, and what goes over the wire for each (document 01, 'Flow' and 'Wire').
 ghost use mathlib.Core.Path.{_≡_};
 ghost use Rattle.flow.specs.Packets.{packetOf, isRead};
+
+pub mod requests;
+
 use wire::Access;
 use wire::Register;
 
@@ -49,6 +52,39 @@ pub struct Move {
 pub enum Entry {
     FromOpen,
     FromProtected,
+}
+
+// Where a session stands in the sequence: by which entry, and at which index of it.
+pub struct Position {
+    pub entry: Entry,
+    pub at: u32,
+}
+
+// What a running session counts and keeps: the WAITs, polls and attempts running; the IDs, then the first sum.
+pub struct Counters {
+    pub waits: u32,
+    pub polls: u32,
+    pub attempts: u32,
+    pub kept: u32,
+}
+
+// The way that an answer leads from the standing move.
+pub enum Way {
+    Onward,
+    // The same move again.
+    Stay,
+    // Back to the line reset before an attempt.
+    ToReset,
+    // Back to the first transfer of a poll's Read.
+    ToPoll,
+    // Onward, by the entry that step 2 has found.
+    Enter(Entry),
+}
+
+// Where an answer leads: on with these counters, or to a report with this number.
+pub enum Next {
+    Go(Way, Counters),
+    Stop(u8),
 }
 
 // What goes out: a reset, a read's request byte, or a write's request byte, word and parity bit.

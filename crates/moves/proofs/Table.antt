@@ -8,7 +8,7 @@ use lib.ListN.{length}
 use borrow.Author.Tests.{leb-true, eqb-true, eq-eqb, ne-eqb}
 use Rattle.parts.proofs.Table.{both, at-found}
 use Rattle.flow.specs.Sequence.{endMove}
-use Rattle.flow.specs.Session.{moveAt}
+use Rattle.flow.specs.Session.{position, moveAt}
 use Rattle.flow.specs.declared.Entry.{Entry}
 use Rattle.flow.specs.declared.Move.{Move}
 use Rattle.image.specs.Image.{imageOf}
@@ -49,7 +49,7 @@ table-handled n m g e = at-found handles refl n m e
 
 module _ (g : Geometry) (h : Header) (bytes : List ℕ) (y : Entry) (n : ℕ) where
   abbrev decided : (sizes addresses exact : Bool) → Move
-  decided a b c = cond (a && b && c) (moveAt (imageOf g h bytes) y n) endMove
+  decided a b c = cond (a && b && c) (moveAt (imageOf g h bytes) (position y n)) endMove
 
   abbrev exactly : Bool
   exactly = eqb (length bytes) (imageSize g)
@@ -66,11 +66,11 @@ module _ (g : Geometry) (h : Header) (bytes : List ℕ) (y : Entry) (n : ℕ) wh
   pub size-out : sizesHandled g ≡ true → addressesHandled g ≡ true → (length bytes ≡ imageSize g → ⊥) → moveOf g h bytes y n ≡ endMove
   size-out s a e = after-guard s a ∙ ap (λ (b : Bool). decided true true b) (ne-eqb (length bytes) (imageSize g) e)
 
-  pub moved : sizesHandled g ≡ true → addressesHandled g ≡ true → length bytes ≡ imageSize g → moveOf g h bytes y n ≡ moveAt (imageOf g h bytes) y n
+  pub moved : sizesHandled g ≡ true → addressesHandled g ≡ true → length bytes ≡ imageSize g → moveOf g h bytes y n ≡ moveAt (imageOf g h bytes) (position y n)
   moved s a e = after-guard s a ∙ ap (λ (b : Bool). decided true true b) (eq-eqb (length bytes) (imageSize g) e)
 
   -- for a part of the table and an image of exact size, the move is the sequence's
-  pub move-found : (number macros : ℕ) → lookupOf number macros ≡ Found g → length bytes ≡ imageSize g → moveOf g h bytes y n ≡ moveAt (imageOf g h bytes) y n
+  pub move-found : (number macros : ℕ) → lookupOf number macros ≡ Found g → length bytes ≡ imageSize g → moveOf g h bytes y n ≡ moveAt (imageOf g h bytes) (position y n)
   move-found number macros e exact =
       let t = both (sizesHandled g) (addressesHandled g) (table-handled number macros g e) in
       moved (t .0) (t .1) exact

@@ -5,7 +5,7 @@ use Prim.Native.Nat.{ℕ}
 use lib.Dec.{eqb}
 use lib.ListN.{length}
 use Rattle.flow.specs.Sequence.{opening, program, endMove}
-use Rattle.flow.specs.Session.{moveAt, bare}
+use Rattle.flow.specs.Session.{position, moveAt, bare}
 use Rattle.flow.specs.declared.Entry.{Entry}
 use Rattle.flow.specs.declared.Move.{Move}
 use Rattle.image.specs.Image.{imageOf}
@@ -16,7 +16,7 @@ use Rattle.parts.specs.declared.Geometry.{Geometry}
 
 -- the sequence's move at an index where the geometry is handled and the image of exact size; else, and past the end, the end move
 abbrev pub moveOf : Geometry → Header → List ℕ → Entry → (index : ℕ) → Move
-moveOf g h bytes y n = cond (handles g && eqb (length bytes) (imageSize g)) (moveAt (imageOf g h bytes) y n) endMove
+moveOf g h bytes y n = cond (handles g && eqb (length bytes) (imageSize g)) (moveAt (imageOf g h bytes) (position y n)) endMove
 
 -- the moves of steps 1 and 2, after which the entries part
 abbrev pub openingCount : Geometry → ℕ

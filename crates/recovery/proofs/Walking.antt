@@ -46,8 +46,8 @@ module _ (g : Geometry) (h : Header) (bytes : List ℕ) (found : lookupOf (h .pa
   walk (suc n) s r f low = by (r .session) refl (λ s′ r′ f′ low′. walk n s′ r′ f′ low′)
     where
       by : (x : Flow.SessionState) → r .session ≡ x → ((s′ : State) (r′ : Run) → Follows g h bytes found size s′ r′ → Low r′ → Walked n s′ r′) → Walked (suc n) s r
-      by (running y k w p a t c) is onward =
-          let q = packetOf ((moveAt i y k) .request) in
+      by (running o d c) is onward =
+          let q = packetOf ((moveAt i o) .request) in
           let stands : s .stands ≡ Ask q = f .stands ∙ ap (outcomeAt i) is in
           let z = onward (answered g q (reaction g q s) (stepWith (s .session) bytes ((reaction g q s) .answer)) s) (advance i r)
           (follow-answer g h bytes found size s r q f stands (low 1)) (λ j. low (suc j)) in

@@ -67,7 +67,7 @@ module _ {g : Geometry} (x : Start g) (b : Target) (may : Startable g b) (l : Li
     asks = by (run .session) refl
       where
         by : (z : SessionState) → run .session ≡ z → record { packet : Packet; stands : w .state .stands ≡ Ask packet }
-        by (running y k v p t c h) is = record { packet = packetOf ((moveAt i y k) .request); stands = w .follows .stands ∙ ap (outcomeAt i) is }
+        by (running o d h) is = record { packet = packetOf ((moveAt i o) .request); stands = w .follows .stands ∙ ap (outcomeAt i) is }
         by (reported v t h) is =
             let same : (advance i run) .target ≡ run .target = rw is in
             absurd (false≢true (sym (no-seal (run .target) (run .target) (same-running (run .target) (run .target) refl)) ∙ subst (λ (z : Target). seals (run .target) z ≡ true) same seal))

@@ -7,38 +7,43 @@ use native.Mathlib.Omega.{arith}
 use borrow.Author.Tests.{le-leb, eq-eqb, ltb-true}
 use lib.Dec.{eqb, ltb, lit≤}
 use lib.ListN.{length}
-use Rattle.flow.specs.Judge.{rowIn, macroLocks, Judged, go, pollAgain, enter, report, judge, goIf, polled, entryBy, free, testBitSet, succeeded, idsFit, levelIn, levelShown, sumsFit}
-use Rattle.flow.specs.Monitor.{isReset, isAttempt}
-use Rattle.flow.specs.Packets.{Verdict, okay, again, broken, heard, verdict, isRead, replyIn}
+use Rattle.flow.specs.Judge.{goIf, polled, entryBy, rowIn, macroLocks, judge}
+use Rattle.flow.specs.Packets.{isReset, isAttempt, Verdict, okay, again, broken, heard, verdict, isRead, replyIn}
 use Rattle.flow.specs.Sequence.{opening}
-use Rattle.flow.specs.Session.{running, reported, moveAt, judgedTo, tryAgain, waitAgain, heardBy, stepOf}
+use Rattle.flow.specs.Session.{running, reported, moveAt, tryAgain, waitAgain, settled, heardBy, nextOf, arrive, standAfter, counted, stepOf}
 use Rattle.flow.specs.Session as Flow
+use Rattle.flow.specs.Words.{free, testBitSet, succeeded, idsFit, levelIn, levelShown, sumsFit}
 use Rattle.flow.specs.declared.Answer.{Answer}
+use Rattle.flow.specs.declared.Counters.{Counters}
 use Rattle.flow.specs.declared.Entry.{Entry}
 use Rattle.flow.specs.declared.Entry.the-variants.{FromOpen, FromProtected}
 use Rattle.flow.specs.declared.Move.{Move}
+use Rattle.flow.specs.declared.Next.{Next}
+use Rattle.flow.specs.declared.Next.the-variants.{Go, Stop}
+use Rattle.flow.specs.declared.Position.{Position}
 use Rattle.flow.specs.declared.Purpose.{Purpose}
 use Rattle.flow.specs.declared.Purpose.the-variants.{Sent, Idcode, TestBit, Poll, Status, Keep, EntryLevel, Reopened, FlashWord, LockWord, StoredLevel, LastSum}
 use Rattle.flow.specs.declared.Request.{Request}
+use Rattle.flow.specs.declared.Way.the-variants.{Onward, Enter}
 use Rattle.image.specs.Words.{sameWord}
 use Rattle.image.specs.Image.{Image}
 use Rattle.session.specs.Possible.{isFailure, reportFits}
-use Rattle.flow.proofs.Moves.{Proper, Reports, proper-at}
+use Rattle.flow.proofs.Moves.{Proper, proper-at}
 use Rattle.flow.specs.Session.{moveCount}
 use Rattle.session.proofs.Places.{has-next, opening-in}
 use Rattle.wire.specs.Wire.{parity, ackOf}
 use Rattle.wire.specs.declared.Ack.{Ack}
 use Rattle.wire.specs.declared.Ack.the-variants.{Okay, Wait, Fault, Silence, Noise}
 
-pub record Within (i : Image) (y : Entry) (n w p a : ℕ) : Type 0 where
-  pub at : n < moveCount (i .geometry) y
-  pub waits : w ≤ 16
-  pub polls : p < 10000
-  pub attempts : a < 30
+pub record Within (i : Image) (p : Position) (c : Counters) : Type 0 where
+  pub at : p .at < moveCount (i .geometry) (p .entry)
+  pub waits : c .waits ≤ 16
+  pub polls : c .polls < 10000
+  pub attempts : c .attempts < 30
 
 -- what 13 asks of where a session stands
 abbrev pub Stands : Image → Flow.SessionState → Type 0
-Stands i (running y n w p a k h) = Within i y n w p a
+Stands i (running p c h) = Within i p c
 Stands i (reported x t h) = reportFits x t ≡ true
 
 or-true : (b : Bool) → b || true ≡ true
@@ -92,106 +97,101 @@ line-verdict : (q : Request) (r : Answer) → Line (verdict q r)
 unfolding verdict
 line-verdict q r = line-heard (isRead q) (ackOf ((replyIn r) .ack)) ((replyIn r) .word) ((replyIn r) .parity)
 
-module _ (i : Image) (y : Entry) (n : ℕ) (inside : n < moveCount (i .geometry) y) where
-  p-at : Proper (suc n ≡ length (opening i)) 1 (moveAt i y n)
-  p-at = proper-at i y n
+module _ (i : Image) (p : Position) (c : Counters) (h : Within i p c) where
+  abbrev m : Move
+  m = moveAt i p
 
-  -- where a judged word leads, for the purpose of the move
-  Allowed : Judged → (step : ℕ) → Type 0
-  Allowed (go p k) s = (suc n < moveCount (i .geometry) y) × (p < 10000)
-  Allowed (pollAgain p k) s = p < 10000
-  Allowed (enter e p k) s = (suc n < moveCount (i .geometry) e) × (p < 10000)
-  Allowed (report x) s = reportFits x s ≡ true
+  fits : Proper (suc (p .at) ≡ length (opening i)) 1 m
+  fits = proper-at i (p .entry) (p .at)
 
-  module _ (s : ℕ) (low : 1 ≤ s) (high : s ≤ 9) (p k : ℕ) (small : p < 10000) where
-    allow-if : (b : Bool) (x : ℕ) → suc n < moveCount (i .geometry) y → isFailure x ≡ true → Allowed (goIf b x p k) s
-    unfolding Allowed
-    allow-if true x nx h = (nx, small)
-    allow-if false x nx h = failed x s h low high
+  -- where an answer leads: to a position and counters that 13 allows, or to a report that it allows
+  abbrev Allowed : Next → Type 0
+  Allowed (Go w d) = Within i (arrive w p) d
+  Allowed (Stop x) = reportFits x (m .step) ≡ true
 
-    allow-poll : (b c : Bool) → ltb (suc p) 10000 ≡ c → suc n < moveCount (i .geometry) y → Allowed (polled b c p k) s
-    unfolding Allowed
-    allow-poll true c e nx = (nx, lit≤ tt)
-    allow-poll false true e nx = ltb-true (suc p) 10000 e
-    allow-poll false false e nx = failed 18 s refl low high
+  fails : (x : ℕ) → isFailure x ≡ true → Allowed (Stop x)
+  fails x e = failed x (m .step) e (fits .low) (fits .high)
 
-    allow-entry : (l : ℕ) (b c : Bool) → eqb l 1 ≡ b → eqb l 2 ≡ c → suc n ≡ length (opening i) → Allowed (entryBy l p k) s
-    unfolding Allowed
-    allow-entry l true c d e o = rw d (omega (arith, opening-in i FromOpen), small)
-    allow-entry l false true d e o = rw (d, e) (omega (arith, opening-in i FromProtected), small)
-    allow-entry l false false d e o = rw (d, e) (failed 21 s refl low high)
+  next-of : isLast (m .purpose) ≡ false → suc (p .at) < moveCount (i .geometry) (p .entry)
+  next-of e = has-next i (p .entry) (p .at) (h .at) (λ q. false≢true (sym e ∙ ap (λ (x : Move). isLast (x .purpose)) q))
 
-    allow-either : (b : Bool) (j j′ : Judged) → Allowed j s → Allowed j′ s → Allowed (cond b j j′) s
-    allow-either true j j′ h h′ = h
-    allow-either false j j′ h h′ = h′
+  -- a word, with counters that 13 allows
+  module _ (d : Counters) (waits : d .waits ≤ 16) (polls : d .polls < 10000) (attempts : d .attempts < 30) where
+    onward : isLast (m .purpose) ≡ false → Allowed (Go Onward d)
+    onward e = record { at = next-of e; waits = waits; polls = polls; attempts = attempts }
 
-    allow-report : (x : ℕ) → isFailure x ≡ true → Allowed (report x) s
-    unfolding Allowed
-    allow-report x h = failed x s h low high
+    allow-if : isLast (m .purpose) ≡ false → (b : Bool) (x : ℕ) → isFailure x ≡ true → Allowed (goIf b x d)
+    allow-if l true x e = onward l
+    allow-if l false x e = fails x e
 
-    allowed : (u : Purpose) (w : ℕ) → Reports (suc n ≡ length (opening i)) u s → (isLast u ≡ false → suc n < moveCount (i .geometry) y)
-        → Allowed (judge i u p k w) s
-    unfolding judge Allowed
-    allowed Sent w r nx = (nx refl, small)
-    allowed Idcode w r nx = allow-if (eqb w 0x0BB11477) 16 (nx refl) refl
-    allowed TestBit w r nx = allow-if (testBitSet w) 17 (nx refl) refl
-    allowed Poll w r nx = allow-poll (free w) (ltb (suc p) 10000) refl (nx refl)
-    allowed Status w r nx = allow-if (succeeded w) 19 (nx refl) refl
-    allowed Keep w r nx = (nx refl, small)
-    allowed EntryLevel w r nx =
-        allow-either (idsFit i k w) (entryBy (levelIn w) p k) (report 20)
-        (allow-entry (levelIn w) (eqb (levelIn w) 1) (eqb (levelIn w) 2) refl refl r) (allow-report 20 refl)
-    allowed Reopened w r nx =
-        allow-either (idsFit i k w) (goIf (eqb (levelIn w) 1) 21 p k) (report 20)
-        (allow-if (eqb (levelIn w) 1) 21 (nx refl) refl) (allow-report 20 refl)
-    allowed (FlashWord x o) w r nx = allow-if (sameWord (rowIn i x) o w) 22 (nx refl) refl
-    allowed (LockWord m o) w r nx = allow-if (sameWord (macroLocks i m) o w) 23 (nx refl) refl
-    allowed StoredLevel w r nx = allow-if (eqb (levelShown w) (i .header .level)) 24 (nx refl) refl
-    allowed LastSum w r nx =
-        allow-either (sumsFit i w k) (report 0) (report 25) (at-nine s r) (allow-report 25 refl)
+    allow-poll : isLast (m .purpose) ≡ false → (b t : Bool) → ltb (suc (d .polls)) 10000 ≡ t → Allowed (polled b t d)
+    allow-poll l true t e = record { at = next-of l; waits = waits; polls = lit≤ tt; attempts = attempts }
+    allow-poll l false true e = record { at = omega (arith, h .at); waits = waits; polls = ltb-true (suc (d .polls)) 10000 e; attempts = attempts }
+    allow-poll l false false e = fails 18 refl
 
-  -- an answer to the standing move
-  module _ (w p a k : ℕ) (h : Within i y n w p a) where
-    abbrev m : Move
-    m = moveAt i y n
+    enters : suc (p .at) ≡ length (opening i) → (y : Entry) → Allowed (Go (Enter y) d)
+    enters last y = record { at = omega (arith, last, opening-in i y); waits = waits; polls = polls; attempts = attempts }
 
-    next-of : isLast (m .purpose) ≡ false → suc n < moveCount (i .geometry) y
-    next-of e = has-next i y n inside (λ q. false≢true (sym e ∙ ap (λ (x : Move). isLast (x .purpose)) q))
+    allow-either : (b : Bool) (x x′ : Next) → Allowed x → Allowed x′ → Allowed (cond b x x′)
+    allow-either true x x′ a a′ = a
+    allow-either false x x′ a a′ = a′
 
-    settle : (j : Judged) (a′ t : ℕ) → a′ < 30 → Allowed j (m .step) → Stands i (judgedTo j y n (m .step) a′ t)
-    unfolding Allowed
-    settle (go p′ k′) a′ t l q = record { at = q .0; waits = lit≤ tt; polls = q .1; attempts = l }
-    settle (pollAgain p′ k′) a′ t l q = record { at = omega arith; waits = lit≤ tt; polls = q; attempts = l }
-    settle (enter e p′ k′) a′ t l q = record { at = q .0; waits = lit≤ tt; polls = q .1; attempts = l }
-    settle (report x) a′ t l q = q
+    allowed : (u : Purpose) → m .purpose ≡ u → (w : ℕ) → Allowed (judge i u d w)
+    unfolding judge
+    allowed Sent e w = onward (ap isLast e)
+    allowed Idcode e w = allow-if (ap isLast e) (eqb w 0x0BB11477) 16 refl
+    allowed TestBit e w = allow-if (ap isLast e) (testBitSet w) 17 refl
+    allowed Poll e w = allow-poll (ap isLast e) (free w) (ltb (suc (d .polls)) 10000) refl
+    allowed Status e w = allow-if (ap isLast e) (succeeded w) 19 refl
+    allowed Keep e w = record { at = next-of (ap isLast e); waits = waits; polls = polls; attempts = attempts }
+    allowed EntryLevel e w =
+        let last : suc (p .at) ≡ length (opening i) = rw e at (fits .reports) in
+        allow-either (idsFit (i .geometry) (i .header) (d .kept) w) (entryBy (levelIn w) d) (Stop 20)
+        (allow-either (eqb (levelIn w) 1) (Go (Enter FromOpen) d) (cond (eqb (levelIn w) 2) (Go (Enter FromProtected) d) (Stop 21)) (enters last FromOpen)
+        (allow-either (eqb (levelIn w) 2) (Go (Enter FromProtected) d) (Stop 21) (enters last FromProtected) (fails 21 refl)))
+        (fails 20 refl)
+    allowed Reopened e w =
+        allow-either (idsFit (i .geometry) (i .header) (d .kept) w) (goIf (eqb (levelIn w) 1) 21 d) (Stop 20) (allow-if (ap isLast e) (eqb (levelIn w) 1) 21 refl) (fails 20 refl)
+    allowed (FlashWord r o) e w = allow-if (ap isLast e) (sameWord (rowIn i r) o w) 22 refl
+    allowed (LockWord n o) e w = allow-if (ap isLast e) (sameWord (macroLocks i n) o w) 23 refl
+    allowed StoredLevel e w = allow-if (ap isLast e) (eqb (levelShown w) (i .header .level)) 24 refl
+    allowed LastSum e w =
+        let nine : m .step ≡ 9 = rw e at (fits .reports) in
+        allow-either (sumsFit (i .header) w (d .kept)) (Stop 0) (Stop 25) (at-nine (m .step) nine) (fails 25 refl)
 
-    try-in : (b : Bool) (t : ℕ) → ltb (suc a) 30 ≡ b → Stands i (tryAgain b y n (m .step) p a k t)
-    try-in true t e = record { at = omega arith; waits = lit≤ tt; polls = h .polls; attempts = ltb-true (suc a) 30 e }
-    try-in false t e = failed 26 (m .step) refl (p-at .low) (p-at .high)
+  try-in : (b : Bool) → ltb (suc (c .attempts)) 30 ≡ b → Allowed (tryAgain b c)
+  try-in true e = record { at = omega (arith, h .at); waits = lit≤ tt; polls = h .polls; attempts = ltb-true (suc (c .attempts)) 30 e }
+  try-in false e = fails 26 refl
 
-    wait-in : (b : Bool) (t : ℕ) → ltb w 16 ≡ b → Stands i (waitAgain b y n (m .step) w p a k t)
-    wait-in true t e = record { at = inside; waits = ltb-true w 16 e; polls = h .polls; attempts = h .attempts }
-    wait-in false t e = failed 27 (m .step) refl (p-at .low) (p-at .high)
+  wait-in : (b : Bool) → ltb (c .waits) 16 ≡ b → Allowed (waitAgain b c)
+  wait-in true e = record { at = h .at; waits = ltb-true (c .waits) 16 e; polls = h .polls; attempts = h .attempts }
+  wait-in false e = fails 27 refl
 
-    judged-in : (x : ℕ) → Allowed (judge i (m .purpose) p k x) (m .step)
-    judged-in x = allowed (m .step) (p-at .low) (p-at .high) p k (h .polls) (m .purpose) x (p-at .reports) next-of
+  fewer : (t : Bool) → cond t 0 (c .attempts) < 30
+  fewer true = lit≤ tt
+  fewer false = h .attempts
 
-    heard-in : (b : Bool) (v : Verdict) (t : ℕ) → Line v → Stands i (heardBy b i m v y n w p a k t)
-    heard-in true (okay x) t l = settle (judge i (m .purpose) p k x) 0 t (lit≤ tt) (judged-in x)
-    heard-in false (okay x) t l = settle (judge i (m .purpose) p k x) a t (h .attempts) (judged-in x)
-    heard-in true again t l = try-in (ltb (suc a) 30) t refl
-    heard-in false again t l = wait-in (ltb w 16) t refl
-    heard-in true (broken x) t l = try-in (ltb (suc a) 30) t refl
-    heard-in false (broken x) t l = failed x (m .step) l (p-at .low) (p-at .high)
+  heard-in : (t : Bool) (v : Verdict) → Line v → Allowed (heardBy t i (m .purpose) v c)
+  heard-in t (okay x) l = allowed (settled t c) (lit≤ tt) (h .polls) (fewer t) (m .purpose) refl x
+  heard-in true again l = try-in (ltb (suc (c .attempts)) 30) refl
+  heard-in false again l = wait-in (ltb (c .waits) 16) refl
+  heard-in true (broken x) l = try-in (ltb (suc (c .attempts)) 30) refl
+  heard-in false (broken x) l = fails x l
 
-    reset-in : (b : Bool) (r : Answer) (t : ℕ) → isReset (m .request) ≡ b
-        → Stands i (cond b (running y (suc n) w p a k t) (heardBy (isAttempt (m .request)) i m (verdict (m .request) r) y n w p a k (suc t)))
-    reset-in true r t e =
-        record { at = has-next i y n inside (λ q. false≢true (ap (λ (x : Move). isReset (x .request)) (sym q) ∙ e)); waits = h .waits; polls = h .polls; attempts = h .attempts }
-    reset-in false r t e = heard-in (isAttempt (m .request)) (verdict (m .request) r) (suc t) (line-verdict (m .request) r)
+  next-in : (r : Answer) → Allowed (nextOf i m r c)
+  next-in r = by (isReset (m .request)) refl
+    where
+      by : (t : Bool) → isReset (m .request) ≡ t → Allowed (cond t (Go Onward c) (heardBy (isAttempt (m .request)) i (m .purpose) (verdict (m .request) r) c))
+      by true e =
+          record { at = has-next i (p .entry) (p .at) (h .at) (λ q. false≢true (ap (λ (x : Move). isReset (x .request)) (sym q) ∙ e)); waits = h .waits; polls = h .polls; attempts = h .attempts }
+      by false e = heard-in (isAttempt (m .request)) (verdict (m .request) r) (line-verdict (m .request) r)
+
+  settle : (x : Next) (t : ℕ) → Allowed x → Stands i (standAfter x p (m .step) t)
+  settle (Go w d) t a = a
+  settle (Stop x) t a = a
 
 -- a step keeps what 13 asks
 pub step-stands : (i : Image) (x : Flow.SessionState) (r : Answer) → Stands i x → Stands i (stepOf i x r)
 unfolding stepOf
-step-stands i (running y n w p a k t) r h = reset-in i y n (h .at) w p a k h (isReset ((moveAt i y n) .request)) r t refl
+step-stands i (running p c t) r h = settle i p c h (nextOf i (moveAt i p) r c) (counted ((moveAt i p) .request) t) (next-in i p c h r)
 step-stands i (reported x s t) r h = h

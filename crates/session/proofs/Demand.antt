@@ -15,7 +15,7 @@ use Rattle.flow.specs.Terms.{Passes, Startable, Calm, entryOf, Used, entries}
 use Rattle.flow.specs.Plan.{Traffic, counting, plan, loops, mostTraffic}
 use Rattle.flow.specs.Run.{Run, advance, runAfter, started, handedOutBy}
 use Rattle.flow.specs.Sequence.{sequence, opening, acquire}
-use Rattle.flow.specs.Session.{running, reported, moveAt}
+use Rattle.flow.specs.Session.{running, reported, moveAt, atStart, noCounts}
 use Rattle.flow.specs.Session as Flow
 use Rattle.flow.specs.Target.{Target, Lists}
 use Rattle.flow.specs.declared.Entry.{Entry}
@@ -35,8 +35,8 @@ use Rattle.session.specs.Calls.{State, Steps, begun}
 use Rattle.session.specs.Claim.{lent, Demand3, Demand3Holds}
 use Rattle.session.specs.Spared.{Spared, SparedHolds}
 use Rattle.session.specs.Given.{startOf, startedOn, startRefused, wantsLeave, outcomeAt}
-use Rattle.session.specs.Possible.{headerFits, progressFits, possibleIn}
-use Rattle.session.specs.Sessions.{mostOf, atStart, firstFor}
+use Rattle.session.specs.Possible.{headerFits, runningFits, possibleIn}
+use Rattle.session.specs.Sessions.{mostOf, firstFor}
 use Rattle.session.specs.declared.Given.{Given}
 use Rattle.session.specs.declared.Outcome.the-variants.{Refused, Reported}
 use Rattle.session.specs.declared.Report.{Report}
@@ -58,7 +58,7 @@ module _ (g : Geometry) (h : Header) (bytes : List ℕ) (found : lookupOf (h .pa
   pub first-possible : possibleIn g (firstFor h) ≡ true
   first-possible =
       let room : 0 < moveCount g FromOpen = omega (arith, opening-in (imageOf g h bytes) FromOpen) in
-      let stand : progressFits g FromOpen atStart ≡ true = both-true (both-true (both-true (lt-ltb 0 (moveCount g FromOpen) room) refl) refl) refl in
+      let stand : runningFits g atStart noCounts ≡ true = both-true (both-true (both-true (lt-ltb 0 (moveCount g FromOpen) room) refl) refl) refl in
       whole g (firstFor h) (record { header = header; count = omega arith; stands = stand })
 
 -- ---- what an unrefused start says
@@ -103,11 +103,11 @@ grows (WriteDrw w) t = omega arith
 grows (WriteSetup r w) t = omega arith
 
 handed-xresets : (i : Image) (x : Flow.SessionState) (t : Traffic) → t .xresets ≤ (handedOutBy i x t) .xresets
-handed-xresets i (running y n w p a k h) t = never-fewer ((moveAt i y n) .request) t
+handed-xresets i (running o d h) t = never-fewer ((moveAt i o) .request) t
 handed-xresets i (reported x s h) t = omega arith
 
 handed-more : (i : Image) (x : Flow.SessionState) (t : Traffic) → t .transfers ≤ (handedOutBy i x t) .transfers
-handed-more i (running y n w p a k h) t = grows ((moveAt i y n) .request) t
+handed-more i (running o d h) t = grows ((moveAt i o) .request) t
 handed-more i (reported x s h) t = omega arith
 
 count-run : (i : Image) (k : ℕ) (r : Run) → countIn (r .session) ≡ r .traffic .transfers
@@ -124,7 +124,7 @@ most-from g FromProtected = omega arith
 -- ---- a report that stands
 
 pub reported-session : (i : Image) (x : Flow.SessionState) (r : Report) → outcomeAt i x ≡ Reported r → x ≡ reported (r .number) (r .step) (r .transfers)
-reported-session i (running y n w p a k h) r e = let z : _≡_ {A = ℕ} 0 1 = cc in absurd (omega arith)
+reported-session i (running o d h) r e = let z : _≡_ {A = ℕ} 0 1 = cc in absurd (omega arith)
 reported-session i (reported x t h) r e =
     let same : record { number = x; step = t; transfers = h } ≡ r = cc in
     ap (λ (z : Report). reported (z .number) (z .step) (z .transfers)) same

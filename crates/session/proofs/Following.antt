@@ -6,16 +6,17 @@ use Prim.Native.Nat.{ℕ, suc, _≤_}
 use native.Mathlib.Omega.{arith}
 use lib.ListN.{length}
 use Rattle.flow.specs.Exchange.{decode, Met, meet}
-use Rattle.flow.specs.Packets.{packetOf}
+use Rattle.flow.specs.Packets.{answers, packetOf}
 use Rattle.flow.specs.Plan.{counting}
 use Rattle.flow.specs.Run.{Run, served, advanceBy, advance, runAfter, handedOut}
 use Rattle.flow.specs.Session.{running, reported, moveAt, stepOf}
 use Rattle.flow.specs.Session as Flow
 use Rattle.flow.specs.declared.Answer.{Answer}
 use Rattle.flow.specs.declared.Decoded.the-variants.{Known}
-use Rattle.flow.specs.declared.Entry.{Entry}
+use Rattle.flow.specs.declared.Counters.{Counters}
 use Rattle.flow.specs.declared.Move.{Move}
 use Rattle.flow.specs.declared.Packet.{Packet}
+use Rattle.flow.specs.declared.Position.{Position}
 use Rattle.image.specs.Image.{Image, imageOf}
 use Rattle.image.specs.declared.Header.{Header}
 use Rattle.parts.specs.Parts.{lookupOf}
@@ -23,7 +24,7 @@ use Rattle.parts.specs.Sizes.{imageSize}
 use Rattle.parts.specs.declared.Geometry.{Geometry}
 use Rattle.parts.specs.declared.Lookup.the-variants.{Found}
 use Rattle.session.specs.Calls.{Gives, asks, reports, State, Steps, none, answer, refusal, later, handing, reaction, answered, called}
-use Rattle.session.specs.Given.{answers, outcomeAt, giving, stepWith}
+use Rattle.session.specs.Given.{outcomeAt, giving, stepWith}
 use Rattle.session.specs.Possible.{possibleIn}
 use Rattle.session.specs.Sessions.{standOf, mostOf, resumed}
 use Rattle.session.specs.declared.Given.{Given}
@@ -46,27 +47,23 @@ no-packet p r o e f = let z : _≡_ {A = ℕ} 0 1 = cc in omega arith
 
 -- what stands is a request or the report
 gives-at : (i : Image) (x : Flow.SessionState) → Gives (outcomeAt i x)
-gives-at i (running y n w p a k h) = asks _
+gives-at i (running p c h) = asks _
 gives-at i (reported x t h) = reports _
 
-not-finished : (s : Session) (y : Entry) (n w p a k h : ℕ) → standOf s ≡ running y n w p a k h
-    → (s .finished ≡ false) × (s .entry ≡ y) × (s .progress .at ≡ n)
-not-finished s y n w p a k h e = by (s .finished) refl
+not-finished : (s : Session) (p : Position) (c : Counters) (h : ℕ) → standOf s ≡ running p c h → (s .finished ≡ false) × (s .position ≡ p)
+not-finished s p c h e = by (s .finished) refl
   where
-    by : (t : Bool) → s .finished ≡ t → (s .finished ≡ false) × (s .entry ≡ y) × (s .progress .at ≡ n)
+    by : (t : Bool) → s .finished ≡ t → (s .finished ≡ false) × (s .position ≡ p)
     by true q = absurd (clash (sym (rw q at e)))
       where
-        clash : running y n w p a k h ≡ reported (s .number) (s .step) (s .transfers) → ⊥
-        clash c = let z : _≡_ {A = ℕ} 0 1 = cc in omega arith
-    by false q =
-        let same : running (s .entry) (s .progress .at) (s .progress .waits) (s .progress .polls) (s .progress .attempts) (s .progress .kept) (s .transfers)
-        ≡ running y n w p a k h = rw q at e in
-        (q, cc, cc)
+        clash : running p c h ≡ reported (s .number) (s .step) (s .transfers) → ⊥
+        clash x = let z : _≡_ {A = ℕ} 0 1 = cc in omega arith
+    by false q = let same : running (s .position) (s .counters) (s .transfers) ≡ running p c h = rw q at e in (q, cc)
 
 is-finished : (s : Session) (x t c : ℕ) → standOf s ≡ reported x t c → s .finished ≡ true
 is-finished s x t c e = by (s .finished) refl
   where
-    clash : {y : Entry} {n w p a k h : ℕ} → running y n w p a k h ≡ reported x t c → ⊥
+    clash : {p : Position} {d : Counters} {h : ℕ} → running p d h ≡ reported x t c → ⊥
     clash q = let z : _≡_ {A = ℕ} 0 1 = cc in omega arith
 
     by : (b : Bool) → s .finished ≡ b → s .finished ≡ true
@@ -94,41 +91,41 @@ module _ (g : Geometry) (h : Header) (bytes : List ℕ) (found : lookupOf (h .pa
   found-of s r f = rw (f .header) found
 
   -- the standing move is met as the run meets it
-  module _ (s : State) (r : Run) (f : Follows s r) (y : Entry) (n w p a k t : ℕ) (is : r .session ≡ running y n w p a k t) where
+  module _ (s : State) (r : Run) (f : Follows s r) (p : Position) (c : Counters) (t : ℕ) (is : r .session ≡ running p c t) where
     abbrev m : Move
-    m = moveAt i y n
+    m = moveAt i p
 
     abbrev x : Met
     x = meet g (packetOf (m .request)) (r .lists) (r .target)
 
-    inside : Within i y n w p a
+    inside : Within i p c
     inside = rw (f .session ∙ is) at (stands-of g h bytes (s .session) (parts g (s .session) (f .can)))
 
     meant : decode (packetOf (m .request)) ≡ Known (m .request)
-    meant = (proper-at i y n) .meant
+    meant = (proper-at i (p .entry) (p .at)) .meant
 
     fitting : answers (m .request) (x .answer) ≡ true
     unfolding meet
     fitting = rw meant (fits g (m .request) (r .lists) (r .target))
 
-    stepped : stepOf (imageOf g (s .session .header) bytes) (standOf (s .session)) (x .answer) ≡ stepOf i (running y n w p a k t) (x .answer)
+    stepped : stepOf (imageOf g (s .session .header) bytes) (standOf (s .session)) (x .answer) ≡ stepOf i (running p c t) (x .answer)
     stepped =
         ap (λ (j : Header). stepOf (imageOf g j bytes) (standOf (s .session)) (x .answer)) (f .header)
         ∙ ap (λ (z : Flow.SessionState). stepOf i z (x .answer)) (f .session ∙ is)
 
-    gave : stepWith (s .session) bytes (x .answer) ≡ giving i (resumed g (s .session) (stepOf i (running y n w p a k t) (x .answer)))
+    gave : stepWith (s .session) bytes (x .answer) ≡ giving i (resumed g (s .session) (stepOf i (running p c t) (x .answer)))
     gave =
-        let z = not-finished (s .session) y n w p a k t (f .session ∙ is) in
+        let z = not-finished (s .session) p c t (f .session ∙ is) in
         let first : stepWith (s .session) bytes (x .answer)
         ≡ giving (imageOf g (s .session .header) bytes) (resumed g (s .session) (stepOf (imageOf g (s .session .header) bytes) (standOf (s .session)) (x .answer)))
-        = step-running g (s .session) bytes (x .answer) (found-of s r f) (f .can) size (z .0) (rw (z .1, z .2, f .header) fitting) in
+        = step-running g (s .session) bytes (x .answer) (found-of s r f) (f .can) size (z .0) (rw (z .1, f .header) fitting) in
         first ∙ rw (f .header, f .session, is)
 
-    next : countIn (stepOf i (running y n w p a k t) (x .answer)) ≤ mostOf g
-        → (q : Packet) → q ≡ packetOf (m .request) → (e : Met) → e ≡ x → (v : Given) → v ≡ giving i (resumed g (s .session) (stepOf i (running y n w p a k t) (x .answer)))
-        → Follows (answered g q e v s) (served i (running y n w p a k t) m x r)
+    next : countIn (stepOf i (running p c t) (x .answer)) ≤ mostOf g
+        → (q : Packet) → q ≡ packetOf (m .request) → (e : Met) → e ≡ x → (v : Given) → v ≡ giving i (resumed g (s .session) (stepOf i (running p c t) (x .answer)))
+        → Follows (answered g q e v s) (served i (running p c t) m x r)
     next low q qe e ee v ve =
-        let new = stepOf i (running y n w p a k t) (x .answer) in
+        let new = stepOf i (running p c t) (x .answer) in
         let stood = stand-resumed g (s .session) new low in
         rw (qe, ee, ve)
         (record {
@@ -140,7 +137,7 @@ module _ (g : Geometry) (h : Header) (bytes : List ℕ) (found : lookupOf (h .pa
           lists = refl;
           monitor = rw (meant, f .monitor);
           traffic = rw (stood, f .traffic, is) (handing-stands i new (counting (m .request) (r .traffic)));
-          count = count-step i (running y n w p a k t) r (ap countIn (sym is) ∙ f .count) (sym is);
+          count = count-step i (running p c t) r (ap countIn (sym is) ∙ f .count) (sym is);
         })
 
   -- an answered step is a step of the run
@@ -151,13 +148,13 @@ module _ (g : Geometry) (h : Header) (bytes : List ℕ) (found : lookupOf (h .pa
     where
       by : (z : Flow.SessionState) → r .session ≡ z
           → Follows (answered g p (reaction g p s) (stepWith (s .session) bytes ((reaction g p s) .answer)) s) (advanceBy i (r .session) r)
-      by (running y n w q a k t) is =
-          let same : p ≡ packetOf ((moveAt i y n) .request) = same-packet p _ (s .stands) e (f .stands ∙ ap (outcomeAt i) is) in
-          let met : reaction g p s ≡ meet g (packetOf ((moveAt i y n) .request)) (r .lists) (r .target) = rw (same, f .lists, f .target) in
+      by (running o c t) is =
+          let same : p ≡ packetOf ((moveAt i o) .request) = same-packet p _ (s .stands) e (f .stands ∙ ap (outcomeAt i) is) in
+          let met : reaction g p s ≡ meet g (packetOf ((moveAt i o) .request)) (r .lists) (r .target) = rw (same, f .lists, f .target) in
           subst (λ (z : Flow.SessionState). Follows (answered g p (reaction g p s) (stepWith (s .session) bytes ((reaction g p s) .answer)) s) (advanceBy i z r)) (sym is)
-          (next s r f y n w q a k t is (subst (λ (z : Flow.SessionState). countIn ((advanceBy i z r) .session) ≤ mostOf g) is low) p same (reaction g p s) met
+          (next s r f o c t is (subst (λ (z : Flow.SessionState). countIn ((advanceBy i z r) .session) ≤ mostOf g) is low) p same (reaction g p s) met
           (stepWith (s .session) bytes ((reaction g p s) .answer))
-          (ap (λ (v : Met). stepWith (s .session) bytes (v .answer)) met ∙ gave s r f y n w q a k t is))
+          (ap (λ (v : Met). stepWith (s .session) bytes (v .answer)) met ∙ gave s r f o c t is))
       by (reported x t c) is = absurd (no-packet p _ (s .stands) e (f .stands ∙ ap (outcomeAt i) is))
 
   -- the same step gives a request or the report
@@ -165,11 +162,11 @@ module _ (g : Geometry) (h : Header) (bytes : List ℕ) (found : lookupOf (h .pa
   follow-gives s r p f e = by (r .session) refl
     where
       by : (z : Flow.SessionState) → r .session ≡ z → Gives ((stepWith (s .session) bytes ((reaction g p s) .answer)) .outcome)
-      by (running y n w q a k t) is =
-          let same : p ≡ packetOf ((moveAt i y n) .request) = same-packet p _ (s .stands) e (f .stands ∙ ap (outcomeAt i) is) in
-          let met : reaction g p s ≡ meet g (packetOf ((moveAt i y n) .request)) (r .lists) (r .target) = rw (same, f .lists, f .target) in
-          let new = stepOf i (running y n w q a k t) ((meet g (packetOf ((moveAt i y n) .request)) (r .lists) (r .target)) .answer) in
-          rw (met, gave s r f y n w q a k t is) (gives-at i (standOf (resumed g (s .session) new)))
+      by (running o c t) is =
+          let same : p ≡ packetOf ((moveAt i o) .request) = same-packet p _ (s .stands) e (f .stands ∙ ap (outcomeAt i) is) in
+          let met : reaction g p s ≡ meet g (packetOf ((moveAt i o) .request)) (r .lists) (r .target) = rw (same, f .lists, f .target) in
+          let new = stepOf i (running o c t) ((meet g (packetOf ((moveAt i o) .request)) (r .lists) (r .target)) .answer) in
+          rw (met, gave s r f o c t is) (gives-at i (standOf (resumed g (s .session) new)))
       by (reported x t c) is = absurd (no-packet p _ (s .stands) e (f .stands ∙ ap (outcomeAt i) is))
 
   -- a refused step changes nothing
@@ -195,7 +192,7 @@ module _ (g : Geometry) (h : Header) (bytes : List ℕ) (found : lookupOf (h .pa
   follow-repeats s r a last-report f e = by (r .session) refl
     where
       by : (z : Flow.SessionState) → r .session ≡ z → (stepWith (s .session) bytes a) .outcome ≡ Reported last-report
-      by (running y n w p b k t) is = absurd (no-packet _ last-report (s .stands) (f .stands ∙ ap (outcomeAt i) is) e)
+      by (running o d t) is = absurd (no-packet _ last-report (s .stands) (f .stands ∙ ap (outcomeAt i) is) e)
       by (reported x t c) is =
           let again : stepWith (s .session) bytes a ≡ giving (imageOf g (s .session .header) bytes) (s .session) =
           step-finished g (s .session) bytes a (found-of s r f) (f .can) size (is-finished (s .session) x t c (f .session ∙ is)) in
@@ -206,7 +203,7 @@ module _ (g : Geometry) (h : Header) (bytes : List ℕ) (found : lookupOf (h .pa
   follow-later s r a last-report f e = by (r .session) refl
     where
       by : (z : Flow.SessionState) → r .session ≡ z → Follows (called (stepWith (s .session) bytes a) s) r
-      by (running y n w p b k t) is = absurd (no-packet _ last-report (s .stands) (f .stands ∙ ap (outcomeAt i) is) e)
+      by (running o d t) is = absurd (no-packet _ last-report (s .stands) (f .stands ∙ ap (outcomeAt i) is) e)
       by (reported x t c) is =
           let again : stepWith (s .session) bytes a ≡ giving i (s .session) =
           step-finished g (s .session) bytes a (found-of s r f) (f .can) size (is-finished (s .session) x t c (f .session ∙ is))

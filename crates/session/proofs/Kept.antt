@@ -19,7 +19,8 @@ use Rattle.parts.specs.declared.Geometry.{Geometry}
 use Rattle.parts.specs.declared.Lookup.{Lookup}
 use Rattle.parts.specs.declared.Lookup.the-variants.{Found, Refused as NotFound}
 use Rattle.parts.specs.declared.Part.{Part}
-use Rattle.session.specs.Given.{startRefused, startOf, answers, refusing, outcomeAt, giving, stepOn, stepFor, stepWith}
+use Rattle.flow.specs.Packets.{answers}
+use Rattle.session.specs.Given.{startRefused, startOf, refusing, outcomeAt, giving, stepOn, stepFor, stepWith}
 use Rattle.session.specs.Kept.{Unrefused, SessionClaims}
 use Rattle.session.specs.Possible.{possibleIn, possibleFor, possible}
 use Rattle.session.specs.Sessions.{standOf, mostOf, firstFor, resumed}
@@ -64,7 +65,7 @@ module _ (g : Geometry) (s : Session) (bytes : List ℕ) (a : Answer) (found : l
   kept-refusing k h = absurd (h k refl)
 
   kept-on : possibleIn g s ≡ true → (t u : Bool) → s .finished ≡ t
-      → answers ((moveAt (imageOf g (s .header) bytes) (s .entry) (s .progress .at)) .request) a ≡ u → Kept (stepOn g s bytes a)
+      → answers ((moveAt (imageOf g (s .header) bytes) (s .position)) .request) a ≡ u → Kept (stepOn g s bytes a)
   unfolding Kept
   kept-on can true u e f = subst Kept (sym (on-finished g s bytes a e)) (λ h. can)
   kept-on can false true e f =
@@ -90,7 +91,7 @@ module _ (s : Session) (bytes : List ℕ) (a : Answer) where
   right-refusing k = record { header = refl; count = λ t e. let z : _≡_ {A = ℕ} 0 1 = cc in absurd (omega arith) }
 
   reported-count : (i : Image) (x : Flow.SessionState) (t : Report) → outcomeAt i x ≡ Reported t → (c : ℕ) → countIn x ≡ c → t .transfers ≡ c
-  reported-count i (running y n w p b k h) t e c f = let z : _≡_ {A = ℕ} 0 1 = cc in absurd (omega arith)
+  reported-count i (running o d h) t e c f = let z : _≡_ {A = ℕ} 0 1 = cc in absurd (omega arith)
   reported-count i (reported x r h) t e c f = let same : record { number = x; step = r; transfers = h } ≡ t = cc in ap (λ (q : Report). q .transfers) (sym same) ∙ f
 
   count-stand : (s′ : Session) → countIn (standOf s′) ≡ s′ .transfers
@@ -98,7 +99,7 @@ module _ (s : Session) (bytes : List ℕ) (a : Answer) where
     where
       by : (t : Bool)
           → countIn (cond t (reported (s′ .number) (s′ .step) (s′ .transfers))
-          (running (s′ .entry) (s′ .progress .at) (s′ .progress .waits) (s′ .progress .polls) (s′ .progress .attempts) (s′ .progress .kept) (s′ .transfers)))
+          (running (s′ .position) (s′ .counters) (s′ .transfers)))
           ≡ s′ .transfers
       by true = refl
       by false = refl
@@ -117,7 +118,7 @@ module _ (s : Session) (bytes : List ℕ) (a : Answer) where
       right-either (possibleIn g s) _ _
       (right-either (eqb (length bytes) (imageSize g)) _ _
       (right-either (s .finished) _ _ (right-giving i s refl)
-      (right-either (answers ((moveAt i (s .entry) (s .progress .at)) .request) a) _ _
+      (right-either (answers ((moveAt i (s .position)) .request) a) _ _
       (right-giving i (resumed g s (stepOf i (standOf s) a)) (header-kept g s (stepOf i (standOf s) a))) (right-refusing 14)))
       (right-refusing 12))
       (right-refusing 13)

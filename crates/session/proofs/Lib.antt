@@ -1,10 +1,8 @@
 pub mod Reports
-pub mod Entries
-pub mod Nexts
 pub mod Places
 pub mod Closed
 pub mod Possibility
-pub mod Acting
+pub mod Limits
 pub mod Counted
 pub mod Stepping
 pub mod Following

@@ -9,7 +9,7 @@ use lib.Dec.{ltb}
 use lib.ListN.{length, getD, length-append}
 use lib.Seq.{getD-at}
 use Rattle.flow.specs.Sequence.{move, read, call, listed, inTurn, privileged, programRow, verifyRow, macroDown, lockAndVerify, acquire, silicon, program, opening, afterwards, sequence, endMove, key}
-use Rattle.flow.specs.Session.{moveAt, moveCount}
+use Rattle.flow.specs.Session.{position, moveAt, moveCount}
 use Rattle.flow.specs.declared.Entry.{Entry}
 use Rattle.flow.specs.declared.Entry.the-variants.{FromOpen, FromProtected}
 use Rattle.flow.specs.declared.Move.{Move}
@@ -64,7 +64,7 @@ module _ (i : Image) where
   opening-in FromProtected = omega (arith, opening-counted i, count-reopen (i .geometry))
 
   -- a move that is not the last has a next
-  pub has-next : (y : Entry) (n : ℕ) → n < moveCount (i .geometry) y → ¬ (moveAt i y n ≡ lastMove) → suc n < moveCount (i .geometry) y
+  pub has-next : (y : Entry) (n : ℕ) → n < moveCount (i .geometry) y → ¬ (moveAt i (position y n) ≡ lastMove) → suc n < moveCount (i .geometry) y
   has-next y n h not-last = by (ltb (suc n) (moveCount (i .geometry) y)) refl
     where
       e : Ends lastMove (sequence i y)

@@ -14,7 +14,7 @@ use Rattle.image.specs.declared.Header.{Header}
 use Rattle.flow.specs.Session.{moveCount}
 use Rattle.parts.proofs.Table.{both}
 use Rattle.parts.specs.declared.Geometry.{Geometry}
-use Rattle.session.specs.Possible.{headerFits, progressFits, reportFits, possibleIn}
+use Rattle.session.specs.Possible.{headerFits, runningFits, reportFits, possibleIn}
 use Rattle.session.specs.Sessions.{standOf, mostOf, resumed}
 use Rattle.session.specs.declared.Session.{Session}
 use Rattle.session.proofs.Closed.{Within, Stands, step-stands}
@@ -26,7 +26,7 @@ both-true p q = rw (p, q)
 pub record Parts (g : Geometry) (s : Session) : Type 0 where
   pub header : headerFits g (s .header) ≡ true
   pub count : s .transfers ≤ mostOf g
-  pub stands : cond (s .finished) (reportFits (s .number) (s .step)) (progressFits g (s .entry) (s .progress)) ≡ true
+  pub stands : cond (s .finished) (reportFits (s .number) (s .step)) (runningFits g (s .position) (s .counters)) ≡ true
 
 pub parts : (g : Geometry) (s : Session) → possibleIn g s ≡ true → Parts g s
 unfolding possibleIn
@@ -47,18 +47,18 @@ module _ (g : Geometry) (h : Header) (bytes : List ℕ) where
       by : (t : Bool) → s .finished ≡ t → Stands (imageOf g h bytes) (standOf s)
       by true e = rw e (rw e at (p .stands))
       by false e =
-          let q : progressFits g (s .entry) (s .progress) ≡ true = rw e at (p .stands) in
-          let t = both (ltb (s .progress .at) (moveCount g (s .entry)) && leb (s .progress .waits) 16 && ltb (s .progress .polls) 10000) _ q in
-          let u = both (ltb (s .progress .at) (moveCount g (s .entry)) && leb (s .progress .waits) 16) _ (t .0) in
-          let v = both (ltb (s .progress .at) (moveCount g (s .entry))) _ (u .0) in
-          let w : Within (imageOf g h bytes) (s .entry) (s .progress .at) (s .progress .waits) (s .progress .polls) (s .progress .attempts) =
+          let q : runningFits g (s .position) (s .counters) ≡ true = rw e at (p .stands) in
+          let t = both (ltb (s .position .at) (moveCount g (s .position .entry)) && leb (s .counters .waits) 16 && ltb (s .counters .polls) 10000) _ q in
+          let u = both (ltb (s .position .at) (moveCount g (s .position .entry)) && leb (s .counters .waits) 16) _ (t .0) in
+          let v = both (ltb (s .position .at) (moveCount g (s .position .entry))) _ (u .0) in
+          let w : Within (imageOf g h bytes) (s .position) (s .counters) =
           record { at = ltb-true _ _ (v .0); waits = leb-true _ _ (v .1); polls = ltb-true _ _ (u .1); attempts = ltb-true _ _ (t .1) } in
           rw e w
 
   -- a session that is made to stand where 13 allows
   pub resumed-parts : (s : Session) → headerFits g (s .header) ≡ true → (x : Flow.SessionState) → Stands (imageOf g h bytes) x → Parts g (resumed g s x)
   unfolding resumed
-  resumed-parts s e (running y n w p a k t) q =
+  resumed-parts s e (running o d t) q =
       record {
         header = e;
         count = omega arith;

@@ -8,7 +8,7 @@ use borrow.Author.Tests.{eq-eqb}
 use lib.Dec.{eqb}
 use lib.ListN.{length}
 use Rattle.flow.specs.Exchange.{meetOn, transferred, met, killed, barred, carriedOut}
-use Rattle.flow.specs.Monitor.{isReset}
+use Rattle.flow.specs.Packets.{isReset, answers}
 use Rattle.flow.specs.Plan.{Traffic}
 use Rattle.flow.specs.Run.{handedOutBy}
 use Rattle.flow.specs.Session.{running, reported, moveAt, stepOf}
@@ -27,7 +27,7 @@ use Rattle.parts.specs.declared.Geometry.{Geometry}
 use Rattle.parts.specs.declared.Lookup.{Lookup}
 use Rattle.parts.specs.declared.Lookup.the-variants.{Found, Refused as NotFound}
 use Rattle.session.specs.Calls.{answer, handing, standing}
-use Rattle.session.specs.Given.{answers, refusing, outcomeAt, giving, stepOn, stepFor, stepWith}
+use Rattle.session.specs.Given.{refusing, outcomeAt, giving, stepOn, stepFor, stepWith}
 use Rattle.session.specs.Possible.{possibleIn}
 use Rattle.session.specs.Sessions.{standOf, resumed}
 use Rattle.session.specs.declared.Given.{Given}
@@ -58,16 +58,16 @@ fits g (WriteSetup r w) l b = transfer-fits g (WriteSetup r w) (nextEvent (l .li
 -- ---- what stands, handed out
 
 pub handing-stands : (i : Image) (x : Flow.SessionState) (t : Traffic) → handing (outcomeAt i x) t ≡ handedOutBy i x t
-handing-stands i (running y n w p a k h) t = refl
+handing-stands i (running o d h) t = refl
 handing-stands i (reported x s h) t = refl
 
 pub standing-new : (i : Image) (o : Outcome) (x : Flow.SessionState) → standing o (outcomeAt i x) ≡ outcomeAt i x
-standing-new i o (running y n w p a k h) = refl
+standing-new i o (running p d h) = refl
 standing-new i o (reported x s h) = refl
 
 pub header-kept : (g : Geometry) (s : Session) (x : Flow.SessionState) → (resumed g s x) .header ≡ s .header
 unfolding resumed
-header-kept g s (running y n w p a k h) = refl
+header-kept g s (running o d h) = refl
 header-kept g s (reported x t h) = refl
 
 -- ---- what a step gives
@@ -81,11 +81,11 @@ pub on-finished : (g : Geometry) (s : Session) (bytes : List ℕ) (a : Answer) �
 on-finished g s bytes a e = simp e
 
 module _ (g : Geometry) (s : Session) (bytes : List ℕ) (a : Answer) (goes : s .finished ≡ false) where
-  pub on-fit : answers ((moveAt (imageOf g (s .header) bytes) (s .entry) (s .progress .at)) .request) a ≡ true
+  pub on-fit : answers ((moveAt (imageOf g (s .header) bytes) (s .position)) .request) a ≡ true
       → stepOn g s bytes a ≡ giving (imageOf g (s .header) bytes) (resumed g s (stepOf (imageOf g (s .header) bytes) (standOf s) a))
   on-fit e = simp (goes, e)
 
-  pub on-misfit : answers ((moveAt (imageOf g (s .header) bytes) (s .entry) (s .progress .at)) .request) a ≡ false → stepOn g s bytes a ≡ refusing s 14
+  pub on-misfit : answers ((moveAt (imageOf g (s .header) bytes) (s .position)) .request) a ≡ false → stepOn g s bytes a ≡ refusing s 14
   on-misfit e = simp (goes, e)
 
 module _ (g : Geometry) (s : Session) (bytes : List ℕ) (a : Answer) (found : lookupOf (s .header .part) (s .header .macros) ≡ Found g)
@@ -93,7 +93,7 @@ module _ (g : Geometry) (s : Session) (bytes : List ℕ) (a : Answer) (found : l
   unrefused : stepWith s bytes a ≡ stepOn g s bytes a
   unrefused = looked-up s bytes a (Found g) found ∙ simp (can, eq-eqb (length bytes) (imageSize g) size)
 
-  pub step-running : s .finished ≡ false → answers ((moveAt (imageOf g (s .header) bytes) (s .entry) (s .progress .at)) .request) a ≡ true
+  pub step-running : s .finished ≡ false → answers ((moveAt (imageOf g (s .header) bytes) (s .position)) .request) a ≡ true
       → stepWith s bytes a ≡ giving (imageOf g (s .header) bytes) (resumed g s (stepOf (imageOf g (s .header) bytes) (standOf s) a))
   step-running e f = unrefused ∙ on-fit g s bytes a e f
 
@@ -103,7 +103,7 @@ module _ (g : Geometry) (s : Session) (bytes : List ℕ) (a : Answer) (found : l
 -- ---- a refused step gives the session back
 
 pub not-refused : (i : Image) (x : Flow.SessionState) (n : ℕ) → outcomeAt i x ≡ Refused n → ⊥
-not-refused i (running y k w p a q h) n e = let z : _≡_ {A = ℕ} 0 1 = cc in omega arith
+not-refused i (running o d h) n e = let z : _≡_ {A = ℕ} 0 1 = cc in omega arith
 not-refused i (reported x t h) n e = let z : _≡_ {A = ℕ} 0 1 = cc in omega arith
 
 module _ (s : Session) (bytes : List ℕ) (a : Answer) where
@@ -129,7 +129,7 @@ module _ (s : Session) (bytes : List ℕ) (a : Answer) where
       back-either (possibleIn g s) _ _
       (back-either (eqb (length bytes) (imageSize g)) _ _
       (back-either (s .finished) _ _ (back-giving i s)
-      (back-either (answers ((moveAt i (s .entry) (s .progress .at)) .request) a) _ _
+      (back-either (answers ((moveAt i (s .position)) .request) a) _ _
       (back-giving i (resumed g s (stepOf i (standOf s) a))) (back-refusing 14)))
       (back-refusing 12))
       (back-refusing 13)

@@ -38,7 +38,7 @@ standing before (Reported r) = Reported r
 
 -- a packet that is no request is met by silence (29); the first mishap stays
 abbrev pub unanswered : Monitor → Monitor
-unanswered (watching w p a t d) = linkError 29
+unanswered (watching x) = linkError 29
 unanswered (linkError n) = linkError n
 
 -- the mishaps are told by what is on the wire

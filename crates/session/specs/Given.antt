@@ -4,14 +4,11 @@ use mathlib.Core.List.{List}
 use Prim.Native.Nat.{ℕ}
 use lib.Dec.{eqb}
 use lib.ListN.{length}
-use Rattle.flow.specs.Monitor.{isReset}
-use Rattle.flow.specs.Packets.{packetOf}
+use Rattle.flow.specs.Packets.{answers, packetOf}
 use Rattle.flow.specs.Session.{running, reported, moveAt, stepOf}
 use Rattle.flow.specs.Session as Flow
 use Rattle.flow.specs.declared.Answer.{Answer}
-use Rattle.flow.specs.declared.Answer.the-variants.{ResetDone, Transferred}
 use Rattle.flow.specs.declared.Packet as Packets
-use Rattle.flow.specs.declared.Request.{Request}
 use Rattle.image.specs.Checks.{imageFault}
 use Rattle.image.specs.Image.{Image, imageOf}
 use Rattle.image.specs.declared.Header.{Header}
@@ -47,29 +44,24 @@ startOf h bytes leave =
 
 -- ---- stepping
 
--- '14 reset answered by an acknowledgement or the reverse'
-abbrev pub answers : Request → Answer → Bool
-answers q ResetDone = isReset q
-answers q (Transferred r) = not (isReset q)
-
 -- 'refused, gives back the session it got and no request'
 abbrev pub refusing : Session → (number : ℕ) → Given
 refusing s n = record { session = s; outcome = Outcomes.Refused n }
 
 -- what stands: a request, or the report
 abbrev pub outcomeAt : Image → Flow.SessionState → Outcome
-outcomeAt i (running y n w p a k h) = Outcomes.Ask (packetOf ((moveAt i y n) .request))
+outcomeAt i (running p c h) = Outcomes.Ask (packetOf ((moveAt i p) .request))
 outcomeAt i (reported x t h) = Outcomes.Reported (record { number = x; step = t; transfers = h })
 
 -- an unrefused step: what stands in the session that it gives
 abbrev pub giving : Image → Session → Given
 giving i s = record { session = s; outcome = outcomeAt i (standOf s) }
 
--- 'a finished session that passes 13 and 12 repeats its report for any answer, without 14'
+-- '14 reset answered by an acknowledgement or the reverse' (`answers`); 'a finished session that passes 13 and 12 repeats its report for any answer, without 14'
 abbrev pub stepOn : Geometry → Session → List ℕ → Answer → Given
 stepOn g s bytes a =
     cond (s .finished) (giving (imageOf g (s .header) bytes) s)
-    (cond (answers ((moveAt (imageOf g (s .header) bytes) (s .entry) (s .progress .at)) .request) a)
+    (cond (answers ((moveAt (imageOf g (s .header) bytes) (s .position)) .request) a)
     (giving (imageOf g (s .header) bytes) (resumed g s (stepOf (imageOf g (s .header) bytes) (standOf s) a)))
     (refusing s 14))
 

@@ -1,8 +1,7 @@
 pub mod Sessions
-pub mod Nexts
 pub mod Possible
 pub mod Reports
-pub mod Ranges
+pub mod Lent
 pub mod Given
 pub mod Calls
 pub mod Claim

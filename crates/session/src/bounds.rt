@@ -1,9 +1,9 @@
 // Whether a session is possible for its part: number 13.
 ghost use mathlib.Core.Path.{_≡_};
-ghost use Rattle.session.specs.Possible.{headerFits, progressFits, isFailure, reportFits, possibleIn};
-use crate::Progress;
+ghost use Rattle.session.specs.Possible.{headerFits, runningFits, isFailure, reportFits, possibleIn};
 use crate::Session;
-use flow::Entry;
+use flow::Counters;
+use flow::Position;
 use image::Header;
 use parts::Geometry;
 
@@ -20,13 +20,14 @@ fn header_fits(g: Geometry, h: Header) -> bool
 }
 
 // Whether a running session's index and counts are in range.
-fn progress_fits(g: Geometry, y: Entry, p: Progress) -> bool
-    ensures { λ r. ⌜ r ≡ progressFits g y p ⌝ }
+fn running_fits(g: Geometry, p: Position, c: Counters) -> bool
+    ensures { λ r. ⌜ r ≡ runningFits g p c ⌝ }
 {
+    let y = p.entry;
     if (p.at as usize) < moves::move_count(g, y) {
-        if p.waits <= 16 {
-            if p.polls < 10000 {
-                return p.attempts < 30;
+        if c.waits <= 16 {
+            if c.polls < 10000 {
+                return c.attempts < 30;
             }
         }
     }
@@ -61,7 +62,6 @@ pub(crate) fn possible_in(g: Geometry, s: Session) -> bool
     ensures { λ r. ⌜ r ≡ possibleIn g s ⌝ }
 {
     let h = s.header;
-    let y = s.entry;
     if !header_fits(g, h) {
         return false;
     }
@@ -71,6 +71,7 @@ pub(crate) fn possible_in(g: Geometry, s: Session) -> bool
     if s.finished {
         return report_fits(s.number, s.step);
     }
-    let p = s.progress;
-    progress_fits(g, y, p)
+    let p = s.position;
+    let c = s.counters;
+    running_fits(g, p, c)
 }

@@ -2,41 +2,30 @@
 ghost use mathlib.Core.Bool.{true};
 ghost use mathlib.Core.Path.{_≡_};
 ghost use Rattle.image.specs.Image.{imageOf};
-ghost use Rattle.session.specs.Given.{answers, startRefused, wantsLeave, startOf, refusing, outcomeAt, giving, stepOn, stepWith};
+ghost use Rattle.session.specs.Given.{startRefused, wantsLeave, startOf, refusing, outcomeAt, giving, stepOn, stepWith};
 ghost use Rattle.session.specs.Possible.{possibleIn};
-ghost use Rattle.session.specs.Ranges.{Lent};
+ghost use Rattle.session.specs.Lent.{Lent};
 ghost use Rattle.session.specs.Sessions.{standOf, firstFor};
 
 mod bounds;
-mod hear;
-mod judge;
 mod moving;
 
 use bounds::possible_in;
 use flow::Answer;
+use flow::Counters;
 use flow::Entry;
 use flow::Packet;
-use flow::Request;
-use hear::is_reset;
+use flow::Position;
 use image::Header;
 use moving::advanced;
 use parts::Geometry;
 use parts::Lookup;
 
-// Where a running session stands: the index of the standing move, what is counted there, and the word kept.
-pub struct Progress {
-    pub at: u32,
-    pub waits: u32,
-    pub polls: u32,
-    pub attempts: u32,
-    pub kept: u32,
-}
-
 // A session: what it holds of the image, where it stands or what it reported, and the reads and writes answered so far.
 pub struct Session {
     pub header: Header,
-    pub entry: Entry,
-    pub progress: Progress,
+    pub position: Position,
+    pub counters: Counters,
     pub transfers: u32,
     pub finished: bool,
     pub number: u8,
@@ -62,31 +51,17 @@ pub struct Given {
     pub outcome: Outcome,
 }
 
-// Where one answer leads: on with the sequence, or to a report.
-pub enum Next {
-    Run(Entry, Progress),
-    Stop(u8),
-}
-
-// Whether an answer is one to this request: resets are answered by 'reset done', transfers by an acknowledgement (14).
-fn answer_fits(q: Request, a: Answer) -> bool
-    ensures { λ r. ⌜ r ≡ answers q a ⌝ }
-{
-    match a {
-        Answer::ResetDone => is_reset(q),
-        Answer::Transferred(_) => !is_reset(q),
-    }
-}
-
 // The session of a given header at its start.
 fn first_session(h: Header) -> Session
     ensures { λ r. ⌜ r ≡ firstFor h ⌝ }
 {
     Session {
         header: h,
-        entry: Entry::FromOpen,
-        progress: Progress {
+        position: Position {
+            entry: Entry::FromOpen,
             at: 0,
+        },
+        counters: Counters {
             waits: 0,
             polls: 0,
             attempts: 0,
@@ -158,8 +133,8 @@ fn outcome_of(g: Geometry, s: Session, bytes: &[u8]) -> Outcome
         });
     }
     let h = s.header;
-    let y = s.entry;
-    let p = s.progress;
+    let p = s.position;
+    let y = p.entry;
     let m = moves::move_at(g, h, bytes, y, p.at);
     let q = m.request;
     Outcome::Ask(flow::packet_of(q))
@@ -197,11 +172,11 @@ fn step_on(g: Geometry, s: Session, bytes: &[u8], a: Answer) -> Given
         return give(g, s, bytes);
     }
     let h = s.header;
-    let y = s.entry;
-    let p = s.progress;
+    let p = s.position;
+    let y = p.entry;
     let m = moves::move_at(g, h, bytes, y, p.at);
     let q = m.request;
-    if answer_fits(q, a) {
+    if flow::requests::answer_fits(q, a) {
         let t = advanced(g, s, bytes, m, a);
         return give(g, t, bytes);
     }

@@ -1,22 +1,18 @@
 // The session that an answer leads to.
 ghost use mathlib.Core.Path.{_≡_};
-ghost use lib.ListN.{length};
-ghost use Prim.Native.Nat.{_<_, _^_, min};
+ghost use Prim.Native.Nat.{_-_, _<_, _^_, min};
+ghost use Rattle.flow.specs.Session.{counted, standAfter, act};
+ghost use Rattle.flow.specs.Session as Flow;
 ghost use Rattle.image.specs.Image.{imageOf};
-ghost use Rattle.parts.specs.Sizes.{imageSize};
-ghost use Rattle.session.specs.Nexts.{standAfter, actOn};
-ghost use Rattle.session.specs.Ranges.{InRange};
 ghost use Rattle.session.specs.Sessions.{mostOf, runningAt, reportedAt, resumed};
-use crate::Next;
-use crate::Progress;
 use crate::Session;
-use crate::hear::after_reset;
-use crate::hear::is_reset;
-use crate::hear::on_reply;
-use crate::hear::reply_in;
 use flow::Answer;
-use flow::Entry;
+use flow::Counters;
 use flow::Move;
+use flow::Next;
+use flow::Position;
+use flow::Request;
+use flow::Way;
 use parts::Geometry;
 
 // The count, which stops at document 01's formula.
@@ -32,15 +28,49 @@ fn capped(g: Geometry, count: u64) -> u32
     }
 }
 
+// A difference that stops at 0.
+fn back(at: u32, moves: u32) -> u32
+    ensures { λ r. ⌜ r ≡ at - moves ⌝ }
+{
+    if moves <= at { at - moves } else { 0 }
+}
+
+// The position that a way leads to: every new one is made here.
+fn arrive(w: Way, p: Position) -> Position
+    requires { ⌜ p .at < 2 ^ 31 ⌝ }
+    ensures { λ r. ⌜ r ≡ Flow.arrive w p ⌝ }
+{
+    let same = p.entry;
+    match w {
+        Way::Onward => Position {
+            entry: same,
+            at: p.at + 1,
+        },
+        Way::Stay => p,
+        Way::ToReset => Position {
+            entry: same,
+            at: back(p.at, 1),
+        },
+        Way::ToPoll => Position {
+            entry: same,
+            at: back(p.at, 2),
+        },
+        Way::Enter(y) => Position {
+            entry: y,
+            at: p.at + 1,
+        },
+    }
+}
+
 // A session of the same image that goes on so.
-fn running_at(s: Session, y: Entry, p: Progress, transfers: u32) -> Session
-    ensures { λ r. ⌜ r ≡ runningAt s y p transfers ⌝ }
+fn running_at(s: Session, p: Position, c: Counters, transfers: u32) -> Session
+    ensures { λ r. ⌜ r ≡ runningAt s p c transfers ⌝ }
 {
     let h = s.header;
     Session {
         header: h,
-        entry: y,
-        progress: p,
+        position: p,
+        counters: c,
         transfers: transfers,
         finished: false,
         number: 0,
@@ -53,12 +83,12 @@ fn reported_at(s: Session, number: u8, step: u8, transfers: u32) -> Session
     ensures { λ r. ⌜ r ≡ reportedAt s number step transfers ⌝ }
 {
     let h = s.header;
-    let y = s.entry;
+    let p = s.position;
+    let y = p.entry;
     Session {
         header: h,
-        entry: y,
-        progress: Progress {
-            at: 0,
+        position: Position { entry: y, at: 0 },
+        counters: Counters {
             waits: 0,
             polls: 0,
             attempts: 0,
@@ -73,30 +103,37 @@ fn reported_at(s: Session, number: u8, step: u8, transfers: u32) -> Session
 
 // The session that an answer leads to.
 fn resume(g: Geometry, s: Session, next: Next, step: u8, count: u64) -> Session
-    requires { ⌜ mostOf g < 2 ^ 32 ⌝ }
-    ensures { λ r. ⌜ r ≡ resumed g s (standAfter next step count) ⌝ }
+    requires { ⌜ s .position .at < 2 ^ 31 ⌝ ∗ ⌜ mostOf g < 2 ^ 32 ⌝ }
+    ensures { λ r. ⌜ r ≡ resumed g s (standAfter next (s .position) step count) ⌝ }
 {
     let transfers = capped(g, count);
     match next {
-        Next::Run(y, p) => running_at(s, y, p, transfers),
+        Next::Go(w, c) => {
+            let p = s.position;
+            running_at(s, arrive(w, p), c, transfers)
+        }
         Next::Stop(number) => reported_at(s, number, step, transfers),
     }
 }
 
+// The transfers answered, after this request: a reset is none.
+fn counted_by(q: Request, transfers: u32) -> u64
+    ensures { λ r. ⌜ r ≡ counted q transfers ⌝ }
+{
+    if flow::requests::is_reset(q) {
+        return transfers as u64;
+    }
+    (transfers as u64) + 1
+}
+
 // The session after the standing move is answered.
 pub(crate) fn advanced(g: Geometry, s: Session, bytes: &[u8], m: Move, a: Answer) -> Session
-    requires { ⌜ InRange (s .progress) ⌝ ∗ ⌜ mostOf g < 2 ^ 32 ⌝ ∗ ⌜ length (now bytes) ≡ imageSize g ⌝ }
-    ensures { λ r. ⌜ r ≡ resumed g s (actOn (imageOf g (s .header) (now (bytes .entry))) m a (s .entry) (s .progress) (s .transfers)) ⌝ }
+    requires { ⌜ s .position .at < 2 ^ 31 ⌝ ∗ ⌜ mostOf g < 2 ^ 32 ⌝ }
+    ensures { λ r. ⌜ r ≡ resumed g s (act (imageOf g (s .header) (now (bytes .entry))) m a (s .position) (s .counters) (s .transfers)) ⌝ }
 {
     let h = s.header;
-    let y = s.entry;
-    let p = s.progress;
+    let c = s.counters;
     let q = m.request;
-    if is_reset(q) {
-        let n = after_reset(y, p);
-        return resume(g, s, n, m.step, s.transfers as u64);
-    }
-    let r = reply_in(a);
-    let n = on_reply(g, h, bytes, y, p, m, r);
-    resume(g, s, n, m.step, (s.transfers as u64) + 1)
+    let next = judge::next(g, h, bytes, m, a, c);
+    resume(g, s, next, m.step, counted_by(q, s.transfers))
 }

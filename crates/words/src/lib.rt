@@ -1,8 +1,6 @@
 // What single words say: document 01, 'Flow'.
-ghost use mathlib.Core.List.{[]};
 ghost use mathlib.Core.Path.{_≡_};
-ghost use Rattle.flow.specs.Judge.{free, testBitSet, succeeded, idsFit, levelShown, sumsFit};
-ghost use Rattle.image.specs.Image.{imageOf};
+ghost use Rattle.flow.specs.Words.{free, testBitSet, succeeded, idsFit, levelShown, sumsFit};
 use image::Header;
 use parts::Geometry;
 
@@ -10,8 +8,8 @@ use parts::Geometry;
 pub fn is_free(w: u32) -> bool
     ensures { λ r. ⌜ r ≡ free w ⌝ }
 {
-    if w / 2147483648 % 2 == 0 {
-        return w / 268435456 % 2 == 0;
+    if w / 0x80000000 % 2 == 0 {
+        return w / 0x10000000 % 2 == 0;
     }
     false
 }
@@ -20,19 +18,19 @@ pub fn is_free(w: u32) -> bool
 pub fn test_bit_set(w: u32) -> bool
     ensures { λ r. ⌜ r ≡ testBitSet w ⌝ }
 {
-    w / 2147483648 % 2 == 1
+    w / 0x80000000 % 2 == 1
 }
 
 // Whether SYSARG says that a call succeeded (19).
 pub fn call_succeeded(w: u32) -> bool
     ensures { λ r. ⌜ r ≡ succeeded w ⌝ }
 {
-    w / 268435456 % 16 == 0xA
+    w / 0x10000000 % 16 == 0xA
 }
 
 // Whether the silicon ID in SYSARG and SYSREQ is the image's and fits the part (20).
 pub fn ids_fit(g: Geometry, h: Header, sysarg: u32, sysreq: u32) -> bool
-    ensures { λ r. ⌜ r ≡ idsFit (imageOf g h []) sysarg sysreq ⌝ }
+    ensures { λ r. ⌜ r ≡ idsFit g h sysarg sysreq ⌝ }
 {
     let m = h.metadata;
     let p = g.part;
@@ -48,7 +46,7 @@ pub fn ids_fit(g: Geometry, h: Header, sysarg: u32, sysreq: u32) -> bool
 pub fn level_shown(w: u32) -> u8
     ensures { λ r. ⌜ r ≡ levelShown w ⌝ }
 {
-    let n = (w / 16777216 % 16) as u8;
+    let n = (w / 0x1000000 % 16) as u8;
     match n {
         0 => 1,
         1 => 0,
@@ -57,8 +55,8 @@ pub fn level_shown(w: u32) -> u8
 }
 
 // Whether the two privileged sums differ by the image's sum.
-pub fn sums_fit(g: Geometry, h: Header, this: u32, that: u32) -> bool
-    ensures { λ r. ⌜ r ≡ sumsFit (imageOf g h []) this that ⌝ }
+pub fn sums_fit(h: Header, this: u32, that: u32) -> bool
+    ensures { λ r. ⌜ r ≡ sumsFit h this that ⌝ }
 {
-    ((this % 268435456 + 268435456 - that % 268435456) % 65536) as u16 == h.sum
+    ((this % 0x10000000 + 0x10000000 - that % 0x10000000) % 65536) as u16 == h.sum
 }

@@ -19,9 +19,9 @@ packet-of-requires c κs = search needs
 returns-2 : tie.Need-returns-2
 returns-2 c =
     let a = c .before .before .before .before .before .before .args in
-    let is : c .before .move-at .result ≡ moveAt (imageOf (a .g) (a .s .header) (a .bytes .now)) (a .s .entry) (a .s .progress .at) =
+    let is : c .before .move-at .result ≡ moveAt (imageOf (a .g) (a .s .header) (a .bytes .now)) (a .s .position) =
     c .before .move-at .ensures
-    ∙ move-found (a .g) (a .s .header) (a .bytes .now) (a .s .entry) (a .s .progress .at) (a .s .header .part) (a .s .header .macros) (c .before .before .before .before .before .before .pre .found) (c .before .before .before .before .before .before .pre .size) in
+    ∙ move-found (a .g) (a .s .header) (a .bytes .now) (a .s .position .entry) (a .s .position .at) (a .s .header .part) (a .s .header .macros) (c .before .before .before .before .before .before .pre .found) (c .before .before .before .before .before .before .pre .size) in
     simp (c .before .before .before .before .if1 .left, c .packet-of .ensures, is)
 
 pub outcome-of-spec : {M : Type 1} → statement M

@@ -2,30 +2,30 @@
 use mathlib.Core.Bool.{true, false}
 use mathlib.Core.Path.{_≡_, sym, ap, subst, _∙_}
 use borrow.Author.Needs.{needs}
-use Rattle.flow.specs.Session.{moveAt, stepOf}
+use Rattle.flow.specs.Packets.{answers}
+use Rattle.flow.specs.Session.{moveAt, act, stepOf}
 use Rattle.flow.specs.declared.Move.{Move}
 use Rattle.image.specs.Image.{imageOf}
 use Rattle.image.specs.declared.Header.{Header}
 use Rattle.moves.proofs.Table.{move-found}
 use Rattle.parts.specs.Parts.{lookupOf}
 use Rattle.parts.specs.declared.Lookup.the-variants.{Found}
-use Rattle.session.specs.Given.{answers, giving}
-use Rattle.session.specs.Nexts.{actOn}
+use Rattle.session.specs.Given.{giving}
 use Rattle.session.specs.Sessions.{standOf, resumed}
 use Rattle.session.specs.declared.Session.{Session}
-use Rattle.session.proofs.Acting.{in-range, most-small, acted}
+use Rattle.session.proofs.Limits.{in-range, most-small}
 use Rattle.session.proofs.Stepping.{header-kept, on-fit, on-misfit}
 use Rattle.session.proofs.step_on.Statement.{statement}
 use Rattle.session.proofs.step_on.Tie as tie
 
 -- the move that is found is the sequence's
 the-move : (c : tie.After-move-at)
-    → c .move-at .result ≡ moveAt (imageOf (c .before .before .before .before .before .args .g) (c .before .before .before .before .before .args .s .header) (c .before .before .before .before .before .args .bytes .now)) (c .before .before .before .before .before .args .s .entry) (c .before .before .before .before .before .args .s .progress .at)
+    → c .move-at .result ≡ moveAt (imageOf (c .before .before .before .before .before .args .g) (c .before .before .before .before .before .args .s .header) (c .before .before .before .before .before .args .bytes .now)) (c .before .before .before .before .before .args .s .position)
 the-move c =
     let a = c .before .before .before .before .before .args in
     let pre = c .before .before .before .before .before .pre .0 in
     c .move-at .ensures
-    ∙ move-found (a .g) (a .s .header) (a .bytes .now) (a .s .entry) (a .s .progress .at) (a .s .header .part) (a .s .header .macros) (pre .found) (pre .size)
+    ∙ move-found (a .g) (a .s .header) (a .bytes .now) (a .s .position .entry) (a .s .position .at) (a .s .header .part) (a .s .header .macros) (pre .found) (pre .size)
 
 give-requires : tie.Need-give-requires
 give-requires c κs = search needs
@@ -43,7 +43,7 @@ advanced-requires : tie.Need-advanced-requires
 advanced-requires c κs =
     let a = c .before .before .before .before .before .before .before .args in
     let pre = c .before .before .before .before .before .before .before .pre in
-    (in-range (a .g) (a .s) (pre .0 .found) (pre .1) (c .before .before .before .before .before .if1 .left), (most-small (a .s .header .part) (a .s .header .macros) (pre .0 .found), pre .0 .size))
+    (in-range (a .g) (a .s) (pre .0 .found) (pre .1) (c .before .before .before .before .before .if1 .left), most-small (a .s .header .part) (a .s .header .macros) (pre .0 .found))
 
 give-requires-2 : tie.Need-give-requires-2
 give-requires-2 c κs =
@@ -59,12 +59,12 @@ returns-2 c =
     let goes = c .before .before .before .before .before .before .before .if1 .left in
     let i = imageOf (a .g) (a .s .header) (a .bytes .now) in
     let is = the-move (c .before .before .before .before) in
-    let fit : answers ((moveAt i (a .s .entry) (a .s .progress .at)) .request) (a .a) ≡ true =
+    let fit : answers ((moveAt i (a .s .position)) .request) (a .a) ≡ true =
     ap (λ (m : Move). answers (m .request) (a .a)) (sym is) ∙ sym (c .before .before .before .answer-fits .ensures) ∙ c .before .before .if2 .taken in
     let new : c .before .advanced .result ≡ resumed (a .g) (a .s) (stepOf i (standOf (a .s)) (a .a)) =
     c .before .advanced .ensures
-    ∙ ap (λ (m : Move). resumed (a .g) (a .s) (actOn i m (a .a) (a .s .entry) (a .s .progress) (a .s .transfers))) is
-    ∙ ap (resumed (a .g) (a .s)) (acted (a .g) (a .bytes .now) (a .s) (a .a) goes) in
+    ∙ ap (λ (m : Move). resumed (a .g) (a .s) (act i m (a .a) (a .s .position) (a .s .counters) (a .s .transfers))) is
+    ∙ (unfold stepOf in rw goes) in
     c .give2 .ensures
     ∙ ap (λ (t : Session). giving (imageOf (a .g) (t .header) (a .bytes .now)) t) new
     ∙ ap (λ (h : Header). giving (imageOf (a .g) h (a .bytes .now)) (resumed (a .g) (a .s) (stepOf i (standOf (a .s)) (a .a)))) (header-kept (a .g) (a .s) _)
@@ -76,7 +76,7 @@ refuse-requires c κs = search needs
 returns-3 : tie.Need-returns-3
 returns-3 c =
     let a = c .before .before .before .before .before .before .before .before .args in
-    let misfit : answers ((moveAt (imageOf (a .g) (a .s .header) (a .bytes .now)) (a .s .entry) (a .s .progress .at)) .request) (a .a) ≡ false =
+    let misfit : answers ((moveAt (imageOf (a .g) (a .s .header) (a .bytes .now)) (a .s .position)) .request) (a .a) ≡ false =
     ap (λ (m : Move). answers (m .request) (a .a)) (sym (the-move (c .before .before .before))) ∙ sym (c .before .before .answer-fits .ensures) ∙ c .before .if2 .left in
     c .refuse .ensures ∙ sym (on-misfit (a .g) (a .s) (a .bytes .now) (a .a) (c .before .before .before .before .before .before .if1 .left) misfit)
 

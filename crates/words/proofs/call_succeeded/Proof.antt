@@ -1,6 +1,6 @@
 -- The top digit. Assumes nothing.
 use mathlib.Core.Path.{refl}
-use Rattle.flow.specs.Judge.{succeeded}
+use Rattle.flow.specs.Words.{succeeded}
 use Rattle.words.proofs.call_succeeded.Statement.{statement}
 use Rattle.words.proofs.call_succeeded.Tie as tie
 

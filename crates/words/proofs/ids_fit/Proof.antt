@@ -1,6 +1,6 @@
 -- The tests in the order of `idsFit`. Assumes nothing.
 use borrow.Author.Tests.{eq-eqb, ne-eqb}
-use Rattle.flow.specs.Judge.{idsFit}
+use Rattle.flow.specs.Words.{idsFit}
 use borrow.Author.Needs.{needs}
 use Rattle.words.proofs.ids_fit.Statement.{statement}
 use Rattle.words.proofs.ids_fit.Tie as tie

@@ -1,13 +1,13 @@
 -- Bit 31, then bit 28. Assumes nothing.
 use Prim.Native.Nat.{_/_, _%_}
 use borrow.Author.Tests.{eq-eqb, ne-eqb}
-use Rattle.flow.specs.Judge.{free}
+use Rattle.flow.specs.Words.{free}
 use Rattle.words.proofs.is_free.Statement.{statement}
 use Rattle.words.proofs.is_free.Tie as tie
 
 returns : tie.Need-returns
 unfolding free
-returns c = simp (eq-eqb (c .before .args .w / 2147483648 % 2) 0 (c .if1 .taken))
+returns c = simp (eq-eqb (c .before .args .w / 0x80000000 % 2) 0 (c .if1 .taken))
 
 returns-2 : tie.Need-returns-2
 unfolding free

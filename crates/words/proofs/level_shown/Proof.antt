@@ -1,7 +1,7 @@
 -- 0 and 1 are exchanged. Assumes nothing.
 use Prim.Native.Nat.{_/_, _%_}
 use borrow.Author.Tests.{eq-eqb, ne-eqb}
-use Rattle.flow.specs.Judge.{levelShown}
+use Rattle.flow.specs.Words.{levelShown}
 use borrow.Author.Needs.{needs}
 use Rattle.words.proofs.level_shown.Statement.{statement}
 use Rattle.words.proofs.level_shown.Tie as tie
@@ -11,7 +11,7 @@ cast-n c = search needs
 
 returns : tie.Need-returns
 unfolding levelShown
-returns c = simp (eq-eqb (c .before .args .w / 16777216 % 16) 0 (c .match .keys1))
+returns c = simp (eq-eqb (c .before .args .w / 0x1000000 % 16) 0 (c .match .keys1))
 
 returns-2 : tie.Need-returns-2
 unfolding levelShown

@@ -1,6 +1,6 @@
 -- The difference as `sumsFit` has it. Assumes nothing.
 use mathlib.Core.Path.{refl}
-use Rattle.flow.specs.Judge.{sumsFit}
+use Rattle.flow.specs.Words.{sumsFit}
 use borrow.Author.Needs.{needs}
 use Rattle.words.proofs.sums_fit.Statement.{statement}
 use Rattle.words.proofs.sums_fit.Tie as tie

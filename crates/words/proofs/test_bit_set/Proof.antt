@@ -1,6 +1,6 @@
 -- One bit. Assumes nothing.
 use mathlib.Core.Path.{refl}
-use Rattle.flow.specs.Judge.{testBitSet}
+use Rattle.flow.specs.Words.{testBitSet}
 use Rattle.words.proofs.test_bit_set.Statement.{statement}
 use Rattle.words.proofs.test_bit_set.Tie as tie
 

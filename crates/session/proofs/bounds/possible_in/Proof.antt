@@ -29,12 +29,12 @@ returns-3 : tie.Need-returns-3
 unfolding possibleIn
 returns-3 c = simp (← c .before .before .before .before .before .before .header-fits .ensures, not-false (c .before .before .before .before .before .before .header-fits .result) (c .before .before .before .before .before .if1 .left), ← c .before .before .before .before .most-transfers .ensures, le-leb _ _ (c .before .before .if2 .left), c .before .if3 .taken, ← c .report-fits .ensures)
 
-progress-fits-requires : tie.Need-progress-fits-requires
-progress-fits-requires c κs = search needs
+running-fits-requires : tie.Need-running-fits-requires
+running-fits-requires c κs = search needs
 
 returns-4 : tie.Need-returns-4
 unfolding possibleIn
-returns-4 c = simp (← c .before .before .before .before .before .before .before .header-fits .ensures, not-false (c .before .before .before .before .before .before .before .header-fits .result) (c .before .before .before .before .before .before .if1 .left), ← c .before .before .before .before .before .most-transfers .ensures, le-leb _ _ (c .before .before .before .if2 .left), c .before .before .if3 .left, ← c .progress-fits .ensures)
+returns-4 c = simp (← c .before .before .before .before .before .before .before .before .header-fits .ensures, not-false (c .before .before .before .before .before .before .before .before .header-fits .result) (c .before .before .before .before .before .before .before .if1 .left), ← c .before .before .before .before .before .before .most-transfers .ensures, le-leb _ _ (c .before .before .before .before .if2 .left), c .before .before .before .if3 .left, ← c .running-fits .ensures)
 
 pub possible-in-spec : {M : Type 1} → statement M
 possible-in-spec =
@@ -47,5 +47,5 @@ possible-in-spec =
     returns-2
     report-fits-requires
     returns-3
-    progress-fits-requires
+    running-fits-requires
     returns-4)
