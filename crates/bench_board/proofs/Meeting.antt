@@ -4,13 +4,14 @@ use mathlib.Core.List.{List, [], _∷_}
 use mathlib.Core.Path.{_≡_, refl, sym, ap, _∙_}
 use Prim.Native.Nat.{ℕ}
 use lib.Dec.{eqb}
-use Rattle.bench_board.specs.Board.{Buffers, Left, callOutcomeOf, targetOf}
-use Rattle.bench_board.specs.Meets.{keeping, Makes, MakesIn, Resets, Carries, Calls, Replies, Decides, metOf, listsOf}
-use Rattle.bench_board.specs.declared.CallOutcome.{CallOutcome}
+use Rattle.bench_calls.specs.Board.{Buffers, Left, callOutcomeOf, targetOf}
+use Rattle.bench_calls.specs.Ends.{Makes, Resets}
+use Rattle.bench_board.specs.Meets.{keeping, MakesIn, Carries, Calls, Replies, Decides, metOf, listsOf}
+use Rattle.bench_calls.specs.declared.CallOutcome.{CallOutcome}
 use Rattle.bench_board.specs.declared.Decision.{Decision}
 use Rattle.flow.specs.declared.LineEvent.{LineEvent}
-use Rattle.bench_board.specs.declared.Change.{Change}
-use Rattle.bench_board.specs.declared.Registers.{Registers}
+use Rattle.bench_calls.specs.declared.Change.{Change}
+use Rattle.bench_calls.specs.declared.Registers.{Registers}
 use Rattle.flow.specs.declared.Place.{Place}
 use Rattle.bench_memory.specs.Acts.{buffersAfter}
 use Rattle.flow.specs.Exchange.{decode, fetch, store, carry, guarded, overDrw, carriedOut, gives, killed, silentReply, replyTo, barred, met, transferred, meetOn, meet}

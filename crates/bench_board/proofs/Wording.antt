@@ -5,13 +5,14 @@ use Prim.Native.Nat.{ℕ, suc, _+_, _-_, _%_, _≤_, _<_}
 use native.Mathlib.Omega.{arith}
 use borrow.Author.Tests.{le-leb, lt-leb}
 use lib.ListN.{getD}
-use Rattle.bench_board.specs.Board.{residueOf, callOutcomeOf, runningOf, targetOf}
-use Rattle.bench_board.specs.Meets.{keeping, asking, Makes, MakesOf, MakesIn, Alters}
-use Rattle.bench_board.specs.declared.CallOutcome.{CallOutcome}
-use Rattle.bench_board.specs.declared.Change.{Change}
-use Rattle.bench_board.specs.declared.Registers.{Registers}
-use Rattle.bench_board.specs.declared.Running.{Running}
-use Rattle.bench_board.specs.declared.Running.the-variants.{Idle, Busy}
+use Rattle.bench_calls.specs.Board.{residueOf, callOutcomeOf, runningOf, targetOf}
+use Rattle.bench_calls.specs.Ends.{Makes, MakesOf, Alters}
+use Rattle.bench_board.specs.Meets.{keeping, asking, MakesIn}
+use Rattle.bench_calls.specs.declared.CallOutcome.{CallOutcome}
+use Rattle.bench_calls.specs.declared.Change.{Change}
+use Rattle.bench_calls.specs.declared.Registers.{Registers}
+use Rattle.bench_calls.specs.declared.Running.{Running}
+use Rattle.bench_calls.specs.declared.Running.the-variants.{Idle, Busy}
 use Rattle.flow.specs.declared.Place.{Place}
 use Rattle.flow.specs.declared.Place.the-variants.{InFlash, InLocks, InParams, AtLevel, AtSysreq, AtSysarg, AtTestMode, Elsewhere}
 use Rattle.bench_memory.specs.Acts.{buffersAfter}
@@ -20,7 +21,7 @@ use Rattle.bench_memory.specs.declared.Act.the-variants.{PutWord}
 use Rattle.flow.specs.Calls.{finish}
 use Rattle.flow.specs.Exchange.{levelWord, tick, fetch, isCall, begin, store}
 use Rattle.flow.specs.Target.{Target, busy, setPosted, setSysarg, setTestMode}
-use Rattle.image.specs.Words.{wordAt}
+use Rattle.lent.specs.Words.{wordAt}
 use Rattle.parts.specs.declared.Geometry.{Geometry}
 
 -- an outcome with n busy reads left

@@ -1,16 +1,17 @@
 // The plain board of document 01 as code: registers by value, memory lent, one call for each request.
 ghost use mathlib.Core.Path.{_≡_};
-ghost use Rattle.bench_board.specs.Board.{lent, left, targetOf};
+ghost use Rattle.bench_calls.specs.Board.{lent, left, targetOf};
 ghost use Rattle.bench_board.specs.Meets.{Decides, listsOf, metOf};
 ghost use Rattle.flow.specs.Exchange.{meetOn};
 ghost use Rattle.flow.specs.Exchange as Flow;
 ghost use Rattle.flow.specs.declared.Decoded.the-variants.{Known};
 
-mod calls;
 mod transfers;
 mod words;
 
-use bench_memory::Act;
+use bench_calls::CallOutcome;
+use bench_calls::Change;
+use bench_calls::Registers;
 use flow::Answer;
 use flow::Decoded;
 use flow::LineEvent;
@@ -18,38 +19,6 @@ use flow::Packet;
 use flow::Request;
 use flow::Silicon;
 use parts::Geometry;
-
-// How a call will go: busy reads, then success, or a failure that leaves this SYSARG and, of 0x0D, perhaps the level sent.
-pub struct CallOutcome {
-    pub busy_reads: u32,
-    pub succeeds: bool,
-    pub sysarg: u32,
-    pub new_level: bool,
-}
-
-// A call under way, with its number.
-pub enum Running {
-    Idle,
-    Busy(CallOutcome, u8),
-}
-
-pub struct Registers {
-    pub silicon: Silicon,
-    pub stored: u8,
-    pub effect: u8,
-    pub sysarg: u32,
-    pub sysreq: u32,
-    pub test_mode: u32,
-    pub tar: u32,
-    pub posted: u32,
-    pub running: Running,
-}
-
-// The registers after a request, and what it does to the memory.
-struct Change {
-    registers: Registers,
-    act: Act,
-}
 
 // How a packet is met, before the memory is written.
 struct Decision {
@@ -82,7 +51,7 @@ fn meet_request(
 {
     match q {
         Request::Xres => Decision {
-            change: calls::xres(r),
+            change: bench_calls::xres(r),
             answer: Answer::ResetDone,
             line_used: false,
             call_used: false,
@@ -115,7 +84,7 @@ fn decide(
     ensures { λ d. ⌜ Decides (now (flash .entry)) (now (locks .entry)) (now (params .entry)) r e o d (λ l t. Flow.meet g p l t) ⌝ }
 {
     let filler = e.filler;
-    let d = bench_lines::request_in(p);
+    let d = bench_packets::request_in(p);
     match d {
         Decoded::Known(q) => meet_request(g, r, flash, locks, params, q, e, o),
         Decoded::Unknown => Decision {

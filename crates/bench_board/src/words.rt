@@ -3,15 +3,15 @@ ghost use mathlib.Core.Path.{_≡_};
 ghost use mathlib.Core.Bool.{cond};
 ghost use Prim.Native.Nat.{_%_, _-_, _<_};
 ghost use lib.Dec.{eqb};
-ghost use Rattle.bench_board.specs.Board.{callOutcomeOf, runningOf};
-ghost use Rattle.bench_board.specs.Meets.{keeping, asking, Makes, MakesOf, MakesIn, Alters};
+ghost use Rattle.bench_calls.specs.Board.{callOutcomeOf, runningOf};
+ghost use Rattle.bench_calls.specs.Ends.{Makes, MakesOf, Alters};
+ghost use Rattle.bench_board.specs.Meets.{keeping, asking, MakesIn};
 ghost use Rattle.flow.specs.Exchange.{levelWord, tick, fetch, isCall, begin, store};
 ghost use Rattle.flow.specs.Target.{setPosted, setSysarg, setTestMode};
-use crate::CallOutcome;
-use crate::Change;
-use crate::Registers;
-use crate::Running;
-use crate::calls;
+use bench_calls::CallOutcome;
+use bench_calls::Change;
+use bench_calls::Registers;
+use bench_calls::Running;
 use bench_memory::Act;
 use flow::Place;
 use parts::Geometry;
@@ -113,7 +113,7 @@ fn tick_busy(
     ensures { λ n. ⌜ MakesOf (now (flash .entry)) (now (params .entry)) r n (λ x t. tick g other (runningOf x (Running.Busy o c)) t) ⌝ }
 {
     if o.busy_reads == 0 {
-        return post_sysreq(calls::complete(g, r, flash, params, o, c));
+        return post_sysreq(bench_calls::complete(g, r, flash, params, o, c));
     }
     ask(
         r,
@@ -147,8 +147,8 @@ pub(crate) fn read_word(
     ensures { λ n. ⌜ MakesIn (now (flash .entry)) (now (locks .entry)) (now (params .entry)) r n (λ x t. fetch g other at t) ⌝ }
 {
     match at {
-        Place::InFlash(a) => post(r, image::word_at(flash, a)),
-        Place::InLocks(a) => post(r, image::word_at(locks, a)),
+        Place::InFlash(a) => post(r, lent::word_at(flash, a)),
+        Place::InLocks(a) => post(r, lent::word_at(locks, a)),
         Place::InParams(k) => post(r, bench_memory::word_of(params, k)),
         Place::AtLevel => post(r, level_word(r.stored, other)),
         Place::AtSysreq => read_sysreq(g, r, flash, params, other),

@@ -8,13 +8,13 @@ use borrow.Author.Tests.{eqb-true, not-true, not-false}
 use lib.Dec.{eqb}
 use lib.ListN.{length, set, length-set, length-append}
 use lib.Seq.{sets, length-sets}
-use Rattle.bench_board.specs.Board.{Left, lent, targetOf, runningOf}
+use Rattle.bench_calls.specs.Board.{Left, lent, targetOf, runningOf}
 use Rattle.bench_board.specs.Meets.{listsOf, metOf}
-use Rattle.bench_board.specs.declared.CallOutcome.{CallOutcome}
+use Rattle.bench_calls.specs.declared.CallOutcome.{CallOutcome}
 use Rattle.bench_board.specs.declared.Met.{Met}
-use Rattle.bench_board.specs.declared.Registers.{Registers}
-use Rattle.bench_board.specs.declared.Running.{Running}
-use Rattle.bench_board.specs.declared.Running.the-variants.{Idle, Busy}
+use Rattle.bench_calls.specs.declared.Registers.{Registers}
+use Rattle.bench_calls.specs.declared.Running.{Running}
+use Rattle.bench_calls.specs.declared.Running.the-variants.{Idle, Busy}
 use Rattle.bench_c.specs.BoardAsked.{askedFor, askedOf, numberOf}
 use Rattle.bench_c.specs.BoardBytes.{callOutcomeAt, isCallOutcome, registersIn, isBoard, eventIn, isEvent, packetIn, isPacket, siliconBytes, runBytes, runningBytes, wordsBytes, boardBytes, replyBytes, answerBytes, usedOf, emptied, RunningPut, BoardPut}
 use Rattle.bench_c.specs.BoardCalls.{Bench, benchOf, Benched, benched, benchAfter, isBench, sizesFit, meetFor, meetCall}
@@ -29,7 +29,7 @@ use Rattle.flow.specs.declared.LineEvent.{LineEvent}
 use Rattle.flow.specs.declared.Packet.{Packet}
 use Rattle.flow.specs.declared.Reply.{Reply}
 use Rattle.flow.specs.declared.Silicon.{Silicon}
-use Rattle.image.specs.Words.{lowFirst}
+use Rattle.lent.specs.Words.{lowFirst}
 use Rattle.layout.proofs.Bytes.{sets-whole, put-in}
 use Rattle.layout.specs.Bytes.{flagByte, wordPut}
 use Rattle.parts.proofs.Table.{both}

@@ -6,14 +6,14 @@ use Prim.Native.Nat.{ℕ, _+_, _*_}
 use lib.Dec.{eqb, leb}
 use lib.ListN.{getD}
 use lib.Seq.{sets}
-use Rattle.bench_board.specs.Board.{Buffers, Left, runningOf, targetOf}
-use Rattle.bench_board.specs.declared.CallOutcome.{CallOutcome}
+use Rattle.bench_calls.specs.Board.{Buffers, Left, runningOf, targetOf}
+use Rattle.bench_calls.specs.declared.CallOutcome.{CallOutcome}
 use Rattle.flow.specs.declared.LineEvent.{LineEvent}
 use Rattle.flow.specs.declared.TransferOutcome.{TransferOutcome}
 use Rattle.flow.specs.declared.TransferOutcome.the-variants.{Clean, Waits, Faults, WrongParity, Silent, Noisy}
-use Rattle.bench_board.specs.declared.Registers.{Registers}
-use Rattle.bench_board.specs.declared.Running.{Running}
-use Rattle.bench_board.specs.declared.Running.the-variants.{Idle, Busy}
+use Rattle.bench_calls.specs.declared.Registers.{Registers}
+use Rattle.bench_calls.specs.declared.Running.{Running}
+use Rattle.bench_calls.specs.declared.Running.the-variants.{Idle, Busy}
 use Rattle.flow.specs.Target as Flow
 use Rattle.flow.specs.Target.{Target, Lists, idle, busy}
 use Rattle.flow.specs.declared.Answer.{Answer}
@@ -21,7 +21,7 @@ use Rattle.flow.specs.declared.Answer.the-variants.{ResetDone, Transferred}
 use Rattle.flow.specs.declared.Packet.{Packet}
 use Rattle.flow.specs.declared.Packet.the-variants.{Xres, LineReset, Read, Write}
 use Rattle.flow.specs.declared.Silicon.{Silicon}
-use Rattle.image.specs.Words.{wordAt, lowFirst}
+use Rattle.lent.specs.Words.{wordAt, lowFirst}
 use Rattle.layout.specs.Bytes.{flagByte}
 
 -- ---- found in bytes

@@ -4,9 +4,9 @@ use mathlib.Core.List.{List}
 use Prim.Native.Nat.{ℕ}
 use lib.Dec.{eqb}
 use lib.ListN.{length}
-use Rattle.bench_board.specs.Board.{Left, lent, targetOf}
+use Rattle.bench_calls.specs.Board.{Left, lent, targetOf}
 use Rattle.bench_board.specs.Meets.{listsOf}
-use Rattle.bench_board.specs.declared.CallOutcome.{CallOutcome}
+use Rattle.bench_calls.specs.declared.CallOutcome.{CallOutcome}
 use Rattle.flow.specs.declared.LineEvent.{LineEvent}
 use Rattle.bench_c.specs.BoardBytes.{registersIn, isBoard, eventIn, isEvent, callOutcomeAt, isCallOutcome, packetIn, isPacket, boardBytes, answerBytes, usedIn}
 use Rattle.flow.specs.Exchange as Flow

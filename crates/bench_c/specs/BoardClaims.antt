@@ -2,10 +2,10 @@
 use mathlib.Core.Bool.{true}
 use mathlib.Core.Path.{_≡_}
 use Prim.Native.Nat.{ℕ, _<_}
-use Rattle.bench_board.specs.Board.{Buffers, Left, targetOf}
-use Rattle.bench_board.specs.declared.CallOutcome.{CallOutcome}
-use Rattle.bench_board.specs.declared.Registers.{Registers}
-use Rattle.bench_board.specs.declared.Running.the-variants.{Busy}
+use Rattle.bench_calls.specs.Board.{Buffers, Left, targetOf}
+use Rattle.bench_calls.specs.declared.CallOutcome.{CallOutcome}
+use Rattle.bench_calls.specs.declared.Registers.{Registers}
+use Rattle.bench_calls.specs.declared.Running.the-variants.{Busy}
 use Rattle.bench_c.specs.BoardBytes.{registersIn, isBoard, boardBytes}
 use Rattle.flow.specs.Target.{Target}
 use Rattle.layout.specs.Bytes.{Word}

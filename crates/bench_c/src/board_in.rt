@@ -3,9 +3,9 @@ ghost use mathlib.Core.Path.{_≡_};
 ghost use Prim.Native.Nat.{_+_, _≤_};
 ghost use lib.ListN.{length};
 ghost use Rattle.bench_c.specs.BoardBytes.{callOutcomeAt, isCallOutcome, siliconIn, runningIn, registersIn, isBoard, transferOutcomeIn, eventIn, isEvent, packetIn, isPacket};
-use bench_board::CallOutcome;
-use bench_board::Registers;
-use bench_board::Running;
+use bench_calls::CallOutcome;
+use bench_calls::Registers;
+use bench_calls::Running;
 use flow::LineEvent;
 use flow::Packet;
 use flow::Reply;
@@ -17,8 +17,8 @@ pub(crate) fn call_outcome_at(bytes: &[u8], at: usize) -> CallOutcome
     requires { ⌜ at + 10 ≤ length (now bytes) ⌝ }
     ensures { λ r. ⌜ r ≡ callOutcomeAt (now (bytes .entry)) at ⌝ }
 {
-    let reads = image::word_at(bytes, at);
-    let sysarg = image::word_at(bytes, at + 5);
+    let reads = lent::word_at(bytes, at);
+    let sysarg = lent::word_at(bytes, at + 5);
     CallOutcome {
         busy_reads: reads,
         succeeds: bytes[at + 4] == 1,
@@ -41,8 +41,8 @@ fn silicon_in(bytes: &[u8]) -> Silicon
     requires { ⌜ length (now bytes) ≡ 46 ⌝ }
     ensures { λ r. ⌜ r ≡ siliconIn (now (bytes .entry)) ⌝ }
 {
-    let idcode = image::word_at(bytes, 0);
-    let sum = image::word_at(bytes, 8);
+    let idcode = lent::word_at(bytes, 0);
+    let sum = lent::word_at(bytes, 8);
     Silicon {
         idcode: idcode,
         high: bytes[4],
@@ -71,11 +71,11 @@ pub(crate) fn registers_in(bytes: &[u8]) -> Registers
 {
     let silicon = silicon_in(bytes);
     let running = running_in(bytes);
-    let sysarg = image::word_at(bytes, 14);
-    let sysreq = image::word_at(bytes, 18);
-    let test_mode = image::word_at(bytes, 22);
-    let tar = image::word_at(bytes, 26);
-    let posted = image::word_at(bytes, 30);
+    let sysarg = lent::word_at(bytes, 14);
+    let sysreq = lent::word_at(bytes, 18);
+    let test_mode = lent::word_at(bytes, 22);
+    let tar = lent::word_at(bytes, 26);
+    let posted = lent::word_at(bytes, 30);
     Registers {
         silicon: silicon,
         stored: bytes[12],
@@ -130,8 +130,8 @@ pub(crate) fn event_in(bytes: &[u8]) -> LineEvent
     ensures { λ r. ⌜ r ≡ eventIn (now (bytes .entry)) ⌝ }
 {
     let outcome = transfer_outcome_in(bytes[0]);
-    let word = image::word_at(bytes, 2);
-    let other = image::word_at(bytes, 7);
+    let word = lent::word_at(bytes, 2);
+    let other = lent::word_at(bytes, 7);
     LineEvent {
         outcome: outcome,
         filler: Reply {
@@ -164,7 +164,7 @@ pub(crate) fn packet_in(bytes: &[u8]) -> Packet
     if bytes[0] == 3 {
         return Packet::Read(bytes[1]);
     }
-    let word = image::word_at(bytes, 4);
+    let word = lent::word_at(bytes, 4);
     Packet::Write(bytes[1], word, bytes[2])
 }
 

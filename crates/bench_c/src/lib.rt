@@ -1,7 +1,7 @@
 // The bench board as a call, for tests of hosts: registers, events and answers stand in the caller's bytes (include/halzuqeen_bench.h).
 ghost use mathlib.Core.Path.{_≡_};
 ghost use lib.ListN.{length};
-ghost use Rattle.bench_board.specs.Board.{left};
+ghost use Rattle.bench_calls.specs.Board.{left};
 ghost use Rattle.bench_c.specs.BoardAsked.{askedFor, askedOf, numberOf};
 ghost use Rattle.bench_c.specs.BoardBytes.{answerBytes, usedOf, BoardPut};
 ghost use Rattle.bench_c.specs.BoardCalls.{benchOf, benched, isBench, sizesFit, meetCall};
@@ -9,9 +9,9 @@ ghost use Rattle.bench_c.specs.BoardCalls.{benchOf, benched, isBench, si
 mod board_in;
 mod board_out;
 
-use bench_board::CallOutcome;
 use bench_board::Met;
-use bench_board::Registers;
+use bench_calls::CallOutcome;
+use bench_calls::Registers;
 use board_in::call_outcome_at;
 use board_in::event_in;
 use board_in::is_board;

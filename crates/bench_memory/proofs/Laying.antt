@@ -8,7 +8,7 @@ use lib.Seq.{sets, getD-drop, take-length, take-all, length-take-le}
 use Rattle.flow.specs.Calls.{bytesIn}
 use Rattle.flow.specs.Target.{lay, sized}
 use Rattle.flow.proofs.Lists.{lay-whole}
-use Rattle.image.specs.Words.{lowFirst}
+use Rattle.lent.specs.Words.{lowFirst}
 
 -- ---- laying is storing byte by byte
 

@@ -7,7 +7,7 @@ ghost use Rattle.bench_memory.specs.Acts.{buffersAfter};
 ghost use Rattle.bench_memory.specs.Lent.{lent, left};
 ghost use Rattle.flow.specs.Calls.{bytesIn};
 ghost use Rattle.flow.specs.Target.{lay, sized};
-ghost use Rattle.image.specs.Words.{total, lowFirst};
+ghost use Rattle.lent.specs.Words.{total, lowFirst};
 
 mod effects;
 

@@ -8,7 +8,7 @@ use crate::printing;
 use crate::reading::Case;
 use crate::reading::Overrides;
 use bench_board::Met;
-use bench_board::Registers;
+use bench_calls::Registers;
 use flow::Answer;
 use flow::Packet;
 use parts::Geometry;

@@ -4,22 +4,18 @@ ghost use mathlib.Core.Path.{_≡_};
 ghost use Prim.Native.Nat.{_≤_};
 ghost use lib.Dec.{leb};
 ghost use lib.ListN.{length};
-ghost use Rattle.core_c.specs.Calls.{inTable, answerIn, startInto, readCall, writeCall, startCall, stepCall};
+ghost use Rattle.calls.specs.Calls.{inTable, answerIn, startInto, readCall, writeCall, startCall, stepCall};
 ghost use Rattle.session.specs.Given.{startRefused};
-
-mod decode;
-mod encode;
-
-use decode::answer_in;
-use decode::is_session;
-use decode::record_in;
-use decode::session_in;
-use encode::number_of;
-use encode::put_length;
-use encode::put_outcome;
-use encode::put_record;
-use encode::put_session;
+use encoding::is_session;
+use encoding::number_of;
+use encoding::put_length;
+use encoding::put_outcome;
+use encoding::put_record;
+use encoding::put_session;
+use encoding::record_in;
+use encoding::session_in;
 use flow::Answer;
+use flow::Reply;
 use parts::Lookup;
 use session::Outcome;
 
@@ -75,6 +71,21 @@ fn step_on(bytes: &mut [u8], image: &[u8], a: Answer, outcome: &mut [u8]) -> u32
     let t = given.session;
     put_session(bytes, t);
     0
+}
+
+// The answer that a caller names.
+fn answer_in(reset: u8, ack: u8, word: u32, parity: u8) -> Answer
+    ensures { λ r. ⌜ r ≡ answerIn reset ack word parity ⌝ }
+{
+    if reset == 0 {
+        Answer::Transferred(Reply {
+            ack: ack,
+            word: word,
+            parity: parity,
+        })
+    } else {
+        Answer::ResetDone
+    }
 }
 
 // Takes the answer to the standing request; gives the next request or the report.

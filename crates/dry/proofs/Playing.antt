@@ -6,8 +6,8 @@ use Prim.Native.Nat.{ℕ, suc, _+_, _≤_, _<_}
 use native.Mathlib.Omega.{arith}
 use lib.Dec.{eqb}
 use lib.ListN.{length}
-use Rattle.bench_board.specs.Board.{Buffers, targetOf}
-use Rattle.bench_board.specs.declared.Registers.{Registers}
+use Rattle.bench_calls.specs.Board.{Buffers, targetOf}
+use Rattle.bench_calls.specs.declared.Registers.{Registers}
 use Rattle.dry.specs.Playing.{noLists, nothing, meets, Turns, Started, reportIn, DoneAsPlanned}
 use Rattle.dry.specs.declared.AfterTurn.{AfterTurn}
 use Rattle.dry.proofs.Meets.{same-met}

@@ -8,8 +8,8 @@ use native.Mathlib.Omega.{arith}
 use borrow.Author.Tests.{ne-eqb}
 use lib.Dec.{eqb, lit≤}
 use lib.ListN.{length, drop, drop-of-length-le}
-use Rattle.bench_board.specs.Board.{Buffers}
-use Rattle.bench_board.specs.declared.Registers.{Registers}
+use Rattle.bench_calls.specs.Board.{Buffers}
+use Rattle.bench_calls.specs.declared.Registers.{Registers}
 use Rattle.dry.specs.Runs.{readNumber, ranBy, ranOn}
 use Rattle.dry.specs.Playing.{openFor, Playable, Started, DoneAsPlanned}
 use Rattle.dry.specs.declared.Ran.the-variants.{Refused}

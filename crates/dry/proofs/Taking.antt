@@ -12,11 +12,11 @@ use Rattle.flow.specs.Examples.{partOne}
 use Rattle.hex.specs.Records.{Record, BadRecord, DataRecord, ExtendedAddress, EndRecord, highFirst, typed, recordOf, ofSpelt, ofBody, lineRecord}
 use Rattle.hex.specs.Texts.{upperAfter, eventOf, events, contentOf, hexReading}
 use Rattle.image.specs.Checks.{imageFault}
-use Rattle.image.specs.Sections.{sectionsOf, headerOf}
-use Rattle.image.specs.Words.{total}
+use Rattle.sections.specs.Sections.{sectionsOf, headerOf}
+use Rattle.lent.specs.Words.{total}
 use Rattle.image.specs.declared.Header.{Header}
-use Rattle.image.specs.declared.Location.the-variants.{InHeader}
-use Rattle.image.specs.declared.Section.{Section}
+use Rattle.sections.specs.declared.Location.the-variants.{InHeader}
+use Rattle.sections.specs.declared.Section.{Section}
 use Rattle.parts.specs.Parts.{lookIn}
 use Rattle.parts.specs.Sizes.{rowsOf, flashSize, lockTotal, imageSize}
 use Rattle.text.proofs.Capitals.{AllBytes, bytes-append, bytes-take, bytes-drop, bytes-spelt}

@@ -2,12 +2,12 @@
 use mathlib.Core.List.{List}
 use mathlib.Core.Path.{_≡_, ap, _∙_}
 use Prim.Native.Nat.{ℕ}
-use Rattle.bench_board.specs.Board.{Buffers, targetOf}
+use Rattle.bench_calls.specs.Board.{Buffers, targetOf}
 use Rattle.bench_board.specs.Meets.{listsOf, metOf}
-use Rattle.bench_board.specs.declared.CallOutcome.{CallOutcome}
+use Rattle.bench_calls.specs.declared.CallOutcome.{CallOutcome}
 use Rattle.flow.specs.declared.LineEvent.{LineEvent}
 use Rattle.bench_board.specs.declared.Met as Code
-use Rattle.bench_board.specs.declared.Registers.{Registers}
+use Rattle.bench_calls.specs.declared.Registers.{Registers}
 use Rattle.dry.specs.Playing.{nothing, calmEvent, calmOutcome, meets, Turns}
 use Rattle.dry.proofs.Meets.{handed, same-met}
 use Rattle.flow.specs.Exchange.{Met, meet}

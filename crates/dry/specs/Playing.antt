@@ -4,12 +4,12 @@ use mathlib.Core.Bool.{true, false}
 use mathlib.Core.List.{List, []}
 use mathlib.Core.Path.{_≡_}
 use Prim.Native.Nat.{ℕ, _<_}
-use Rattle.bench_board.specs.Board.{Buffers, Left, left, targetOf}
-use Rattle.bench_board.specs.declared.CallOutcome.{CallOutcome}
+use Rattle.bench_calls.specs.Board.{Buffers, Left, left, targetOf}
+use Rattle.bench_calls.specs.declared.CallOutcome.{CallOutcome}
 use Rattle.flow.specs.declared.LineEvent.{LineEvent}
 use Rattle.flow.specs.declared.TransferOutcome.the-variants.{Clean}
-use Rattle.bench_board.specs.declared.Registers.{Registers}
-use Rattle.bench_board.specs.declared.Running.the-variants.{Idle}
+use Rattle.bench_calls.specs.declared.Registers.{Registers}
+use Rattle.bench_calls.specs.declared.Running.the-variants.{Idle}
 use Rattle.dry.specs.declared.AfterTurn.{AfterTurn}
 use Rattle.flow.specs.Terms.{Passes, Startable, RightPart}
 use Rattle.flow.specs.Examples.{partOne}

@@ -2,7 +2,7 @@
 ghost use mathlib.Core.Path.{_≡_};
 ghost use Prim.Native.Nat.{_+_};
 ghost use lib.ListN.{length, take, drop};
-ghost use Rattle.bench_board.specs.Board.{lent};
+ghost use Rattle.bench_calls.specs.Board.{lent};
 ghost use Rattle.dry.specs.Playing.{calmEvent, calmOutcome, openFor, Turns, Playable, Started, reportIn, DoneAsPlanned};
 ghost use Rattle.dry.specs.Runs.{ranBy, ranOn, LineOf};
 ghost use Rattle.flow.specs.Examples.{partOne};
@@ -11,9 +11,9 @@ ghost use Rattle.session.specs.Calls.{standing};
 
 mod lines;
 
-use bench_board::CallOutcome;
-use bench_board::Registers;
-use bench_board::Running;
+use bench_calls::CallOutcome;
+use bench_calls::Registers;
+use bench_calls::Running;
 use flow::LineEvent;
 use flow::Packet;
 use flow::Reply;

@@ -7,7 +7,7 @@ use Rattle.flow.specs.Plan.{plan}
 use Rattle.flow.specs.Sequence.{write, read, call, writes, listed, privileged, programRow}
 use Rattle.hex.specs.Records.{lineRecord, ofBody, ofSpelt, recordOf, typed}
 use Rattle.hex.specs.Texts.{upperAfter}
-use Rattle.image.specs.Words.{total, wordAt, wordsAt}
+use Rattle.lent.specs.Words.{total, wordAt, wordsAt}
 use Rattle.parts.specs.Sizes.{rowsOf, locksIn}
 use Rattle.text.specs.Digits.{digitOf, spelt, withByte}
 use Rattle.text.specs.Lines.{withoutCR}

@@ -10,7 +10,7 @@ use Rattle.flow.specs.declared.Entry.the-variants.{FromOpen}
 use Rattle.flow.specs.declared.Purpose.the-variants.{Keep}
 use Rattle.hex.specs.Records.{Record, BadRecord, DataRecord, ExtendedAddress, EndRecord, lineRecord}
 use Rattle.hex.specs.Texts.{upperAfter}
-use Rattle.image.specs.Words.{total}
+use Rattle.lent.specs.Words.{total}
 use Rattle.parts.specs.Levels.{isLevel}
 use Rattle.parts.specs.declared.Level.the-variants.{Open}
 use Rattle.text.specs.Lines.{Ended}

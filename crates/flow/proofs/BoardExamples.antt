@@ -10,7 +10,7 @@ use Rattle.flow.specs.Exchange.{Met, decode, carry, barred, noisyAck, tr
 use Rattle.flow.specs.Map.{search, regions, lockRegions}
 use Rattle.flow.specs.Target.{Target, Lists, nextEvent}
 use Rattle.flow.specs.declared.Request.the-variants.{ReadIdcode, ReadDrw, WriteTar, WriteDrw}
-use Rattle.image.specs.Words.{total, wordAt}
+use Rattle.lent.specs.Words.{total, wordAt}
 use Rattle.parts.specs.Sizes.{rowsOf, locksIn, flashSize}
 
 -- a packet of a known request is met as that request

@@ -17,7 +17,7 @@ use Rattle.flow.specs.declared.Request.{Request}
 use Rattle.flow.specs.declared.Request.the-variants.{Xres, LineReset, ReadIdcode, ReadDrw, WriteTar, WriteDrw, WriteSetup}
 use Rattle.flow.proofs.Table.{Facts, facts}
 use Rattle.image.specs.Image.{Image, imageOf}
-use Rattle.image.specs.Words.{wordsAt}
+use Rattle.lent.specs.Words.{wordsAt}
 use Rattle.parts.specs.Sizes.{rowBytes, macrosOf, rowsOf, locksIn, imoOf, PARAMS}
 use Rattle.parts.specs.declared.Geometry.{Geometry}
 

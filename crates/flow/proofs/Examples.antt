@@ -3,7 +3,7 @@ use mathlib.Core.List.{[], _∷_}
 use mathlib.Core.Path.{refl}
 use Rattle.flow.specs.Examples.{p5, p6, p7}
 use Rattle.flow.specs.Sequence.{write, read, call, writes, listed, privileged, programRow}
-use Rattle.image.specs.Words.{wordAt, wordsAt}
+use Rattle.lent.specs.Words.{wordAt, wordsAt}
 use Rattle.wire.specs.Examples.{Each, none, more}
 
 pub key-examples : Each (p5 ∷ p6 ∷ p7 ∷ [])

@@ -35,7 +35,7 @@ use Rattle.flow.proofs.Reaches.{Allowance, withTransfer, withMoves, Env
 use Rattle.flow.proofs.Table.{Facts}
 use Rattle.flow.proofs.Verifying.{flash-leg, macros-leg, level-leg}
 use Rattle.image.specs.Image.{Image}
-use Rattle.image.specs.Words.{total}
+use Rattle.lent.specs.Words.{total}
 use Rattle.parts.specs.Sizes.{rowBytes, macrosOf, rowsOf, sysargOf, levelAt}
 use Rattle.parts.specs.declared.Geometry.{Geometry}
 

@@ -1,7 +1,7 @@
 -- The examples of what each word is judged by hold. Assumes nothing.
 use mathlib.Core.Path.{refl}
 use Rattle.flow.specs.Judge.{judge}
-use Rattle.image.specs.Words.{wordAt}
+use Rattle.lent.specs.Words.{wordAt}
 use Rattle.parts.specs.Sizes.{locksIn}
 use Rattle.flow.specs.Judgements.{JudgeExamples}
 use Rattle.flow.specs.Words.{free, testBitSet, succeeded, idsFit, levelShown, sumsFit}

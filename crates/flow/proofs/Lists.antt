@@ -8,7 +8,7 @@ use lib.ListN.{length, getD, take, drop, replicate, length-append, length-take, 
 use lib.Seq.{drop-cons, drop-drop, drop-at, getD-drop, take-append-seam, drop-append-add, take-append-add, length-take-le, take-all, take-at}
 use Rattle.flow.specs.Calls.{bytesIn}
 use Rattle.flow.specs.Target.{lay}
-use Rattle.image.specs.Words.{total, wordAt, lowFirst, wordsAt}
+use Rattle.lent.specs.Words.{total, wordAt, lowFirst, wordsAt}
 
 -- every element is a byte
 abbrev pub Small : List ℕ → Type 0

@@ -2,7 +2,7 @@
 use mathlib.Core.Path.{refl}
 use Rattle.flow.specs.OrderExamples.{marks, OrderExamples}
 use Rattle.flow.specs.Sequence.{write, read, call, writes, listed, inTurn, privileged, programRow, verifyRow, lockMacro, verifyMacro, program}
-use Rattle.image.specs.Words.{wordAt, wordsAt}
+use Rattle.lent.specs.Words.{wordAt, wordsAt}
 use Rattle.parts.specs.Sizes.{rowsOf, locksIn}
 
 pub order-examples : OrderExamples

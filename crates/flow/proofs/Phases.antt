@@ -20,7 +20,7 @@ use Rattle.flow.proofs.Lists.{Small}
 use Rattle.flow.proofs.Reaches.{RightIds, Frame}
 use Rattle.flow.proofs.Table.{Facts}
 use Rattle.image.specs.Image.{Image}
-use Rattle.image.specs.Words.{total}
+use Rattle.lent.specs.Words.{total}
 use Rattle.parts.specs.Sizes.{rowBytes, macrosOf, rowsPerMacro, rowsOf, flashSize, lockTotal}
 use Rattle.parts.specs.declared.Geometry.{Geometry}
 

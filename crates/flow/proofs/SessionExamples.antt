@@ -9,7 +9,7 @@ use Rattle.flow.specs.Sequence.{sequence, opening, acquire, silicon, cal
 use Rattle.flow.specs.Session.{stepOf}
 use Rattle.flow.specs.SessionExamples.{MoveExamples, Ends, SessionExamples}
 use Rattle.flow.proofs.Mishaps.{right, right-idcode}
-use Rattle.image.specs.Words.{wordAt, wordsAt}
+use Rattle.lent.specs.Words.{wordAt, wordsAt}
 use Rattle.parts.specs.Sizes.{rowsOf, locksIn}
 use Rattle.wire.specs.Wire.{ackOf}
 use Rattle.flow.specs.Words.{free, succeeded}

@@ -30,9 +30,9 @@ use Rattle.flow.proofs.Places.{place-flash, place-locks, place-level}
 use Rattle.flow.proofs.Polling.{idleAt}
 use Rattle.flow.proofs.Reaches.{Allowance, withTransfer, withRead, withMoves, Env, sync, Frame, at-rest, Stood, Stands, Reaches, tally}
 use Rattle.flow.proofs.Table.{Facts}
-use Rattle.image.proofs.Words.{part-word}
+use Rattle.lent.proofs.Words.{part-word}
 use Rattle.image.specs.Image.{Image}
-use Rattle.image.specs.Words.{wordAt}
+use Rattle.lent.specs.Words.{wordAt}
 use Rattle.parts.specs.Sizes.{rowBytes, macrosOf, rowsOf, flashSize, locksIn, locksAt, levelAt}
 use Rattle.parts.specs.declared.Geometry.{Geometry}
 use Rattle.flow.specs.declared.Way.the-variants.{Onward}

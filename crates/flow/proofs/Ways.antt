@@ -17,7 +17,7 @@ use Rattle.flow.specs.declared.Purpose.{Purpose}
 use Rattle.flow.specs.declared.Purpose.the-variants.{Sent, Idcode, TestBit, Poll, Status, Keep, EntryLevel, Reopened, FlashWord, LockWord, StoredLevel, LastSum}
 use Rattle.flow.specs.declared.Way.the-variants.{Onward, Stay, ToReset, ToPoll, Enter}
 use Rattle.image.specs.Image.{Image}
-use Rattle.image.specs.Words.{sameWord}
+use Rattle.lent.specs.Words.{sameWord}
 
 -- back only from a poll or an attempt, by an entry only where the level is read, to a report only from a transfer
 pub data Leads (m : Move) : Next → Type 0 where

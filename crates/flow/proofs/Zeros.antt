@@ -8,8 +8,8 @@ use lib.Dec.{eqb, ltb}
 use lib.ListN.{length, getD, take, drop, replicate, length-take, List·getD-eq-default}
 use lib.Seq.{getD-take, getD-drop}
 use borrow.Author.Tests.{ltb-true, ltb-false}
-use Rattle.image.specs.Checks.{rowWords, cancels, someCancels}
-use Rattle.image.specs.Words.{total, allZero, wordAt, wordsAt}
+use Rattle.rows.specs.Cancels.{rowWords, cancels, someCancels}
+use Rattle.lent.specs.Words.{total, allZero, wordAt, wordsAt}
 
 abbrev pub Zeros : List ℕ → Type 0
 Zeros l = (j : ℕ) → getD l j 0 ≡ 0

@@ -7,7 +7,7 @@ use lib.ListN.{length, getD, take, drop, replicate}
 use Rattle.flow.specs.Sequence.{lockStart}
 use Rattle.flow.specs.Target.{Memory, Residue, Target, Running, idle, busy, lay, sized, setEnded, setReset}
 use Rattle.flow.specs.declared.Silicon.{Silicon}
-use Rattle.image.specs.Words.{total, lowFirst}
+use Rattle.lent.specs.Words.{total, lowFirst}
 use Rattle.parts.specs.Sizes.{rowBytes, locksIn, PARAMS}
 use Rattle.parts.specs.declared.Geometry.{Geometry}
 

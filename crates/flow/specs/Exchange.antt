@@ -22,7 +22,7 @@ use Rattle.flow.specs.declared.Request.{Request}
 use Rattle.flow.specs.declared.Request.the-variants.{Xres, LineReset, ReadIdcode, ReadDrw, WriteTar, WriteDrw, WriteSetup}
 use Rattle.flow.specs.declared.TransferOutcome.{TransferOutcome}
 use Rattle.flow.specs.declared.TransferOutcome.the-variants.{Clean, Waits, Faults, WrongParity, Silent, Noisy}
-use Rattle.image.specs.Words.{wordAt}
+use Rattle.lent.specs.Words.{wordAt}
 use Rattle.parts.specs.declared.Geometry.{Geometry}
 use Rattle.wire.specs.Wire.{parity, isAck}
 use Rattle.wire.specs.declared.Ack.the-variants.{Noise}

@@ -13,7 +13,7 @@ use Rattle.flow.specs.declared.Purpose.{Purpose}
 use Rattle.flow.specs.declared.Purpose.the-variants.{Sent, Idcode, TestBit, Poll, Status, Keep, EntryLevel, Reopened, FlashWord, LockWord, StoredLevel, LastSum}
 use Rattle.flow.specs.declared.Way.the-variants.{Onward, ToPoll, Enter}
 use Rattle.image.specs.Image.{Image}
-use Rattle.image.specs.Words.{sameWord, partOf}
+use Rattle.lent.specs.Words.{sameWord, partOf}
 use Rattle.image.specs.declared.Header.{Header}
 use Rattle.parts.specs.Sizes.{rowBytes, locksIn}
 use Rattle.parts.specs.declared.Geometry.{Geometry}

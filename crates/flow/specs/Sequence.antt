@@ -10,7 +10,7 @@ use Rattle.flow.specs.declared.Purpose.the-variants.{Sent, Idcode, TestB
 use Rattle.flow.specs.declared.Request.{Request}
 use Rattle.flow.specs.declared.Request.the-variants.{Xres, LineReset, ReadIdcode, ReadDrw, WriteTar, WriteDrw, WriteSetup}
 use Rattle.image.specs.Image.{Image}
-use Rattle.image.specs.Words.{wordsAt}
+use Rattle.lent.specs.Words.{wordsAt}
 use Rattle.parts.specs.Sizes.{rowBytes, macrosOf, rowsPerMacro, rowsOf, locksIn, sysreqOf, sysargOf, PARAMS, TEST-MODE, locksAt, levelAt, imoOf}
 use Rattle.parts.specs.declared.Geometry.{Geometry}
 use Rattle.wire.specs.declared.Register.the-variants.{CtrlStat, Select, Csw}

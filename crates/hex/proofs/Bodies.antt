@@ -14,7 +14,7 @@ use Rattle.hex.specs.declared.Found.{Found}
 use Rattle.hex.specs.declared.Found.the-variants.{Refused, Payload, Extended, Ended}
 use Rattle.hex.specs.declared.Frame.{Frame}
 use Rattle.hex.specs.declared.Frame.the-variants.{Broken, Framed}
-use Rattle.image.specs.Words.{total}
+use Rattle.lent.specs.Words.{total}
 
 -- the low half of a record's address, and its payload
 abbrev pub lowIn : List ℕ → ℕ

@@ -11,7 +11,7 @@ use Rattle.hex.specs.Texts.{upperAfter, eventOf, events, contentOf}
 use Rattle.hex.proofs.Taken.{taken-from, one-image}
 use Rattle.image.specs.Checks.{imageFault}
 use Rattle.image.specs.declared.Header.{Header}
-use Rattle.image.specs.declared.Section.{Section}
+use Rattle.sections.specs.declared.Section.{Section}
 use Rattle.text.specs.Lines.{Line, Ended, Open, linesOf}
 use Rattle.text.specs.Placing.{Event, Bad, Other, Data, End, Refusal, Stream, prepend, fits, dueAfter, placing}
 use Rattle.text.proofs.Lines.{AllEnded, lines-append, some-line}

@@ -11,7 +11,7 @@ use lib.ListN.{length, getD, take, drop, length-drop, length-append, take-append
 use lib.Seq.{drop-drop, drop-cons, sets, length-sets, length-take-le, take-at}
 use Rattle.hex.specs.Records.{BadRecord, recordOf, ofSpelt, ofBody, lineRecord}
 use Rattle.hex.specs.Steps.{LineAt, LineTo, Spelled}
-use Rattle.image.specs.Words.{total}
+use Rattle.lent.specs.Words.{total}
 use Rattle.text.specs.Digits.{Spelt, Unreadable, Spells, spelt}
 use Rattle.text.specs.Lines.{Line, Ended, Open, linesOf, withoutCR}
 use Rattle.text.specs.Spelling.{front, pairsAt, hasPairs, pairRunOf, rowAfter, lineEnd}

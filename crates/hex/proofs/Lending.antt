@@ -7,10 +7,10 @@ use lib.ListN.{length, take, drop}
 use lib.Seq.{take-at, drop-at, length-take-le}
 use Rattle.hex.specs.Steps.{filledIn}
 use Rattle.image.specs.Image.{flashIn, protectionIn}
-use Rattle.image.specs.Sections.{locationBytes}
-use Rattle.image.specs.declared.Location.{Location}
-use Rattle.image.specs.declared.Location.the-variants.{InFlash, InProtection, InHeader}
-use Rattle.image.specs.declared.Section.{Section}
+use Rattle.sections.specs.Sections.{locationBytes}
+use Rattle.sections.specs.declared.Location.{Location}
+use Rattle.sections.specs.declared.Location.the-variants.{InFlash, InProtection, InHeader}
+use Rattle.sections.specs.declared.Section.{Section}
 use Rattle.parts.specs.Sizes.{flashSize}
 use Rattle.parts.specs.declared.Geometry.{Geometry}
 use Rattle.text.proofs.Storing.{stored-length, tail-part, put-tail}

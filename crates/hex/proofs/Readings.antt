@@ -15,9 +15,9 @@ use Rattle.hex.specs.declared.Scanned.{Scanned}
 use Rattle.hex.specs.declared.Scanned.the-variants.{Bad, Whole}
 use Rattle.image.specs.Checks.{imageFault}
 use Rattle.image.specs.Image.{noHeader}
-use Rattle.image.specs.Sections.{sectionsOf, headerOf}
+use Rattle.sections.specs.Sections.{sectionsOf, headerOf}
 use Rattle.image.specs.declared.Header.{Header}
-use Rattle.image.specs.declared.Location.the-variants.{InFlash, InProtection, InHeader}
+use Rattle.sections.specs.declared.Location.the-variants.{InFlash, InProtection, InHeader}
 use Rattle.parts.specs.Parts.{lookupOf}
 use Rattle.parts.specs.Sizes.{flashSize, imageSize}
 use Rattle.parts.specs.declared.Geometry.{Geometry}

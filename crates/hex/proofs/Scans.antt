@@ -14,10 +14,10 @@ use Rattle.hex.specs.declared.Due.{Due}
 use Rattle.hex.specs.declared.Scanned.the-variants.{Bad, Whole}
 use Rattle.hex.specs.declared.Turn.{Turn}
 use Rattle.hex.specs.declared.Turn.the-variants.{Stop, Done, Moved, Store}
-use Rattle.image.proofs.Sections.{locationSize, location-length}
-use Rattle.image.specs.Sections.{sectionsOf, noSection, locationBytes}
-use Rattle.image.specs.declared.Location.{Location}
-use Rattle.image.specs.declared.Section.{Section}
+use Rattle.sections.proofs.Sections.{locationSize, location-length}
+use Rattle.sections.specs.Sections.{sectionsOf, noSection, locationBytes}
+use Rattle.sections.specs.declared.Location.{Location}
+use Rattle.sections.specs.declared.Section.{Section}
 use Rattle.parts.specs.Sizes.{flashSize, imageSize}
 use Rattle.parts.specs.declared.Geometry.{Geometry}
 use Rattle.text.specs.Placing.{Content, Refusal, Stream, prepend, dueAfter, restOf, sameLocation}

@@ -8,9 +8,9 @@ use borrow.Author.Tests.{leb-true, ne-eqb}
 use lib.Dec.{eqb, leb}
 use lib.ListN.{getD, drop, drop-of-length-le}
 use Rattle.hex.specs.Steps.{TableSizes, dues}
-use Rattle.image.proofs.Sections.{locationSize}
-use Rattle.image.specs.Sections.{sectionsOf, noSection}
-use Rattle.image.specs.declared.Section.{Section}
+use Rattle.sections.proofs.Sections.{locationSize}
+use Rattle.sections.specs.Sections.{sectionsOf, noSection}
+use Rattle.sections.specs.declared.Section.{Section}
 use Rattle.parts.specs.Parts.{part1, part2, part3, offers, lookIn, lookupOf}
 use Rattle.parts.specs.Sizes.{rowsOf, flashSize, lockTotal}
 use Rattle.parts.specs.declared.Geometry.{Geometry}

@@ -10,9 +10,9 @@ use lib.ListN.{length}
 use Rattle.hex.specs.Claims.{Takes}
 use Rattle.hex.specs.Texts.{events, contentOf}
 use Rattle.image.specs.Checks.{imageFault}
-use Rattle.image.specs.Sections.{sectionsOf, headerOf}
+use Rattle.sections.specs.Sections.{sectionsOf, headerOf}
 use Rattle.image.specs.declared.Header.{Header}
-use Rattle.image.specs.declared.Location.the-variants.{InHeader}
+use Rattle.sections.specs.declared.Location.the-variants.{InHeader}
 use Rattle.parts.proofs.Table.{everywhere, entry, both}
 use Rattle.parts.specs.Parts.{partTable, lookupOf}
 use Rattle.parts.specs.Sizes.{flashSize, lockTotal, imageSize, rowsOf}

@@ -14,7 +14,7 @@ use Rattle.hex.specs.Texts.{upperAfter, eventOf, events}
 use Rattle.hex.specs.declared.Found.{Found}
 use Rattle.hex.specs.declared.Found.the-variants.{Refused, Payload, Extended, Ended}
 use Rattle.hex.specs.declared.Turn.the-variants.{Stop, Done, Moved, Store}
-use Rattle.image.specs.declared.Section.{Section}
+use Rattle.sections.specs.declared.Section.{Section}
 use Rattle.text.specs.Lines.{Line, linesOf}
 use Rattle.text.specs.Placing.{Event, Data, Refusal, Stream, placing}
 use Rattle.text.proofs.Lines.{some-line}

@@ -5,7 +5,7 @@ use borrow.Author.Tests.{le-leb, lt-leb, eq-eqb, ne-eqb}
 use Rattle.hex.specs.Steps.{foundOf, dataTurn, endTurn}
 use Rattle.hex.specs.declared.Found.the-variants.{Refused, Payload, Extended, Ended}
 use Rattle.hex.specs.declared.Turn.the-variants.{Stop, Done, Store}
-use Rattle.image.specs.declared.Section.{Section}
+use Rattle.sections.specs.declared.Section.{Section}
 
 -- a record by its type
 module _ (kind low count upper : ℕ) where

@@ -7,7 +7,7 @@ use Rattle.hex.specs.Records.{Record, BadRecord, DataRecord, ExtendedAdd
 use Rattle.hex.specs.Texts.{contentOf, hexReading}
 use Rattle.image.specs.Checks.{imageFault}
 use Rattle.image.specs.declared.Header.{Header}
-use Rattle.image.specs.declared.Section.{Section}
+use Rattle.sections.specs.declared.Section.{Section}
 use Rattle.text.specs.Lines.{Line, linesOf}
 use Rattle.text.specs.Placing.{Refusal, Stream, overall}
 use Rattle.text.specs.Reading.{Taken}

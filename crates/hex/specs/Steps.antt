@@ -16,10 +16,10 @@ use Rattle.hex.specs.declared.Scanned.{Scanned}
 use Rattle.hex.specs.declared.Scanned.the-variants.{Bad, Whole}
 use Rattle.hex.specs.declared.Turn.{Turn}
 use Rattle.hex.specs.declared.Turn.the-variants.{Stop, Done, Moved, Store}
-use Rattle.image.specs.Sections.{sectionsOf, noSection, locationBytes}
-use Rattle.image.specs.Words.{total}
-use Rattle.image.specs.declared.Location.{Location}
-use Rattle.image.specs.declared.Section.{Section}
+use Rattle.sections.specs.Sections.{sectionsOf, noSection, locationBytes}
+use Rattle.lent.specs.Words.{total}
+use Rattle.sections.specs.declared.Location.{Location}
+use Rattle.sections.specs.declared.Section.{Section}
 use Rattle.parts.specs.Sizes.{flashSize, lockTotal, imageSize}
 use Rattle.parts.specs.declared.Geometry.{Geometry}
 use Rattle.text.specs.Lines.{Line, linesOf}

@@ -5,7 +5,7 @@ use Prim.Native.Nat.{ℕ, _+_, _*_}
 use lib.Dec.{leb}
 use lib.ListN.{length}
 use Rattle.hex.specs.Records.{Record, BadRecord, DataRecord, ExtendedAddress, EndRecord, lineRecord}
-use Rattle.image.specs.declared.Section.{Section}
+use Rattle.sections.specs.declared.Section.{Section}
 use Rattle.text.specs.Lines.{Line, linesOf}
 use Rattle.text.specs.Placing.{Event, Bad, Other, Data, End, Content, placing}
 use Rattle.text.specs.Reading.{Reading, readingOf}

@@ -4,10 +4,10 @@ use mathlib.Core.List.{List, [], _∷_, _++_}
 use Prim.Native.Nat.{ℕ, _+_, _-_, _*_, _/_, _%_}
 use lib.Dec.{eqb}
 use lib.ListN.{length}
-use Rattle.image.specs.Sections.{sectionsOf, sectionBytes}
-use Rattle.image.specs.Words.{total}
+use Rattle.sections.specs.Sections.{sectionsOf, sectionBytes}
+use Rattle.lent.specs.Words.{total}
 use Rattle.image.specs.declared.Header.{Header}
-use Rattle.image.specs.declared.Section.{Section}
+use Rattle.sections.specs.declared.Section.{Section}
 use Rattle.parts.specs.declared.Geometry.{Geometry}
 use Rattle.text.specs.Digits.{pairsOf}
 use Rattle.text.specs.Placing.{Piece, piecesIn, pieces, overall}

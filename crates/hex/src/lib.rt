@@ -5,15 +5,15 @@ ghost use lib.ListN.{length};
 ghost use Rattle.hex.specs.Steps.{FrameAt, foundIn, FoundAt, dataTurn, endTurn, TurnAt, ToFill, advancedOf, filledIn, ScannedAs};
 ghost use Rattle.hex.specs.Texts.{contentOf, hexReading};
 ghost use Rattle.image.specs.Image.{flashIn, protectionIn};
-ghost use Rattle.image.specs.Sections.{sectionsOf};
-ghost use Rattle.image.specs.declared.Location.the-variants.{InFlash, InProtection, InHeader};
+ghost use Rattle.sections.specs.Sections.{sectionsOf};
+ghost use Rattle.sections.specs.declared.Location.the-variants.{InFlash, InProtection, InHeader};
 ghost use Rattle.parts.specs.Parts.{lookupOf};
 ghost use Rattle.parts.specs.Sizes.{flashSize, imageSize};
 ghost use Rattle.text.specs.Reading.{judged, answerOf, bufferAfter};
-use image::Location;
-use image::Section;
 use parts::Geometry;
 use parts::Lookup;
+use sections::Location;
+use sections::Section;
 use text::ReadAnswer;
 
 // The frame of a line: it is broken, or has so many payload bytes, a sum, and a place where the next line begins.
@@ -214,7 +214,7 @@ fn advanced(g: Geometry, due: Due, count: usize) -> Due
     let next = due.next;
     if count == s.size {
         return Due {
-            section: image::section_at(g, next),
+            section: sections::section_at(g, next),
             next: next + 1,
         };
     }
@@ -263,7 +263,7 @@ fn scan(g: Geometry, text: &[u8], image: &mut [u8], header: &mut [u8]) -> Scanne
     let mut at: usize = 0;
     let mut upper: u32 = 0;
     let mut due = Due {
-        section: image::section_at(g, 0),
+        section: sections::section_at(g, 0),
         next: 1,
     };
     loop {

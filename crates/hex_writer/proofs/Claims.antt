@@ -16,9 +16,9 @@ use Rattle.hex_writer.proofs.Data.{data-bytes}
 use Rattle.hex_writer.proofs.Lengths.{text-length}
 use Rattle.hex_writer.proofs.RoundTrip as trip
 use Rattle.hex_writer.proofs.Written.{written-from, writes, some-number}
-use Rattle.image.specs.Sections.{sectionsOf, headerOf}
+use Rattle.sections.specs.Sections.{sectionsOf, headerOf}
 use Rattle.image.specs.declared.Header.{Header}
-use Rattle.image.specs.declared.Location.the-variants.{InHeader}
+use Rattle.sections.specs.declared.Location.the-variants.{InHeader}
 use Rattle.parts.specs.Parts.{lookupOf}
 use Rattle.parts.specs.Sizes.{flashSize, lockTotal, imageSize}
 use Rattle.parts.specs.declared.Geometry.{Geometry}

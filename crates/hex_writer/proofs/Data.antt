@@ -7,7 +7,7 @@ use lib.Dec.{eqb, leb}
 use lib.ListN.{length, getD, take, drop}
 use Rattle.hex.specs.Records.{Record, BadRecord, DataRecord, ExtendedAddress, EndRecord, highFirst, typed, recordOf, ofSpelt, ofBody, lineRecord}
 use Rattle.hex.specs.Texts.{upperAfter, eventOf, events}
-use Rattle.image.specs.Words.{total}
+use Rattle.lent.specs.Words.{total}
 use Rattle.text.proofs.Capitals.{AllBytes, bytes-spelt, bytes-append, bytes-take, bytes-drop}
 use Rattle.text.proofs.Pieces.{dataOf}
 use Rattle.text.specs.Digits.{Spelt, Unreadable, Spells, spelt}

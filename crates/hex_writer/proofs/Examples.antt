@@ -2,7 +2,7 @@
 use mathlib.Core.Path.{refl}
 use Rattle.hex.specs.Written.{lineText}
 use Rattle.hex_writer.specs.Examples.{LineExamples}
-use Rattle.image.specs.Words.{total}
+use Rattle.lent.specs.Words.{total}
 use Rattle.text.specs.Digits.{capital, pairsOf}
 
 pub line-examples : LineExamples

@@ -12,9 +12,9 @@ use Rattle.hex_writer.specs.Lines.{upperPast, positionAfter}
 use Rattle.hex_writer.specs.Sized.{Sized, Laid}
 use Rattle.hex_writer.proofs.Lines.{data-length, extended-length, upper-same, upper-new, lines-append}
 use Rattle.hex_writer.proofs.Whole.{linesLength, laid-at, text-lines, text-room}
-use Rattle.image.specs.Sections.{sectionsOf, noSection, sectionBytes}
+use Rattle.sections.specs.Sections.{sectionsOf, noSection, sectionBytes}
 use Rattle.image.specs.declared.Header.{Header}
-use Rattle.image.specs.declared.Section.{Section}
+use Rattle.sections.specs.declared.Section.{Section}
 use Rattle.parts.specs.Sizes.{flashSize}
 use Rattle.parts.specs.declared.Geometry.{Geometry}
 use Rattle.text.specs.Placing.{Piece, cut, piecesIn, pieces, overall}

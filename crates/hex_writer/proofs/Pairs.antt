@@ -8,7 +8,7 @@ use lib.ListN.{length, getD, set, drop, length-set, drop-of-length-le}
 use lib.Seq.{sets, drop-cons}
 use Rattle.hex_writer.specs.Lines.{capitalsFrom}
 use Rattle.hex.specs.Written.{sumByte, lineText}
-use Rattle.image.specs.Words.{total}
+use Rattle.lent.specs.Words.{total}
 use Rattle.text.proofs.Storing.{sets-append}
 use Rattle.text.specs.Digits.{capital, pairsOf}
 

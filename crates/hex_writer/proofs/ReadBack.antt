@@ -13,7 +13,7 @@ use Rattle.hex.specs.Texts.{upperAfter, eventOf, events}
 use Rattle.hex.specs.Written.{sumByte, lineText, dataLine, extendedLine, endLine, newUpper, upperOf, lowOf, linesFrom, writtenText}
 use Rattle.hex_writer.proofs.Pairs.{total-append}
 use Rattle.hex_writer.proofs.Lines.{upper-same, upper-new}
-use Rattle.image.specs.Words.{total}
+use Rattle.lent.specs.Words.{total}
 use Rattle.text.proofs.Capitals.{AllBytes, bytes-append, bytes-take, bytes-drop, pairs-digits, spelt-pairs}
 use Rattle.text.proofs.Lines.{lines-cut, digits-no-lf, no-lf-append, cr-bare}
 use Rattle.text.proofs.Pieces.{Says}

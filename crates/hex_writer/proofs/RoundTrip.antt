@@ -15,14 +15,14 @@ use Rattle.hex_writer.specs.Sized.{Sized}
 use Rattle.hex_writer.proofs.Lengths.{size-at}
 use Rattle.hex_writer.proofs.ReadBack.{AllFitRecords, fits-append, cut-fits, text-says}
 use Rattle.hex.proofs.Sizes as table
-use Rattle.image.proofs.Sections.{headerWith, location-length}
+use Rattle.sections.proofs.Sections.{headerWith, location-length}
 use Rattle.image.specs.Checks.{imageFault}
 use Rattle.image.specs.Image.{flashIn, protectionIn}
-use Rattle.image.specs.Sections.{sectionsOf, noSection, sectionBytes, locationBytes, headerBytes, headerOf}
+use Rattle.sections.specs.Sections.{sectionsOf, noSection, sectionBytes, locationBytes, headerBytes, headerOf}
 use Rattle.image.specs.declared.Header.{Header}
-use Rattle.image.specs.declared.Location.{Location}
-use Rattle.image.specs.declared.Location.the-variants.{InFlash, InProtection, InHeader}
-use Rattle.image.specs.declared.Section.{Section}
+use Rattle.sections.specs.declared.Location.{Location}
+use Rattle.sections.specs.declared.Location.the-variants.{InFlash, InProtection, InHeader}
+use Rattle.sections.specs.declared.Section.{Section}
 use Rattle.parts.specs.Parts.{lookupOf}
 use Rattle.parts.specs.Sizes.{flashSize, lockTotal, imageSize}
 use Rattle.parts.specs.declared.Geometry.{Geometry}

@@ -13,10 +13,10 @@ use Rattle.hex_writer.specs.Lines.{onePiece, positionAfter}
 use Rattle.hex_writer.specs.Sized.{Laid, piecesOf}
 use Rattle.hex_writer.specs.declared.Position.{Position}
 use Rattle.hex_writer.proofs.Lines as lines
-use Rattle.image.specs.Sections.{locationBytes, headerBytes}
+use Rattle.sections.specs.Sections.{locationBytes, headerBytes}
 use Rattle.image.specs.declared.Header.{Header}
-use Rattle.image.specs.declared.Location.the-variants.{InFlash, InProtection, InHeader}
-use Rattle.image.specs.declared.Section.{Section}
+use Rattle.sections.specs.declared.Location.the-variants.{InFlash, InProtection, InHeader}
+use Rattle.sections.specs.declared.Section.{Section}
 use Rattle.parts.specs.Sizes.{flashSize}
 use Rattle.parts.specs.declared.Geometry.{Geometry}
 use Rattle.text.proofs.Storing.{tail-part}

@@ -11,12 +11,12 @@ use Rattle.hex_writer.specs.Lines.{positionAfter}
 use Rattle.hex_writer.specs.Sized.{Sized, Laid}
 use Rattle.hex_writer.specs.declared.Position.{Position}
 use Rattle.hex_writer.proofs.Lines as lines
-use Rattle.image.proofs.Sections.{locationSize, location-length}
-use Rattle.image.specs.Sections.{sectionsOf, noSection, sectionBytes, locationBytes, headerBytes}
+use Rattle.sections.proofs.Sections.{locationSize, location-length}
+use Rattle.sections.specs.Sections.{sectionsOf, noSection, sectionBytes, locationBytes, headerBytes}
 use Rattle.image.specs.declared.Header.{Header}
-use Rattle.image.specs.declared.Location.{Location}
-use Rattle.image.specs.declared.Location.the-variants.{InFlash, InProtection, InHeader}
-use Rattle.image.specs.declared.Section.{Section}
+use Rattle.sections.specs.declared.Location.{Location}
+use Rattle.sections.specs.declared.Location.the-variants.{InFlash, InProtection, InHeader}
+use Rattle.sections.specs.declared.Section.{Section}
 use Rattle.parts.specs.Sizes.{flashSize, imageSize}
 use Rattle.parts.specs.declared.Geometry.{Geometry}
 use Rattle.text.proofs.Storing.{sets-append}

@@ -4,23 +4,23 @@ ghost use mathlib.Core.List.{_++_};
 ghost use Prim.Native.Nat.{min, _+_, _-_, _*_, _/_, _%_, _≤_, _<_};
 ghost use lib.ListN.{length};
 ghost use lib.Seq.{sets};
-ghost use Rattle.image.specs.Words.{total};
+ghost use Rattle.lent.specs.Words.{total};
 ghost use Rattle.text.specs.Digits.{capital as capitalOf, pairsOf};
 ghost use Rattle.hex.specs.Steps.{TableSizes};
 ghost use Rattle.hex.specs.Written.{lineText, dataLine, extendedLine, endLine, newUpper, linesFrom, textOf, textLength};
 ghost use Rattle.hex_writer.specs.Lines.{capitalsFrom, onePiece, positionAfter};
 ghost use Rattle.hex_writer.specs.Sized.{Sized, Laid, piecesOf};
 ghost use Rattle.hex_writer.specs.Writing.{writeOf, textAfter};
-ghost use Rattle.image.specs.Sections.{sectionsOf, headerBytes, locationBytes, sectionBytes};
+ghost use Rattle.sections.specs.Sections.{sectionsOf, headerBytes, locationBytes, sectionBytes};
 ghost use Rattle.parts.specs.Parts.{lookupOf};
 ghost use Rattle.parts.specs.Sizes.{flashSize};
 ghost use Rattle.parts.specs.declared.Lookup.the-variants.{Found};
 ghost use Rattle.text.specs.Placing.{cut, pieces};
 use image::Header;
-use image::Location;
-use image::Section;
 use parts::Geometry;
 use parts::Lookup;
+use sections::Location;
+use sections::Section;
 
 mod table;
 
@@ -195,7 +195,7 @@ fn put_located(
         Location::InFlash => put_part(text, position, s, &bytes[..flash]),
         Location::InProtection => put_part(text, position, s, &bytes[flash..]),
         Location::InHeader => {
-            let header = image::header_bytes(h);
+            let header = sections::header_bytes(h);
             put_part(text, position, s, &header)
         }
     }
@@ -217,7 +217,7 @@ fn put_sections(
     let mut w = position;
     let mut k: usize = 0;
     while k < 5 {
-        let s = image::section_at(g, k);
+        let s = sections::section_at(g, k);
         w = put_located(text, w, s, g, h, bytes);
         k += 1;
     }
@@ -248,7 +248,7 @@ fn text_length(g: Geometry) -> usize
     let mut sum: usize = 13;
     let mut k: usize = 0;
     while k < 5 {
-        let s = image::section_at(g, k);
+        let s = sections::section_at(g, k);
         sum += lines_length(s.size);
         k += 1;
     }

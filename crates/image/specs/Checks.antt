@@ -1,18 +1,19 @@
 -- Checks 6 to 10 of an image, after 11 and 12: document 01, 'Who brings a number about'. Assumes nothing.
-use mathlib.Core.Bool.{Bool, false, _&&_, _||_, not}
+use mathlib.Core.Bool.{Bool, _||_, not}
 use mathlib.Core.List.{List, [], _∷_}
-use Prim.Native.Nat.{ℕ, zero, suc, _+_, _*_, _/_, _%_}
+use Prim.Native.Nat.{ℕ, _+_, _*_, _%_}
 use lib.Dec.{eqb}
-use lib.ListN.{length, getD, take, drop}
+use lib.ListN.{length, getD}
 use Rattle.image.specs.Image.{flashIn}
 use Rattle.image.specs.Refusals.{Check, _unless_, firstRefusal}
-use Rattle.image.specs.Words.{total, allZero, wordsAt}
 use Rattle.image.specs.declared.Header.{Header}
+use Rattle.lent.specs.Words.{total}
 use Rattle.parts.specs.Parts.{lookupOf, idFits}
 use Rattle.parts.specs.Sizes.{rowBytes, rowsOf, imageSize}
 use Rattle.parts.specs.declared.Geometry.{Geometry}
 use Rattle.parts.specs.declared.Lookup.{Lookup}
 use Rattle.parts.specs.declared.Lookup.the-variants.{Found, Refused}
+use Rattle.rows.specs.Cancels.{someCancels}
 
 -- 'Metadata: version 2 (high byte first), ID hi, lo, revision, family, six bytes kept unread.'
 abbrev pub metadataAt : Header → ℕ → ℕ
@@ -33,18 +34,6 @@ levelFits l = eqb l 1 || eqb l 2 || eqb l 4
 -- 9 'flash sum'
 abbrev pub sumFits : Geometry → Header → List ℕ → Bool
 sumFits g h bytes = eqb (total (flashIn g bytes) % 65536) (h .sum)
-
--- 10 'a row whose 32-bit words add to 0 mod 2^32 without all being 0'
-abbrev pub rowWords : List ℕ → List ℕ
-rowWords row = wordsAt row 0 (length row / 4)
-
-unfoldable pub cancels : List ℕ → Bool
-cancels row = eqb (total (rowWords row) % 4294967296) 0 && not (allZero (rowWords row))
-
--- one of n rows of size bytes, from the first on, cancels
-unfoldable pub someCancels : (size n : ℕ) → List ℕ → Bool
-someCancels size zero bytes = false
-someCancels size (suc n) bytes = cancels (take size bytes) || someCancels size n (drop size bytes)
 
 -- '6 to 10', in that order
 abbrev pub contentChecks : Geometry → Header → List ℕ → List Check

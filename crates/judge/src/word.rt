@@ -6,7 +6,7 @@ ghost use Rattle.flow.specs.Judge.{judge, withPolls, withKept, goIf, polled, en
 ghost use Rattle.flow.specs.Sequence.{lockStart};
 ghost use Rattle.flow.specs.Words.{free, levelIn};
 ghost use Rattle.image.specs.Image.{imageOf, flashIn, protectionIn};
-ghost use Rattle.image.specs.Words.{sameWord, partOf};
+ghost use Rattle.lent.specs.Words.{sameWord, partOf};
 ghost use Rattle.parts.specs.Sizes.{rowBytes, locksIn};
 use flow::Counters;
 use flow::Entry;
@@ -119,9 +119,9 @@ fn flash_word_is(g: Geometry, bytes: &[u8], row: u32, at: u32, w: u32) -> bool
     let from = (row as usize) * size;
     let flash = parts::flash_size(g);
     if bytes.len() <= flash {
-        return image::part_word_is(bytes, from, size, at as usize, w);
+        return lent::part_word_is(bytes, from, size, at as usize, w);
     }
-    image::part_word_is(&bytes[..flash], from, size, at as usize, w)
+    lent::part_word_is(&bytes[..flash], from, size, at as usize, w)
 }
 
 // The same of a macro's locks, in the part after the flash.
@@ -134,9 +134,9 @@ fn lock_word_is(g: Geometry, bytes: &[u8], m: u32, at: u32, w: u32) -> bool
     let flash = parts::flash_size(g);
     let n = bytes.len();
     if n <= flash {
-        return image::part_word_is(&bytes[n..], from, size, at as usize, w);
+        return lent::part_word_is(&bytes[n..], from, size, at as usize, w);
     }
-    image::part_word_is(&bytes[flash..], from, size, at as usize, w)
+    lent::part_word_is(&bytes[flash..], from, size, at as usize, w)
 }
 
 // A word, by the purpose of the move that it answers.

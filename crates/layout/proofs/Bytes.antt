@@ -8,7 +8,7 @@ use borrow.Author.Tests.{le-leb, lt-leb}
 use lib.Dec.{eqb}
 use lib.ListN.{length, set, drop-of-length-le}
 use lib.Seq.{sets, sets-eq, length-sets}
-use Rattle.image.specs.Words.{lowFirst}
+use Rattle.lent.specs.Words.{lowFirst}
 use Rattle.layout.specs.Bytes.{flagByte, wordPut, Word}
 
 -- what four bytes of a number come to

@@ -5,7 +5,7 @@ use Prim.Native.Nat.{ℕ, _+_, _<_}
 use lib.Dec.{leb}
 use lib.ListN.{length}
 use lib.Seq.{sets}
-use Rattle.image.specs.Words.{lowFirst}
+use Rattle.lent.specs.Words.{lowFirst}
 
 abbrev pub flagByte : Bool → ℕ
 flagByte true = 1

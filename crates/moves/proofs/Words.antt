@@ -8,8 +8,8 @@ use lib.ListN.{length, getD, take, drop, length-take, length-drop}
 use lib.Seq.{getD-take, getD-drop, ext-getD}
 use Rattle.flow.proofs.Counting.{length-words}
 use Rattle.flow.specs.Sequence.{write, call, writes, listed, latchList, endMove}
-use Rattle.image.proofs.Words.{word-same}
-use Rattle.image.specs.Words.{wordAt, wordsAt}
+use Rattle.lent.proofs.Words.{word-same}
+use Rattle.lent.specs.Words.{wordAt, wordsAt}
 use Rattle.moves.proofs.Counts.{length-writes}
 use Rattle.moves.proofs.Joined.{at-first, at-second}
 use Rattle.parts.specs.Sizes.{PARAMS}

@@ -31,7 +31,7 @@ pub(crate) fn list_word(bytes: &[u8], m: u32, i: u32) -> u32
     if i == 1 {
         return (bytes.len() - 1) as u32;
     }
-    image::word_at(bytes, (4 * (i - 2)) as usize)
+    lent::word_at(bytes, (4 * (i - 2)) as usize)
 }
 
 // The latch call for some bytes.

@@ -25,7 +25,7 @@ use Rattle.flow.specs.declared.Purpose.{Purpose}
 use Rattle.flow.specs.declared.Purpose.the-variants.{Sent, Idcode, TestBit, Poll, Status, Keep, EntryLevel, Reopened, FlashWord, LockWord, StoredLevel, LastSum}
 use Rattle.flow.specs.declared.Request.{Request}
 use Rattle.flow.specs.declared.Way.the-variants.{Onward, Enter}
-use Rattle.image.specs.Words.{sameWord}
+use Rattle.lent.specs.Words.{sameWord}
 use Rattle.image.specs.Image.{Image}
 use Rattle.session.specs.Possible.{isFailure, reportFits}
 use Rattle.flow.proofs.Moves.{Proper, proper-at}

@@ -7,10 +7,10 @@ use native.Mathlib.Omega.{arith}
 use borrow.Author.Tests.{le-leb, eq-eqb, ne-eqb}
 use lib.ListN.{length, take, drop, length-drop, take-append-drop}
 use lib.Seq.{take-all, length-take-le, take-at, drop-at}
-use Rattle.image.specs.Sections.{sectionsOf}
-use Rattle.image.specs.declared.Location.{Location}
-use Rattle.image.specs.declared.Location.the-variants.{InFlash, InProtection}
-use Rattle.image.specs.declared.Section.{Section}
+use Rattle.sections.specs.Sections.{sectionsOf}
+use Rattle.sections.specs.declared.Location.{Location}
+use Rattle.sections.specs.declared.Location.the-variants.{InFlash, InProtection}
+use Rattle.sections.specs.declared.Section.{Section}
 use Rattle.parts.specs.declared.Geometry.{Geometry}
 use Rattle.text.specs.Placing.{Event, Bad, Other, Data, End, Content, Refusal, Stream, prepend, restOf, fits, dueAfter, placing, sameLocation, gathered, Piece, cut, piecesIn, pieces}
 use Rattle.text.specs.Reading.{imageIn}

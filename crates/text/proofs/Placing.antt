@@ -9,11 +9,11 @@ use borrow.Author.Tests.{eqb-true, leb-true}
 use lib.Dec.{eqb, leb}
 use lib.ListN.{length, take, drop, length-append, length-drop}
 use lib.Seq.{sets, sets-eq, drop-length, take-at, drop-at, take-append-add, drop-append-add, length-take-le}
-use Rattle.image.proofs.Sections.{locationSize}
-use Rattle.image.specs.Sections.{sectionsOf}
-use Rattle.image.specs.declared.Location.{Location}
-use Rattle.image.specs.declared.Location.the-variants.{InFlash, InProtection, InHeader}
-use Rattle.image.specs.declared.Section.{Section}
+use Rattle.sections.proofs.Sections.{locationSize}
+use Rattle.sections.specs.Sections.{sectionsOf}
+use Rattle.sections.specs.declared.Location.{Location}
+use Rattle.sections.specs.declared.Location.the-variants.{InFlash, InProtection, InHeader}
+use Rattle.sections.specs.declared.Section.{Section}
 use Rattle.parts.specs.Sizes.{flashSize, lockTotal, imageSize}
 use Rattle.parts.specs.declared.Geometry.{Geometry}
 use Rattle.text.specs.Placing.{Event, Bad, Other, Data, End, Content, Refusal, Stream, prepend, restOf, dueAfter, placing, sameLocation, gathered, overall}

@@ -8,7 +8,7 @@ use lib.ListN.{length}
 use lib.Seq.{drop-length}
 use Rattle.image.specs.Checks.{imageFault}
 use Rattle.image.specs.Image.{noHeader}
-use Rattle.image.specs.Sections.{headerOf}
+use Rattle.sections.specs.Sections.{headerOf}
 use Rattle.image.specs.declared.Header.{Header}
 use Rattle.text.specs.Reading.{Taken, Cleared, answerOf, bufferAfter}
 use Rattle.text.specs.Storing.{cleared, settled}

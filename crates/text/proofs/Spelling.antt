@@ -9,7 +9,7 @@ use borrow.Author.Tests.{lt-ltb, le-ltb, eq-eqb, ne-eqb}
 use lib.Dec.{eqb}
 use lib.ListN.{length, getD, take, drop, set, length-set}
 use lib.Seq.{sets, drop-cons}
-use Rattle.image.specs.Words.{total}
+use Rattle.lent.specs.Words.{total}
 use Rattle.text.specs.Digits.{digitOf}
 use Rattle.text.specs.Spelling.{digitsFrom, front, pairsAt}
 use Rattle.text.specs.declared.PairRun.{PairRun}

@@ -6,10 +6,10 @@ use lib.Dec.{eqb, leb}
 use lib.ListN.{length, drop, replicate}
 use Rattle.image.specs.Checks.{imageFault}
 use Rattle.image.specs.Image.{noHeader}
-use Rattle.image.specs.Sections.{sectionsOf, headerOf}
+use Rattle.sections.specs.Sections.{sectionsOf, headerOf}
 use Rattle.image.specs.declared.Header.{Header}
-use Rattle.image.specs.declared.Location.the-variants.{InFlash, InProtection, InHeader}
-use Rattle.image.specs.declared.Section.{Section}
+use Rattle.sections.specs.declared.Location.the-variants.{InFlash, InProtection, InHeader}
+use Rattle.sections.specs.declared.Section.{Section}
 use Rattle.parts.specs.Parts.{lookupOf}
 use Rattle.parts.specs.Sizes.{imageSize}
 use Rattle.parts.specs.declared.Geometry.{Geometry}

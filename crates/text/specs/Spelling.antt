@@ -5,7 +5,7 @@ use Prim.Native.Nat.{ℕ, zero, suc, _+_, _*_}
 use lib.Dec.{eqb, leb}
 use lib.ListN.{length, getD, take, drop}
 use lib.Seq.{sets}
-use Rattle.image.specs.Words.{total}
+use Rattle.lent.specs.Words.{total}
 use Rattle.text.specs.Digits.{digitOf, isDigit}
 use Rattle.text.specs.declared.PairRun.{PairRun}
 

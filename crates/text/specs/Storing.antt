@@ -6,7 +6,7 @@ use lib.Dec.{eqb, leb}
 use lib.ListN.{length, take, drop, replicate}
 use lib.Seq.{sets}
 use Rattle.image.specs.Checks.{imageFault}
-use Rattle.image.specs.Sections.{headerOf}
+use Rattle.sections.specs.Sections.{headerOf}
 use Rattle.text.specs.Reading.{Reading, Cleared, Taken}
 
 -- n bytes of a row, from `from` on, put into a part at an offset; nothing where the row or the part is too short

@@ -5,7 +5,7 @@ ghost use lib.ListN.{length, take, drop};
 ghost use lib.Dec.{eqb};
 ghost use lib.Seq.{sets};
 ghost use Rattle.image.specs.Image.{noHeader};
-ghost use Rattle.image.specs.Words.{total};
+ghost use Rattle.lent.specs.Words.{total};
 ghost use Rattle.text.specs.Digits.{digitOf};
 ghost use Rattle.text.specs.Spelling.{digitsFrom, front, pairsAt, pairRunOf, rowAfter, lineEnd};
 ghost use Rattle.text.specs.Reading.{answerOf, bufferAfter};
@@ -187,7 +187,7 @@ pub fn settle(part: u8, macros: u8, header: [u8; 15], image: &mut [u8]) -> ReadA
     ensures { λ r. ⌜ r ≡ answerOf (settled part macros header (now (image .entry))) ⌝ }
     ensures { λ _. ⌜ now (image .exit) ≡ bufferAfter (settled part macros header (now (image .entry))) (now (image .entry)) ⌝ }
 {
-    let h = image::header_of(part, macros, header);
+    let h = sections::header_of(part, macros, header);
     let number = image::check(h, image);
     if number == 0 {
         return ReadAnswer {

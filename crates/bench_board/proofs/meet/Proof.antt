@@ -1,7 +1,7 @@
 -- What was decided, once its act is performed. Assumes nothing.
 use borrow.Author.Needs.{needs}
 use Rattle.bench_board.proofs.Meeting.{performed}
-use Rattle.bench_board.specs.Board.{lent, left}
+use Rattle.bench_calls.specs.Board.{lent, left}
 use Rattle.bench_board.proofs.meet.Statement.{statement}
 use Rattle.bench_board.proofs.meet.Tie as tie
 

@@ -1,6 +1,6 @@
 -- A number at once, or the request met. Assumes nothing.
 use mathlib.Core.Path.{ap}
-use Rattle.bench_board.specs.Board.{left}
+use Rattle.bench_calls.specs.Board.{left}
 use Rattle.bench_c.specs.BoardCalls.{benchOf}
 use Rattle.bench_c.proofs.Boards.{meets, meets-sized, met-bench, call-returned, call-met}
 use borrow.Author.Needs.{needs}

@@ -3,7 +3,7 @@ use native.Mathlib.Omega.{arith}
 use mathlib.Core.Path.{_≡_, sym}
 use Prim.Native.Nat.{_/_, _%_, _≤_}
 use lib.ListN.{List·getD-eq-default}
-use Rattle.image.specs.Words.{lowFirst}
+use Rattle.lent.specs.Words.{lowFirst}
 use borrow.Author.Needs.{needs}
 use Rattle.bench_memory.proofs.byte_of.Statement.{statement}
 use Rattle.bench_memory.proofs.byte_of.Tie as tie

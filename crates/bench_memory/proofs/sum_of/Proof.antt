@@ -5,8 +5,8 @@ use native.Mathlib.Nat.{zero-add}
 use native.Mathlib.Omega.{arith}
 use lib.Dec.{lit<}
 use lib.ListN.{length, drop}
-use Rattle.image.specs.Words.{total}
-use Rattle.image.proofs.Words.{total-turn, total-end, carry-in, carried}
+use Rattle.lent.specs.Words.{total}
+use Rattle.lent.proofs.Words.{total-turn, total-end, carry-in, carried}
 use Rattle.bench_memory.proofs.sum_of.Statement.{statement}
 use Rattle.bench_memory.proofs.sum_of.Tie as tie
 

@@ -1,6 +1,6 @@
 -- 11 or 12 for a record under size, or reading. Assumes nothing.
 use mathlib.Core.Path.{refl}
-use Rattle.core_c.proofs.Called.{leaves-as, read-under, read-done}
+use Rattle.calls.proofs.Called.{leaves-as, read-under, read-done}
 use borrow.Author.Needs.{needs}
 use Rattle.core_c.proofs.halzuqeen_read.Statement.{statement}
 use Rattle.core_c.proofs.halzuqeen_read.Tie as tie
@@ -15,7 +15,7 @@ returns-2 c =
     let tested = c .before .before .before .before .before .before .before .before .before .before in
     let a = tested .before .before .before .before .args in
     let r = c .before .before .before .before .before .before .before .before .read .ensures in
-    read-done (a .part) (a .macros) (a .text .now) (a .image .now) (a .header .now) _ _ _ (tested .if1 .left) (r .0) (r .1) (c .before .before .before .put-record .ensures .0)
+    read-done (a .part) (a .macros) (a .text .now) (a .image .now) (a .header .now) _ _ _ (tested .if1 .left) (r .0) (r .1) (c .before .before .before .put-record .ensures)
 
 pub halzuqeen-read-spec : {M : Type 1} → statement M
 halzuqeen-read-spec =

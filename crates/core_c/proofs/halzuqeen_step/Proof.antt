@@ -1,7 +1,7 @@
 -- 12 for a session under size, or the step. Assumes nothing.
 use mathlib.Core.Path.{refl}
-use Rattle.core_c.proofs.Called.{leaves-as, step-sessionless}
-use Rattle.core_c.specs.Calls.{answerIn}
+use Rattle.calls.proofs.Called.{leaves-as, step-sessionless}
+use Rattle.calls.specs.Calls.{answerIn}
 use borrow.Author.Needs.{needs}
 use Rattle.core_c.proofs.halzuqeen_step.Statement.{statement}
 use Rattle.core_c.proofs.halzuqeen_step.Tie as tie

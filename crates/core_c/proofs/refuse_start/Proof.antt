@@ -1,6 +1,6 @@
 -- The session cleared, the refusal put. Assumes nothing.
 use mathlib.Core.Path.{refl, _∙_}
-use Rattle.core_c.proofs.Called.{zero-session}
+use Rattle.calls.proofs.Called.{zero-session}
 use borrow.Author.Needs.{needs}
 use Rattle.core_c.proofs.refuse_start.Statement.{statement}
 use Rattle.core_c.proofs.refuse_start.Tie as tie

@@ -2,7 +2,7 @@
 use Prim.Native.Nat.{_-_}
 use native.Mathlib.Omega.{arith}
 use borrow.Author.Needs.{needs}
-use Rattle.bench_board.specs.Board.{lent}
+use Rattle.bench_calls.specs.Board.{lent}
 use Rattle.dry.proofs.Playing.{Playing, first-turn, next-turn, report-planned, none-refused, report-comes}
 use Rattle.dry.proofs.played.Statement.{statement}
 use Rattle.dry.proofs.played.Tie as tie

@@ -1,5 +1,5 @@
 use mathlib.Core.Path.{refl, sym}
-use Rattle.bench_board.specs.Board.{lent}
+use Rattle.bench_calls.specs.Board.{lent}
 use Rattle.dry.proofs.Reporting.{staged}
 use borrow.Author.Needs.{needs}
 use Rattle.dry.proofs.report_on.Statement.{statement}

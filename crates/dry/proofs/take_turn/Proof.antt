@@ -1,4 +1,4 @@
-use Rattle.bench_board.specs.Board.{lent}
+use Rattle.bench_calls.specs.Board.{lent}
 use Rattle.dry.proofs.Turning.{turn-taken}
 use borrow.Author.Needs.{needs}
 use Rattle.dry.proofs.take_turn.Statement.{statement}

@@ -3,7 +3,7 @@ use mathlib.Core.List.{_∷_}
 use mathlib.Core.Path.{ap, _∙_}
 use lib.ListN.{length}
 use lib.Seq.{length-sets}
-use Rattle.image.specs.Words.{lowFirst}
+use Rattle.lent.specs.Words.{lowFirst}
 use Rattle.bench_c.proofs.Boards.{flagged-put}
 use borrow.Author.Needs.{needs}
 use Rattle.bench_c.proofs.board_out.put_flagged.Statement.{statement}

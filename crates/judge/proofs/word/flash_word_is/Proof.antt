@@ -6,7 +6,7 @@ use native.Mathlib.Nat.{mul-le-mul}
 use native.Mathlib.Omega.{arith}
 use denote.Ref.{now}
 use lib.ListN.{take, length-take}
-use Rattle.image.specs.Words.{partOf, sameWord}
+use Rattle.lent.specs.Words.{partOf, sameWord}
 use Rattle.parts.specs.Sizes.{rowBytes}
 use Rattle.judge.proofs.Laws.{all-flash}
 use borrow.Author.Needs.{needs}

@@ -5,7 +5,7 @@ use Prim.Native.Nat.{ℕ, _*_, _/_, _≤_}
 use native.Mathlib.Nat.{mul-le-mul}
 use native.Mathlib.Omega.{arith}
 use denote.Ref.{now}
-use Rattle.image.specs.Words.{partOf, sameWord}
+use Rattle.lent.specs.Words.{partOf, sameWord}
 use Rattle.parts.specs.Sizes.{rowsPerMacro, locksIn}
 use Rattle.judge.proofs.Laws.{after-flash, no-locks}
 use borrow.Author.Needs.{needs}

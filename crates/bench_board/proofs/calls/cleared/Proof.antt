@@ -1,7 +1,0 @@
--- The registers alone alter. Assumes nothing.
-use borrow.Author.Needs.{needs}
-use Rattle.bench_board.proofs.calls.cleared.Statement.{statement}
-use Rattle.bench_board.proofs.calls.cleared.Tie as tie
-
-pub cleared-spec : {M : Type 1} → statement M
-cleared-spec = tie.close (tie.spec (λ c. search needs))

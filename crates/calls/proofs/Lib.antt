@@ -1,0 +1,9 @@
+pub mod Refusing
+pub mod Called
+pub mod Numbers
+pub mod Onward
+pub mod ReadWrite
+pub mod Starting
+pub mod Stepping
+pub mod Claims
+pub mod Examples

@@ -1,6 +1,0 @@
-pub mod Records
-pub mod Sessions
-pub mod Outcomes
-pub mod Calls
-pub mod Claims
-pub mod Examples

@@ -1,0 +1,5 @@
+pub mod Records
+pub mod Sessions
+pub mod Outcomes
+pub mod Buffers
+pub mod Values

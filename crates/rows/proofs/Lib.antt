@@ -1,0 +1,4 @@
+pub mod Examples
+pub mod Zeros
+pub mod Claims
+pub mod Cancels

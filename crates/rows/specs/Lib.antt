@@ -1,0 +1,4 @@
+pub mod Cancels
+pub mod Zeros
+pub mod Claims
+pub mod Examples
