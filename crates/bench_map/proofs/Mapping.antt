@@ -3,14 +3,14 @@ use mathlib.Core.Bool.{Bool, true, false, false≢true, _&&_, cond}
 use mathlib.Core.Path.{_≡_, refl, sym, _∙_}
 use Prim.Native.Nat.{ℕ, zero, suc, _+_, _-_, _/_, _≤_, _<_}
 use native.Mathlib.Nat.{suc-mul}
+use native.Mathlib.Numerals.{add-one}
 use native.Mathlib.Omega.{arith}
 use lib.Dec.{leb, ltb}
 use borrow.Author.Tests.{ltb-true, leb-true, ltb-false, lt-ltb, le-ltb, le-leb}
 use Rattle.flow.specs.Map.{paramsSize, search, lockRegions, regions, place}
-use Rattle.flow.specs.Sequence.{lockStart}
 use Rattle.flow.specs.declared.Place.{Place}
 use Rattle.flow.specs.declared.Place.the-variants.{InFlash, InLocks, InParams, AtLevel, AtSysreq, AtSysarg, AtTestMode, Elsewhere}
-use Rattle.parts.specs.Sizes.{rowsPerMacro, macrosOf, flashSize, locksIn, sysreqOf, sysargOf, PARAMS, TEST-MODE, locksAt, levelAt}
+use Rattle.parts.specs.Sizes.{macrosOf, flashSize, locksIn, lockStart, sysreqOf, sysargOf, PARAMS, TEST-MODE, locksAt, levelAt}
 use Rattle.parts.specs.declared.Geometry.{Geometry}
 
 -- the distance from the start in place of the end
@@ -26,25 +26,6 @@ within s k a h = by (ltb (a - s) k) refl
 abbrev covering : (s k a : ℕ) → Bool
 covering s k a = leb s a && ltb a (s + k)
 
--- the locks of n macros of size k and step d, the first at s and of offset f
-unfoldable pub lockFrom : (k d s f n a : ℕ) → Place
-lockFrom k d s f zero a = Elsewhere
-lockFrom k d s f (suc n) a = cond (covering s k a) (InLocks (f + (a - s))) (lockFrom k d (s + d) (f + k) n a)
-
-pub lock-none : (k d s f a : ℕ) → lockFrom k d s f 0 a ≡ Elsewhere
-unfolding lockFrom
-lock-none k d s f a = refl
-
-pub lock-hit : (k d s f n a : ℕ) → 0 < n → covering s k a ≡ true → lockFrom k d s f n a ≡ InLocks (f + (a - s))
-unfolding lockFrom
-lock-hit k d s f zero a h t = absurd (omega arith)
-lock-hit k d s f (suc n) a h t = rw t
-
-pub lock-miss : (k d s f n a : ℕ) → 0 < n → covering s k a ≡ false → lockFrom k d s f n a ≡ lockFrom k d (s + d) (f + k) (n - 1) a
-unfolding lockFrom
-lock-miss k d s f zero a h t = absurd (omega arith)
-lock-miss k d s f (suc n) a h t = let e : suc n - 1 ≡ n = omega arith in rw (t, e)
-
 pub covering-low : (s k a : ℕ) → covering s k a ≡ true → s ≤ a
 covering-low s k a h = by (leb s a) refl
   where
@@ -59,20 +40,30 @@ covering-high s k a h = by (leb s a) refl
     by true e = ltb-true a (s + k) (rw e at h)
     by false e = absurd (false≢true (rw e at h))
 
--- flow's regions of the locks of n macros from macro m on
-lock-search : (g : Geometry) (a m n : ℕ) → search (lockRegions g m n) a ≡ lockFrom (rowsPerMacro g / 8) (g .part .«locks_step») (locksAt g m) (lockStart g m) n a
-unfolding search lockRegions lockFrom locksIn
-lock-search g a m zero = refl
-lock-search g a m (suc n) =
-    let s : locksAt g (suc m) ≡ locksAt g m + g .part .«locks_step» = omega (arith, suc-mul m (g .part .«locks_step»)) in
-    let f : lockStart g (suc m) ≡ lockStart g m + rowsPerMacro g / 8 = omega (arith, suc-mul m (rowsPerMacro g / 8)) in
-    rw (lock-search g a (suc m) n, s, f)
+-- flow's search in the locks of n macros from macro m on
+abbrev pub locksFrom : Geometry → (m n a : ℕ) → Place
+locksFrom g m n a = search (lockRegions g m n) a
 
-pub locks-found : (g : Geometry) (a : ℕ) → search (lockRegions g 0 (macrosOf g)) a ≡ lockFrom (rowsPerMacro g / 8) (g .part .«locks_step») (g .part .locks) 0 (macrosOf g) a
-locks-found g a =
-    let s : locksAt g 0 ≡ g .part .locks = omega arith in
-    let f : lockStart g 0 ≡ 0 = omega arith in
-    rw (s, f) at (lock-search g a 0 (macrosOf g))
+-- where macro m's locks are looked at, s and k being where its locks are and their number
+module _ (g : Geometry) (a m s k : ℕ) (starts : s ≡ locksAt g m) (sizes : k ≡ locksIn g m) where
+  pub lock-hit : (n n′ f : ℕ) → n ≡ suc n′ → f ≡ lockStart g m → covering s k a ≡ true → InLocks (f + (a - s)) ≡ locksFrom g m n a
+  unfolding search lockRegions
+  lock-hit n n′ f e from t =
+      let here : covering (locksAt g m) (locksIn g m) a ≡ true = rw (starts, sizes) at t in
+      rw (e, starts, from, here)
+
+  pub lock-miss : (n n′ : ℕ) → n ≡ suc n′ → covering s k a ≡ false → locksFrom g m n a ≡ locksFrom g (m + 1) n′ a
+  unfolding search lockRegions
+  lock-miss n n′ e t =
+      let here : covering (locksAt g m) (locksIn g m) a ≡ false = rw (starts, sizes) at t in
+      rw (e, here, add-one)
+
+  pub start-on : s + g .part .«locks_step» ≡ locksAt g (m + 1)
+  start-on = rw (add-one) (omega (arith, starts, suc-mul m (g .part .«locks_step»)))
+
+pub lock-none : (g : Geometry) (a m n : ℕ) → n ≡ 0 → locksFrom g m n a ≡ Elsewhere
+unfolding search lockRegions
+lock-none g a m n e = rw e
 
 -- ---- the whole map
 

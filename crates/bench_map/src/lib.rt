@@ -9,6 +9,8 @@ ghost use Rattle.parts.specs.Sizes.{macrosOf};
 use flow::Place;
 use flow::Request;
 use parts::Geometry;
+use parts::PARAMS;
+use parts::TEST_MODE;
 
 // Whether an address lies in `size` bytes from `start` on.
 fn covers(start: usize, size: usize, a: usize) -> bool
@@ -25,18 +27,16 @@ fn lock_place(g: Geometry, a: usize) -> Place
     ensures { λ r. ⌜ r ≡ search (lockRegions g 0 (macrosOf g)) a ⌝ }
 {
     let p = g.part;
-    let size = (p.rows_per_macro / 8) as usize;
     let step = p.locks_step as usize;
+    let macros = g.macros as u32;
     let mut start = p.locks as usize;
-    let mut from: usize = 0;
-    let mut left = g.macros;
-    while 0 < left {
-        if covers(start, size, a) {
-            return Place::InLocks(from + (a - start));
+    let mut m: u32 = 0;
+    while m < macros {
+        if covers(start, parts::locks_in(g, m), a) {
+            return Place::InLocks(parts::lock_start(g, m) + (a - start));
         }
         start += step;
-        from += size;
-        left -= 1;
+        m += 1;
     }
     Place::Elsewhere
 }
@@ -48,6 +48,7 @@ pub fn place_of(g: Geometry, address: u32) -> Place
     let p = g.part;
     let a = address as usize;
     let sysreq = p.sysreq as usize;
+    let params = PARAMS as usize;
     if a < parts::flash_size(g) {
         return Place::InFlash(a);
     }
@@ -57,11 +58,11 @@ pub fn place_of(g: Geometry, address: u32) -> Place
     if covers(sysreq + 4, 4, a) {
         return Place::AtSysarg;
     }
-    if covers(0x40030014, 4, a) {
+    if covers(TEST_MODE as usize, 4, a) {
         return Place::AtTestMode;
     }
-    if covers(0x20000100, 8 + (p.row_bytes as usize), a) {
-        return Place::InParams((a - 0x20000100) / 4);
+    if covers(params, 8 + (p.row_bytes as usize), a) {
+        return Place::InParams((a - params) / 4);
     }
     if covers(p.level_word as usize, 4, a) {
         return Place::AtLevel;

@@ -11,7 +11,7 @@ use Rattle.bench_memory.specs.Acts.{Effects, Protects}
 use Rattle.bench_memory.specs.declared.Act.the-variants.{Keep, Erase, FillLatch, ProgramRow, WriteLocks}
 use Rattle.bench_memory.specs.declared.Effect.{Effect}
 use Rattle.flow.specs.Calls.{bytesIn, levelSent, macroSent, listAt, effectOf}
-use Rattle.parts.specs.Sizes.{rowBytes, rowsPerMacro, locksIn}
+use Rattle.parts.specs.Sizes.{rowBytes, locksIn, lockStart}
 use Rattle.parts.specs.declared.Geometry.{Geometry}
 
 -- call 0x0D
@@ -21,10 +21,10 @@ module _ (g : Geometry) (v a st : ℕ) where
   reopened t ps x b e = (rw t, refl)
 
   pub protected : (eqb v 2 && eqb (levelSent a) 1) ≡ false → (s : ℕ)
-      → s ≡ cond (eqb (macroSent a) 0) (levelSent a) (st % 16)
-      → Protects g v a st (record { act = WriteLocks (macroSent a * (rowsPerMacro g / 8)) (rowsPerMacro g / 8); stored = s })
-  unfolding effectOf locksIn
-  protected t s e ps x b f = (rw (t, e, low (eqb (macroSent a) 0)), refl)
+      → s ≡ cond (eqb (macroSent a) 0) (levelSent a) (st % 16) → (o n : ℕ) → o ≡ lockStart g (macroSent a) → n ≡ locksIn g (macroSent a)
+      → Protects g v a st (record { act = WriteLocks o n; stored = s })
+  unfolding effectOf
+  protected t s e o n starts sizes ps x b f = (rw (t, e, starts, sizes, low (eqb (macroSent a) 0)), refl)
     where
       low : (z : Bool) → cond z (levelSent a) (st % 16) % 16 ≡ cond z (levelSent a) (st % 16)
       low true = omega arith

@@ -9,6 +9,7 @@ ghost use Rattle.flow.specs.Calls.{levelSent, macroSent, listAt, bytesIn};
 use crate::Act;
 use crate::Effect;
 use parts::Geometry;
+use parts::PARAMS;
 
 // The level and the macro that 0x0D is given.
 fn level_sent(word: u32) -> u8
@@ -49,7 +50,7 @@ pub fn level_left(sysarg: u32, stored: u8, new_level: bool, c: u8) -> u8
 fn list_word(sysarg: u32, params: &[u32], k: usize) -> u32
     ensures { λ w. ⌜ w ≡ getD (listAt sysarg (now (params .entry))) k 0 ⌝ }
 {
-    if sysarg == 0x20000100 {
+    if sysarg == PARAMS {
         return crate::word_of(params, k);
     }
     0
@@ -59,7 +60,7 @@ fn list_word(sysarg: u32, params: &[u32], k: usize) -> u32
 fn latch_count(sysarg: u32, params: &[u32]) -> usize
     ensures { λ n. ⌜ take n (bytesIn (drop 2 (now (params .entry)))) ≡ take (getD (listAt sysarg (now (params .entry))) 1 0 + 1) (bytesIn (drop 2 (listAt sysarg (now (params .entry))))) ⌝ }
 {
-    if sysarg == 0x20000100 {
+    if sysarg == PARAMS {
         return (crate::word_of(params, 1) as usize) + 1;
     }
     0
@@ -88,8 +89,6 @@ fn protect(g: Geometry, effect: u8, sysarg: u32, stored: u8) -> Effect
 {
     let l = level_sent(sysarg);
     let m = macro_sent(sysarg);
-    let p = g.part;
-    let n = (p.rows_per_macro / 8) as usize;
     if reopens(effect, l) {
         return Effect {
             act: Act::Erase,
@@ -97,7 +96,7 @@ fn protect(g: Geometry, effect: u8, sysarg: u32, stored: u8) -> Effect
         };
     }
     Effect {
-        act: Act::WriteLocks((m as usize) * n, n),
+        act: Act::WriteLocks(parts::lock_start(g, m as u32), parts::locks_in(g, m as u32)),
         stored: level_after(m, l, stored % 16),
     }
 }

@@ -14,7 +14,7 @@ use Rattle.dry.proofs.Meets.{same-met}
 use Rattle.flow.specs.Terms.{Calm, calmEnd, callsEnd, entryOf, Used, entries}
 use Rattle.flow.specs.Examples.{partOne}
 use Rattle.flow.specs.Exchange.{Met, meet}
-use Rattle.flow.specs.Plan.{plan, loops, mostTraffic}
+use Rattle.flow.specs.Plan.{plan, lockPlan, loops, mostTraffic}
 use Rattle.flow.specs.Target.{Target, Lists}
 use Rattle.flow.specs.declared.Entry.the-variants.{FromOpen}
 use Rattle.flow.specs.declared.Packet.{Packet}
@@ -139,7 +139,7 @@ module _ (bytes : List ℕ) (s₀ : Session) (o₀ : Outcome) (r₀ : Registers)
   most-turns : (n : ℕ) → 265637747 ≤ n
       → (most (imageOf partOne (w .header) bytes) (targetOf nothing r₀ b₀)) .transfers + (most (imageOf partOne (w .header) bytes) (targetOf nothing r₀ b₀)) .xresets
       + (most (imageOf partOne (w .header) bytes) (targetOf nothing r₀ b₀)) .lineResets ≤ n
-  unfolding mostTraffic plan loops rowsOf locksIn
+  unfolding mostTraffic plan lockPlan loops rowsOf locksIn
   most-turns n h = rw from-open h
 
   -- once so many packets were met, a report stands

@@ -11,7 +11,7 @@ use Rattle.flow.specs.Map.{search, regions, lockRegions}
 use Rattle.flow.specs.Target.{Target, Lists, nextEvent}
 use Rattle.flow.specs.declared.Request.the-variants.{ReadIdcode, ReadDrw, WriteTar, WriteDrw}
 use Rattle.lent.specs.Words.{total, wordAt}
-use Rattle.parts.specs.Sizes.{rowsOf, locksIn, flashSize}
+use Rattle.parts.specs.Sizes.{rowsOf, locksIn, flashSize, lockStart}
 
 -- a packet of a known request is met as that request
 byIdcode : (l : Lists) (b : Target) {m : Met} → transferred partOne ReadIdcode (nextEvent (l .line)) l b ≡ m → after ReadIdcode l b ≡ m
@@ -27,7 +27,7 @@ byWrite : (w : ℕ) (l : Lists) (b : Target) {m : Met} → transferred partOne (
 byWrite w l b e = meets partOne (plain aDrw) l b ∙ e
 
 pub transfer-examples : TransferExamples
-unfolding transferred carry barred search regions lockRegions rowsOf locksIn flashSize wordAt
+unfolding transferred carry barred search regions lockRegions rowsOf locksIn lockStart flashSize wordAt
 transfer-examples = record {
   idcode = byIdcode _ _ refl;
   flash = byRead _ _ refl;
@@ -60,7 +60,7 @@ transfer-examples = record {
 }
 
 noisy-with : (entry : ℕ) → NoisyWith entry (noisyAck entry)
-unfolding transferred carry barred search regions lockRegions rowsOf locksIn flashSize wordAt
+unfolding transferred carry barred search regions lockRegions rowsOf locksIn lockStart flashSize wordAt
 noisy-with entry = record {
   readDone = byRead _ _ refl;
   readNot = byRead _ _ refl;
@@ -112,7 +112,7 @@ reset-examples = record {
 }
 
 pub call-examples : CallExamples
-unfolding transferred carry barred search regions lockRegions rowsOf locksIn flashSize finish effectOf sysargAfter sysreqAfter afterFailure bytesIn total
+unfolding transferred carry barred search regions lockRegions rowsOf locksIn lockStart flashSize finish effectOf sysargAfter sysreqAfter afterFailure bytesIn total
 call-examples = record {
   begins = byWrite 0x80000015 _ _ refl;
   noCall = ap (λ m. m .lists) (byWrite 0x15 _ _ refl);

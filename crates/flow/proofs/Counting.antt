@@ -1,11 +1,12 @@
 -- The reads and writes of the sequence are the plan, its polls the loops, for every geometry of the table. Assumes nothing.
 use mathlib.Core.List.{List, [], _∷_, _++_}
 use mathlib.Core.Path.{_≡_, refl, ap, _∙_, sym}
-use Prim.Native.Nat.{ℕ, zero, suc, _+_, _*_, _/_, _≤_}
+use Prim.Native.Nat.{ℕ, zero, suc, _+_, _*_, _/_, _<_, _≤_}
+use native.Mathlib.Nat.{suc-mul}
 use native.Mathlib.Omega.{arith}
 use lib.ListN.{length}
-use Rattle.flow.specs.Plan.{Traffic, counting, trafficIn, isPoll, pollsIn, fromProtected, plan, loops, acquisitions}
-use Rattle.flow.specs.Sequence.{write, read, call, writes, listed, inTurn, imoCall, acquire, silicon, privileged, programRow, compareWords, verifyRow, lockStart, lockMacro, verifyMacro, macroDown, lockAndVerify, program, opening, afterwards, sequence, key}
+use Rattle.flow.specs.Plan.{Traffic, counting, trafficIn, isPoll, pollsIn, fromProtected, lockPlan, plan, loops, acquisitions}
+use Rattle.flow.specs.Sequence.{write, read, call, writes, listed, inTurn, imoCall, acquire, silicon, privileged, programRow, compareWords, verifyRow, lockMacro, verifyMacro, macroDown, lockAndVerify, program, opening, afterwards, sequence, key}
 use Rattle.flow.specs.Session.{bare, moveCount}
 use Rattle.flow.specs.Totals.{SequenceCounts}
 use Rattle.flow.specs.declared.Entry.{Entry}
@@ -18,7 +19,8 @@ use Rattle.flow.specs.declared.Request.the-variants.{Xres, LineReset, Re
 use Rattle.flow.proofs.Table.{Facts, facts}
 use Rattle.image.specs.Image.{Image, imageOf}
 use Rattle.lent.specs.Words.{wordsAt}
-use Rattle.parts.specs.Sizes.{rowBytes, macrosOf, rowsOf, locksIn, imoOf, PARAMS}
+use Rattle.parts.specs.Sizes.{rowBytes, macrosOf, rowsOf, locksIn, imoOf, PARAMS, lockStart}
+use Rattle.parts.proofs.Locks.{locks-alike}
 use Rattle.parts.specs.declared.Geometry.{Geometry}
 
 -- what a list of moves counts to
@@ -155,20 +157,31 @@ count-acquire g f =
     record { transfers = omega (arith, h .transfers); polls = omega (arith, h .polls); xresets = omega (arith, h .xresets); lineResets = omega (arith, h .lineResets) }
 
 module _ (i : Image) (f : Facts (i .geometry)) where
-  count-macro : (m : ℕ) → Totals (lockAndVerify i m) (24 + 5 * (locksIn (i .geometry) m / 4)) 2 0 0
-  count-macro m = recount (joined (count-lock i m) (count-verify (i .geometry) m)) (omega arith) refl refl refl
+  count-macro : (m : ℕ) → m < macrosOf (i .geometry) → Totals (lockAndVerify i m) (24 + 5 * locksIn (i .geometry) m / 4) 2 0 0
+  count-macro m low =
+      recount (joined (count-lock i m) (count-verify (i .geometry) m)) (omega (arith, (f .locks .each m low) .quads)) refl refl refl
+
+  -- the last n macros that step 7 comes to: n - 1 down to 0
+  count-macros : (k n : ℕ) → k + n ≡ macrosOf (i .geometry)
+      → Totals (inTurn (λ k. lockAndVerify i (macroDown (i .geometry) k)) k n) (lockPlan (i .geometry) n) (n * 2) 0 0
+  unfolding inTurn trafficIn pollsIn lockPlan
+  count-macros k zero h = record { transfers = refl; polls = omega arith; xresets = refl; lineResets = refl }
+  count-macros k (suc n) h =
+      let down : macroDown (i .geometry) k ≡ n = omega arith in
+      let first : Totals (lockAndVerify i (macroDown (i .geometry) k)) (24 + 5 * locksIn (i .geometry) n / 4) 2 0 0 = rw down (count-macro n (omega arith)) in
+      recount (joined first (count-macros (suc k) n (omega arith))) (omega arith) (omega arith) refl refl
 
   count-program : Totals (program i)
-      (29 + rowsOf (i .geometry) * (26 + 5 * (rowBytes (i .geometry) / 4)) + macrosOf (i .geometry) * (24 + 5 * (locksIn (i .geometry) 0 / 4)))
+      (29 + rowsOf (i .geometry) * (26 + 5 * (rowBytes (i .geometry) / 4)) + lockPlan (i .geometry) (macrosOf (i .geometry)))
       (2 + 2 * rowsOf (i .geometry) + 2 * macrosOf (i .geometry)) 0 0
-  unfolding program locksIn
+  unfolding program
   count-program =
       let g = i .geometry in
       recount
       (joined (count-privileged g 4 Keep refl)
       (joined (count-in-turn _ _ 2 (count-row i) 0 (rowsOf g))
       (joined (count-in-turn _ _ 0 (count-verify-row g) 0 (rowsOf g))
-      (joined (count-in-turn _ _ 2 (λ k. count-macro (macroDown g k)) 0 (macrosOf g))
+      (joined (count-macros 0 (macrosOf g) (omega arith))
       (joined (count-read 8 _ StoredLevel refl) (count-privileged g 9 LastSum refl))))))
       (omega arith) (omega arith) refl refl
 
@@ -178,12 +191,11 @@ module _ (i : Image) (f : Facts (i .geometry)) where
 
   pub plan-form : (y : Entry) → plan (i .geometry) y
       ≡ 69 + 10 * imoOf (i .geometry) + rowsOf (i .geometry) * (26 + 5 * (rowBytes (i .geometry) / 4))
-      + macrosOf (i .geometry) * (24 + 5 * (locksIn (i .geometry) 0 / 4)) + fromProtected y (26 + 10 * imoOf (i .geometry))
+      + lockPlan (i .geometry) (macrosOf (i .geometry)) + fromProtected y (26 + 10 * imoOf (i .geometry))
   unfolding plan
   plan-form y =
       let a : 5 * rowBytes (i .geometry) / 4 ≡ 5 * (rowBytes (i .geometry) / 4) = omega (arith, f .quads) in
-      let b : 5 * locksIn (i .geometry) 0 / 4 ≡ 5 * (locksIn (i .geometry) 0 / 4) = omega (arith, f .lockQuads 0) in
-      rw (a, b)
+      rw a
 
   -- the reads and writes are the plan, the polls the loops, the resets those of the acquisitions
   pub sequence-totals : (y : Entry) → Totals (sequence i y) (plan (i .geometry) y) (loops (i .geometry) y) (acquisitions y) (acquisitions y)
@@ -226,3 +238,15 @@ sequence-counts part macros g e h bytes y =
       moves = moves-planned i f y;
       counted = planned g f y ∙ sym (moves-planned i f y);
     }
+
+-- ---- the paper's product: every macro's locks are PB
+
+alike : (g : Geometry) (n : ℕ) → lockPlan g n ≡ n * (24 + 5 * locksIn g 0 / 4)
+unfolding lockPlan
+alike g zero = omega arith
+alike g (suc n) = rw (locks-alike g n) (omega (arith, alike g n, suc-mul n (24 + 5 * locksIn g 0 / 4)))
+
+pub plan-multiplied : (g : Geometry) (y : Entry) → plan g y
+    ≡ 69 + 10 * imoOf g + rowsOf g * (26 + 5 * rowBytes g / 4) + macrosOf g * (24 + 5 * locksIn g 0 / 4) + fromProtected y (26 + 10 * imoOf g)
+unfolding plan
+plan-multiplied g y = rw (alike g (macrosOf g))

@@ -2,12 +2,12 @@
 use mathlib.Core.Path.{refl}
 use Rattle.flow.specs.Judge.{judge}
 use Rattle.lent.specs.Words.{wordAt}
-use Rattle.parts.specs.Sizes.{locksIn}
+use Rattle.parts.specs.Sizes.{locksIn, lockStart}
 use Rattle.flow.specs.Judgements.{JudgeExamples}
 use Rattle.flow.specs.Words.{free, testBitSet, succeeded, idsFit, levelShown, sumsFit}
 
 pub judge-examples : JudgeExamples
-unfolding wordAt locksIn judge free testBitSet succeeded idsFit levelShown sumsFit
+unfolding wordAt locksIn lockStart judge free testBitSet succeeded idsFit levelShown sumsFit
 judge-examples = record {
   idcode = refl;
   otherIdcode = refl;

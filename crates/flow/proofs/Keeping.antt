@@ -13,7 +13,6 @@ use Rattle.flow.specs.Exchange.{decode, tick, fetch, begin, isCall, stor
 use Rattle.flow.specs.Map.{place}
 use Rattle.flow.specs.Packets.{packetOf}
 use Rattle.flow.specs.Run.{Run, advanceBy, advance, runAfter}
-use Rattle.flow.specs.Sequence.{lockStart}
 use Rattle.flow.specs.Session.{SessionState, running, reported, moveAt}
 use Rattle.flow.specs.Target.{Target, Memory, Residue, Running, idle, busy, CallOutcome, sized}
 use Rattle.flow.specs.declared.Place.{Place}
@@ -23,7 +22,7 @@ use Rattle.flow.specs.declared.Request.the-variants.{Xres, LineReset, Re
 use Rattle.flow.proofs.Lists.{length-lay}
 use Rattle.flow.proofs.Meeting.{carried-keeps, packet-keeps}
 use Rattle.image.specs.Image.{Image}
-use Rattle.parts.specs.Sizes.{rowBytes, locksIn}
+use Rattle.parts.specs.Sizes.{rowBytes, locksIn, lockStart}
 use Rattle.parts.specs.declared.Geometry.{Geometry}
 
 -- the same sizes

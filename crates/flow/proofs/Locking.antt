@@ -4,13 +4,12 @@ use mathlib.Core.List.{List, _++_}
 use mathlib.Core.Logic.{inl}
 use mathlib.Core.Path.{_≡_, refl, ap, _∙_}
 use Prim.Native.Nat.{ℕ, zero, suc, _+_, _*_, _/_, _≤_, _<_}
-use native.Mathlib.Nat.{mul-le-mul-right, suc-mul}
 use native.Mathlib.Omega.{arith}
 use lib.Dec.{eqb, eqb·suc-zero}
 use lib.ListN.{length, take, drop}
 use Rattle.flow.specs.Calls.{finish, effectOf, afterFailure, protect, levelSent, macroSent}
-use Rattle.flow.specs.Sequence.{key, call, listed, latchList, lockStart, lockMacro}
-use Rattle.flow.specs.Target.{Target, Memory, Residue, lay}
+use Rattle.flow.specs.Sequence.{key, call, listed, latchList, lockMacro}
+use Rattle.flow.specs.Target.{Target, Memory, Residue, lay, withLatch}
 use Rattle.flow.specs.declared.Entry.{Entry}
 use Rattle.flow.proofs.Calling.{Ends, ordinary, locking, asked, Returned, returned, calling}
 use Rattle.flow.proofs.Counting.{length-words}
@@ -22,7 +21,8 @@ use Rattle.flow.proofs.Programming.{effect-4}
 use Rattle.flow.proofs.Reaches.{Frame, split}
 use Rattle.flow.proofs.Table.{Facts}
 use Rattle.image.specs.Image.{Image}
-use Rattle.parts.specs.Sizes.{rowBytes, macrosOf, rowsPerMacro, locksIn, lockTotal, PARAMS}
+use Rattle.parts.proofs.Locks.{start-next, locks-end}
+use Rattle.parts.specs.Sizes.{rowBytes, macrosOf, locksIn, lockStart, lockTotal, PARAMS}
 use Rattle.parts.specs.declared.Geometry.{Geometry}
 
 pub level-small : {l : ℕ} → Level l → l < 16
@@ -71,34 +71,28 @@ module _ {i : Image} (f : Frame i) (fx : Facts (i .geometry)) (v : Valid i) (m :
   abbrev lockList : List ℕ
   lockList = latchList m (locksIn (i .geometry) m) (i .protection) (lockStart (i .geometry) m)
 
-  -- the next macro's start
-  next-start : lockStart (i .geometry) (suc m) ≡ lockStart (i .geometry) m + locksIn (i .geometry) m
-  unfolding locksIn
-  next-start = suc-mul m (rowsPerMacro (i .geometry) / 8)
-
   locks-fit : lockStart (i .geometry) m + locksIn (i .geometry) m ≤ lockTotal (i .geometry)
-  unfolding locksIn
-  locks-fit = omega (arith, fx .lockAll, mul-le-mul-right (rowsPerMacro (i .geometry) / 8) room, suc-mul m (rowsPerMacro (i .geometry) / 8))
+  locks-fit = locks-end (i .geometry) m room
 
   bytes-size : length bytes ≡ locksIn (i .geometry) m
   bytes-size = length-part (locksIn (i .geometry) m) (lockStart (i .geometry) m) (i .protection) (omega (arith, v .locks, locks-fit))
 
   abbrev latched : Memory → Memory
-  latched x = record { flash = x .flash; locks = x .locks; latch = lay (x .latch) 0 bytes; stored = x .stored }
+  latched x = withLatch (lay (x .latch) 0 bytes) x
 
   -- the two calls of a macro
   macro-memory : (l l′ a : ℕ) (z ps : List ℕ) (x : Memory) → l′ ≡ 1
       → effectOf (i .geometry) 0x0D l′ (lockWord (i .header .level) m) ps (effectOf (i .geometry) 4 l a (lockList ++ z) x) ≡ protect (i .geometry) (i .header .level) m (latched x)
   macro-memory l l′ a z ps x e =
       ap (effectOf (i .geometry) 0x0D l′ (lockWord (i .header .level) m) ps)
-      (effect-4 (i .geometry) l a m (locksIn (i .geometry) m) (lockStart (i .geometry) m) (i .protection) z x (fx .lockQuads m) (fx .lockSome m) (v .lockSmall) (omega (arith, v .locks, locks-fit)))
+      (effect-4 (i .geometry) l a m (locksIn (i .geometry) m) (lockStart (i .geometry) m) (i .protection) z x (fx .locks .each m room .quads) (fx .locks .each m room .some) (v .lockSmall) (omega (arith, v .locks, locks-fit)))
       ∙ effect-D (i .geometry) l′ (i .header .level) m ps _ (level-small (v .level)) e
 
   -- the latch's first bytes are the macro's
   first-bytes : (x : List ℕ) → length x ≡ rowBytes (i .geometry) → take (locksIn (i .geometry) m) (lay x 0 bytes) ≡ bytes
   first-bytes x h =
       let e : locksIn (i .geometry) m ≡ 0 + length bytes = omega (arith, bytes-size) in
-      ap (λ (n : ℕ). take n (lay x 0 bytes)) e ∙ take-lay x bytes 0 (omega (arith, bytes-size, fx .lockFit m))
+      ap (λ (n : ℕ). take n (lay x 0 bytes)) e ∙ take-lay x bytes 0 (omega (arith, bytes-size, fx .locks .each m room .fit))
 
   macro-done : (x : List ℕ) → length x ≡ lockTotal (i .geometry)
       → drop (lockStart (i .geometry) (suc m)) x ≡ drop (lockStart (i .geometry) (suc m)) (i .protection)
@@ -106,7 +100,7 @@ module _ {i : Image} (f : Frame i) (fx : Facts (i .geometry)) (v : Valid i) (m :
   macro-done x h done =
       drop-lay x bytes (lockStart (i .geometry) m) (omega (arith, bytes-size, locks-fit))
       ∙ ap (λ (n : ℕ). bytes ++ drop (lockStart (i .geometry) m + n) x) bytes-size
-      ∙ ap (λ (y : List ℕ). bytes ++ y) (rw next-start at done)
+      ∙ ap (λ (y : List ℕ). bytes ++ y) (rw (start-next (i .geometry) m) at done)
       ∙ drop-parts (locksIn (i .geometry) m) (lockStart (i .geometry) m) (i .protection)
 
   locked : (k : ℕ) (b b₁ b₂ : Target) → Locked f (suc m) k (core b) → ListReturned (i .geometry) 4 lockList b b₁ → Returned (i .geometry) 0x0D (lockWord (i .header .level) m) b₁ b₂
@@ -145,7 +139,7 @@ module _ {i : Image} (f : Frame i) (fx : Facts (i .geometry)) (v : Valid i) (m :
   macro-leg y = record {
     along = λ n x k later κ e b w st next.
         listing f fx 7 4 lockList (call4 .command) (split (listed (i .geometry) 7 4 lockList) (call (i .geometry) 7 0x0D (lockWord (i .header .level) m)) later κ st)
-        (omega (arith, length-words (i .protection) (lockStart (i .geometry) m) (locksIn (i .geometry) m / 4), fx .lockFit m)) (w .opened .room) (w .opened .effect) (w .opened .quiet)
+        (omega (arith, length-words (i .protection) (lockStart (i .geometry) m) (locksIn (i .geometry) m / 4), fx .locks .each m room .fit)) (w .opened .room) (w .opened .effect) (w .opened .quiet)
         (f .safeOpen (w .opened .right) (b .memory) (w .level)) refl (λ y r b′ he hm _. f .safeOpen (w .opened .right) _ (steady-4 (i .geometry) y r b′ ∙ ap (λ (x : Memory). x .stored) hm ∙ w .level))
         (call4 .ready _ _) (call4 .good _ _) λ b₁ r₁ n₁ e₁ st₁.
         calling f fx 7 0x0D (lockWord (i .header .level) m) (callD .command) st₁ (inl (r₁ .effect ∙ w .opened .effect)) (r₁ .ended)

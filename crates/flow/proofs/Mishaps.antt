@@ -7,10 +7,9 @@ use Rattle.flow.specs.Map.{search, regions, lockRegions}
 use Rattle.flow.specs.Mishaps.{okayWith, WordMishaps, Breaks, LineMishaps}
 use Rattle.flow.specs.Monitor.{noticeRead, noticed, watch}
 use Rattle.flow.specs.Packets.{heard, verdict, okay, broken}
-use Rattle.flow.specs.Words.{testBitSet}
 use Rattle.flow.specs.Words.{testBitSet, free, succeeded}
 use Rattle.flow.specs.declared.Request.the-variants.{ReadIdcode, ReadDrw}
-use Rattle.parts.specs.Sizes.{rowsOf, locksIn, flashSize}
+use Rattle.parts.specs.Sizes.{rowsOf, locksIn, lockStart, flashSize}
 use Rattle.wire.specs.Wire.{parity, ackOf}
 use lib.Count.{ones}
 
@@ -24,7 +23,7 @@ unfolding verdict heard
 right-idcode w = rw (eq-eqb (parity w) (parity w) refl)
 
 pub word-mishaps : WordMishaps
-unfolding watch noticed noticeRead testBitSet free succeeded search regions lockRegions rowsOf locksIn flashSize
+unfolding watch noticed noticeRead testBitSet free succeeded search regions lockRegions rowsOf locksIn lockStart flashSize
 word-mishaps = record {
   testBitClear = rw (right 0x7FFFFFFF);
   testBitSet = rw (right 0x80000000);
@@ -55,7 +54,7 @@ breaks ack number h = record {
 }
 
 pub line-mishaps : LineMishaps
-unfolding watch noticed noticeRead search regions lockRegions rowsOf locksIn flashSize verdict heard ones
+unfolding watch noticed noticeRead search regions lockRegions rowsOf locksIn lockStart flashSize verdict heard ones
 line-mishaps = record {
   attempt30 = refl;
   attempt29 = refl;

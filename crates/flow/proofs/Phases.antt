@@ -3,14 +3,12 @@ use mathlib.Core.Bool.{Bool, true, false, _&&_, cond}
 use mathlib.Core.List.{List}
 use mathlib.Core.Path.{_≡_, refl, sym, _∙_}
 use Prim.Native.Nat.{ℕ, zero, suc, _+_, _*_, _/_, _%_, _≤_}
-use native.Mathlib.Nat.{zero-mul}
 use native.Mathlib.Omega.{arith}
 use lib.Dec.{eqb, eqb·suc-zero}
 use lib.ListN.{length, take, drop, drop-of-length-le}
 use lib.Seq.{take-all}
 use Rattle.flow.specs.Calls.{finish, effectOf, sysargAfter, sysreqAfter, afterFailure}
 use Rattle.flow.specs.Sealing.{HoldsImage}
-use Rattle.flow.specs.Sequence.{lockStart}
 use Rattle.flow.specs.Target.{Target, Memory, Residue, idle}
 use Rattle.flow.specs.Words.{free, succeeded}
 use Rattle.flow.specs.declared.Silicon.{Silicon}
@@ -21,7 +19,8 @@ use Rattle.flow.proofs.Reaches.{RightIds, Frame}
 use Rattle.flow.proofs.Table.{Facts}
 use Rattle.image.specs.Image.{Image}
 use Rattle.lent.specs.Words.{total}
-use Rattle.parts.specs.Sizes.{rowBytes, macrosOf, rowsPerMacro, rowsOf, flashSize, lockTotal}
+use Rattle.parts.specs.Sizes.{rowBytes, macrosOf, rowsPerMacro, rowsOf, flashSize, lockTotal, lockStart}
+use Rattle.parts.proofs.Locks.{start-first}
 use Rattle.parts.specs.declared.Geometry.{Geometry}
 
 -- the levels that an image can have
@@ -92,14 +91,14 @@ from-start : (a b : List ℕ) (n : ℕ) → n ≡ 0 → drop n a ≡ drop n b �
 from-start a b n e h = rw e at h
 
 pub locked-all : {i : Image} {f : Frame i} {k : ℕ} {c : Core} → Locked f 0 k c → c .memory .locks ≡ i .protection
-locked-all {i} {c = c} w = from-start (c .memory .locks) (i .protection) (lockStart (i .geometry) 0) (zero-mul (rowsPerMacro (i .geometry) / 8)) (w .done)
+locked-all {i} {c = c} w = from-start (c .memory .locks) (i .protection) (lockStart (i .geometry) 0) (start-first (i .geometry)) (w .done)
 
 -- before the first macro is locked
 pub none-locked : (i : Image) (x : List ℕ) → Facts (i .geometry) → Valid i → length x ≡ lockTotal (i .geometry)
     → drop (lockStart (i .geometry) (macrosOf (i .geometry))) x ≡ drop (lockStart (i .geometry) (macrosOf (i .geometry))) (i .protection)
 none-locked i x fx v h =
-    drop-of-length-le x {i = lockStart (i .geometry) (macrosOf (i .geometry))} (omega (arith, fx .lockAll))
-    ∙ sym (drop-of-length-le (i .protection) {i = lockStart (i .geometry) (macrosOf (i .geometry))} (omega (arith, fx .lockAll, v .locks)))
+    drop-of-length-le x {i = lockStart (i .geometry) (macrosOf (i .geometry))} (omega (arith, fx .locks .all))
+    ∙ sym (drop-of-length-le (i .protection) {i = lockStart (i .geometry) (macrosOf (i .geometry))} (omega (arith, fx .locks .all, v .locks)))
 
 pub all-held : {i : Image} {f : Frame i} {k : ℕ} {c : Core} → Locked f 0 k c → HoldsImage i (c .memory)
 all-held w = record { flash = w .flash; locks = locked-all w; level = w .level }

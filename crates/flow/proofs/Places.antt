@@ -7,11 +7,10 @@ use native.Mathlib.Omega.{arith}
 use lib.Dec.{leb, ltb}
 use borrow.Author.Tests.{leb-true, lt-ltb, le-ltb, le-leb, lt-leb}
 use Rattle.flow.specs.Map.{Region, covers, search, lockRegions, regions, place}
-use Rattle.flow.specs.Sequence.{lockStart}
 use Rattle.flow.specs.declared.Place.the-variants.{InFlash, InLocks, InParams, AtLevel, AtSysreq, AtSysarg, AtTestMode}
 use Rattle.flow.proofs.Table.{apart, apartFrom, allApart, Facts}
 use Rattle.parts.proofs.Table.{both}
-use Rattle.parts.specs.Sizes.{rowBytes, macrosOf, flashSize, locksIn, sysreqOf, sysargOf, PARAMS, TEST-MODE, locksAt, levelAt}
+use Rattle.parts.specs.Sizes.{rowBytes, macrosOf, flashSize, locksIn, lockStart, sysreqOf, sysargOf, PARAMS, TEST-MODE, locksAt, levelAt}
 use Rattle.parts.specs.declared.Geometry.{Geometry}
 
 data In (r : Region) : List Region → Type 0 where

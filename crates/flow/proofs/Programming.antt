@@ -9,7 +9,7 @@ use lib.ListN.{length, take, drop}
 use lib.Seq.{take-add}
 use Rattle.flow.specs.Calls.{effectOf}
 use Rattle.flow.specs.Sequence.{key, listed, latchList, programRow, inTurn}
-use Rattle.flow.specs.Target.{Target, Memory, lay}
+use Rattle.flow.specs.Target.{Target, Memory, lay, withFlash, withLatch}
 use Rattle.flow.specs.declared.Entry.{Entry}
 use Rattle.flow.proofs.Counting.{length-words}
 use Rattle.flow.proofs.Legs.{core, Leg, leg-pieces}
@@ -25,14 +25,14 @@ use Rattle.parts.specs.declared.Geometry.{Geometry}
 -- call 4 puts n bytes of the list from o on into the latch
 pub effect-4 : (g : Geometry) (l a m n o : ℕ) (bytes behind : List ℕ) (x : Memory) → 4 * (n / 4) ≡ n → 1 ≤ n → Small bytes → o + n ≤ length bytes
     → effectOf g 4 l a (latchList m n bytes o ++ behind) x
-    ≡ record { flash = x .flash; locks = x .locks; latch = lay (x .latch) 0 (take n (drop o bytes)); stored = x .stored }
+    ≡ withLatch (lay (x .latch) 0 (take n (drop o bytes))) x
 unfolding effectOf
 effect-4 g l a m n o bytes behind x hq hn small room =
-    ap (λ (y : List ℕ). record { flash = x .flash; locks = x .locks; latch = lay (x .latch) 0 y; stored = x .stored }) (sent-bytes n o bytes behind hq hn small room)
+    ap (λ (y : List ℕ). withLatch (lay (x .latch) 0 y) x) (sent-bytes n o bytes behind hq hn small room)
 
 effect-6 : (g : Geometry) (l a r : ℕ) (behind : List ℕ) (x : Memory)
     → effectOf g 6 l a ((key 6 + r * 0x10000) ∷ behind) x
-    ≡ record { flash = lay (x .flash) (r * rowBytes g) (x .latch); locks = x .locks; latch = x .latch; stored = x .stored }
+    ≡ withFlash (lay (x .flash) (r * rowBytes g) (x .latch)) x
 unfolding effectOf
 effect-6 g l a r behind x = let e : (key 6 + r * 0x10000) / 65536 ≡ r = omega arith in rw e
 
@@ -55,13 +55,13 @@ module _ {i : Image} (f : Frame i) (fx : Facts (i .geometry)) (v : Valid i) (r :
   -- the two calls of a row
   row-memory : (l l′ a a′ : ℕ) (z z′ : List ℕ) (x : Memory) → length (x .latch) ≡ rowBytes (i .geometry)
       → effectOf (i .geometry) 6 l′ a′ ((key 6 + r * 0x10000) ∷ z′) (effectOf (i .geometry) 4 l a (rowList ++ z) x)
-      ≡ record { flash = lay (x .flash) (r * rowBytes (i .geometry)) row; locks = x .locks; latch = row; stored = x .stored }
+      ≡ withFlash (lay (x .flash) (r * rowBytes (i .geometry)) row) (withLatch row x)
   row-memory l l′ a a′ z z′ x h =
       ap (effectOf (i .geometry) 6 l′ a′ ((key 6 + r * 0x10000) ∷ z′))
       (effect-4 (i .geometry) l a (r / rowsPerMacro (i .geometry)) (rowBytes (i .geometry)) (r * rowBytes (i .geometry)) (i .flash) z x (fx .quads) (fx .some) (v .flashSmall)
       (omega (arith, v .flash, row-fits))
-      ∙ ap (λ (y : List ℕ). record { flash = x .flash; locks = x .locks; latch = y; stored = x .stored }) (lay-whole (x .latch) row (row-size ∙ sym h)))
-      ∙ effect-6 (i .geometry) l′ a′ r z′ (record { flash = x .flash; locks = x .locks; latch = row; stored = x .stored })
+      ∙ ap (λ (y : List ℕ). withLatch y x) (lay-whole (x .latch) row (row-size ∙ sym h)))
+      ∙ effect-6 (i .geometry) l′ a′ r z′ (withLatch row x)
 
   -- the row is written
   row-done : (x : List ℕ) → length x ≡ flashSize (i .geometry) → take (r * rowBytes (i .geometry)) x ≡ take (r * rowBytes (i .geometry)) (i .flash)
@@ -75,7 +75,7 @@ module _ {i : Image} (f : Frame i) (fx : Facts (i .geometry)) (v : Valid i) (r :
   wrote : (k : ℕ) (b b₁ b₂ : Target) → Wrote f r k (core b) → ListReturned (i .geometry) 4 rowList b b₁ → ListReturned (i .geometry) 6 ((key 6 + r * 0x10000) ∷ []) b₁ b₂
       → Wrote f (suc r) k (core b₂)
   wrote k b b₁ b₂ w r₁ r₂ =
-      let m : b₂ .memory ≡ record { flash = lay (b .memory .flash) (r * rowBytes (i .geometry)) row; locks = b .memory .locks; latch = row; stored = b .memory .stored } =
+      let m : b₂ .memory ≡ withFlash (lay (b .memory .flash) (r * rowBytes (i .geometry)) row) (withLatch row (b .memory)) =
       r₂ .memory ∙ rw (r₁ .memory) (row-memory (b .effect) (b₁ .effect) PARAMS PARAMS (r₁ .behind) (r₂ .behind) (b .memory) (w .sized .latch)) in
       record {
         opened = record {

@@ -19,7 +19,7 @@ use Rattle.flow.specs.Target.{Target, idle, Lists, nextEvent}
 use Rattle.flow.specs.Words.{succeeded}
 use Rattle.flow.specs.declared.Request.the-variants.{ReadDrw, WriteTar}
 use Rattle.flow.specs.declared.TransferOutcome.the-variants.{Silent, Noisy}
-use Rattle.parts.specs.Sizes.{rowsOf, locksIn, flashSize}
+use Rattle.parts.specs.Sizes.{rowsOf, locksIn, lockStart, flashSize}
 
 byRead : (l : Lists) (b : Target) (y : Bool) → seals b ((transferred partOne ReadDrw (nextEvent (l .line)) l b) .target) ≡ y → sealedBy ReadDrw l b ≡ y
 byRead l b y e = ap (λ (m : Met). seals b (m .target)) (meets partOne (plain aRead) l b) ∙ e
@@ -35,7 +35,7 @@ abbrev row-cut : Target
 row-cut = poweredUp (holding (underWay 6)) (residue 0 false) latch [] 0
 
 pub sealing-examples : SealingExamples
-unfolding transferred carry barred search regions lockRegions rowsOf locksIn flashSize finish effectOf sysargAfter sysreqAfter afterFailure reset meet decode succeeded
+unfolding transferred carry barred search regions lockRegions rowsOf locksIn lockStart flashSize finish effectOf sysargAfter sysreqAfter afterFailure reset meet decode succeeded
 sealing-examples = record {
   succeeds = byRead none (locking 1 0x2E0B6 0 true) true refl;
   unheard = byRead (onLine (Silent true)) (locking 1 0x2E0B6 0 true) true refl;

@@ -10,12 +10,12 @@ use Rattle.flow.specs.Session.{stepOf}
 use Rattle.flow.specs.SessionExamples.{MoveExamples, Ends, SessionExamples}
 use Rattle.flow.proofs.Mishaps.{right, right-idcode}
 use Rattle.lent.specs.Words.{wordAt, wordsAt}
-use Rattle.parts.specs.Sizes.{rowsOf, locksIn}
+use Rattle.parts.specs.Sizes.{rowsOf, locksIn, lockStart}
 use Rattle.wire.specs.Wire.{ackOf}
 use Rattle.flow.specs.Words.{free, succeeded}
 
 pub move-examples : MoveExamples
-unfolding sequence opening acquire silicon call write read writes listed inTurn imoCall privileged programRow program lockMacro verifyMacro afterwards rowsOf locksIn wordAt wordsAt
+unfolding sequence opening acquire silicon call write read writes listed inTurn imoCall privileged programRow program lockMacro verifyMacro afterwards rowsOf locksIn lockStart wordAt wordsAt
 move-examples = record {
   xres = refl;
   idcode = refl;

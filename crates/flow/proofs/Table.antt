@@ -6,9 +6,10 @@ use Prim.Native.Nat.{ℕ, _+_, _*_, _/_, _≤_}
 use lib.Dec.{eqb, leb}
 use borrow.Author.Tests.{eqb-true, leb-true}
 use Rattle.flow.specs.Map.{Region, regions, lockRegions}
+use Rattle.parts.proofs.Locks.{Locks, table-locks}
 use Rattle.parts.proofs.Table.{both, everywhere, at-found}
 use Rattle.parts.specs.Parts.{partTable, lookupOf}
-use Rattle.parts.specs.Sizes.{rowBytes, macrosOf, rowsPerMacro, rowsOf, flashSize, locksIn, lockTotal, imoOf}
+use Rattle.parts.specs.Sizes.{rowBytes, macrosOf, rowsOf, flashSize, locksIn, imoOf}
 use Rattle.parts.specs.declared.Geometry.{Geometry}
 use Rattle.parts.specs.declared.Lookup.the-variants.{Found}
 
@@ -34,12 +35,10 @@ unfoldable fits : Geometry → Bool
 fits g =
     all (leb (imoOf g) 1 ∷ leb 1 (macrosOf g)
     ∷ eqb (4 * (rowBytes g / 4)) (rowBytes g) ∷ leb 1 (rowBytes g)
-    ∷ eqb (4 * (rowsPerMacro g / 8 / 4)) (rowsPerMacro g / 8) ∷ leb 1 (rowsPerMacro g / 8) ∷ leb (rowsPerMacro g / 8) (rowBytes g)
-    ∷ eqb (lockTotal g) (macrosOf g * (rowsPerMacro g / 8))
     ∷ allApart (regions g) ∷ [])
 
 table-fits : everywhere fits partTable ≡ true
-unfolding fits all regions lockRegions flashSize rowsOf locksIn lockTotal
+unfolding fits all regions lockRegions flashSize rowsOf locksIn
 table-fits = refl
 
 -- ---- the facts
@@ -49,10 +48,7 @@ pub record Facts (g : Geometry) : Type 0 where
   pub any : 1 ≤ macrosOf g
   pub quads : 4 * (rowBytes g / 4) ≡ rowBytes g
   pub some : 1 ≤ rowBytes g
-  pub lockQuads : (m : ℕ) → 4 * (locksIn g m / 4) ≡ locksIn g m
-  pub lockSome : (m : ℕ) → 1 ≤ locksIn g m
-  pub lockFit : (m : ℕ) → locksIn g m ≤ rowBytes g
-  pub lockAll : lockTotal g ≡ macrosOf g * (rowsPerMacro g / 8)
+  pub locks : Locks g
   pub apart : allApart (regions g) ≡ true
 
 all-first : (b : Bool) (bs : List Bool) → all (b ∷ bs) ≡ true → (b ≡ true) × (all bs ≡ true)
@@ -60,25 +56,18 @@ unfolding all
 all-first b bs h = both b (all bs) h
 
 pub facts : (n m : ℕ) (g : Geometry) → lookupOf n m ≡ Found g → Facts g
-unfolding fits locksIn
+unfolding fits
 facts n m g e =
     let t₀ = all-first _ _ (at-found fits table-fits n m e) in
     let t₁ = all-first _ _ (t₀ .1) in
     let t₂ = all-first _ _ (t₁ .1) in
     let t₃ = all-first _ _ (t₂ .1) in
     let t₄ = all-first _ _ (t₃ .1) in
-    let t₅ = all-first _ _ (t₄ .1) in
-    let t₆ = all-first _ _ (t₅ .1) in
-    let t₇ = all-first _ _ (t₆ .1) in
-    let t₈ = all-first _ _ (t₇ .1) in
     record {
       imo = leb-true _ _ (t₀ .0);
       any = leb-true _ _ (t₁ .0);
       quads = eqb-true _ _ (t₂ .0);
       some = leb-true _ _ (t₃ .0);
-      lockQuads = λ m. eqb-true _ _ (t₄ .0);
-      lockSome = λ m. leb-true _ _ (t₅ .0);
-      lockFit = λ m. leb-true _ _ (t₆ .0);
-      lockAll = eqb-true _ _ (t₇ .0);
-      apart = t₈ .0;
+      locks = table-locks n m g e;
+      apart = t₄ .0;
     }

@@ -11,7 +11,7 @@ use Rattle.flow.specs.Exchange.{levelWord}
 use Rattle.flow.specs.Judge.{goIf, judge}
 use Rattle.flow.specs.Map.{place}
 use Rattle.flow.specs.Monitor.{noticeRead}
-use Rattle.flow.specs.Sequence.{read, inTurn, compareWords, verifyRow, lockStart, lockMacro, verifyMacro, macroDown, lockAndVerify}
+use Rattle.flow.specs.Sequence.{read, inTurn, compareWords, verifyRow, lockMacro, verifyMacro, macroDown, lockAndVerify}
 use Rattle.flow.specs.Session.{position, running}
 use Rattle.flow.specs.Target.{Target, idle}
 use Rattle.flow.specs.Words.{levelShown}
@@ -33,7 +33,7 @@ use Rattle.flow.proofs.Table.{Facts}
 use Rattle.lent.proofs.Words.{part-word}
 use Rattle.image.specs.Image.{Image}
 use Rattle.lent.specs.Words.{wordAt}
-use Rattle.parts.specs.Sizes.{rowBytes, macrosOf, rowsOf, flashSize, locksIn, locksAt, levelAt}
+use Rattle.parts.specs.Sizes.{rowBytes, macrosOf, rowsOf, flashSize, locksIn, locksAt, levelAt, lockStart}
 use Rattle.parts.specs.declared.Geometry.{Geometry}
 use Rattle.flow.specs.declared.Way.the-variants.{Onward}
 
@@ -118,8 +118,8 @@ module _ {i : Image} (f : Frame i) (y : Entry) where
     unfolding verifyMacro
     verify-leg m hm =
         words-leg 8 (locksAt (i .geometry) m) (locksIn (i .geometry) m / 4) (LockWord m) (λ j. wordAt (i .protection) (lockStart (i .geometry) m + 4 * j)) (Locked f m)
-        (λ j h. takes-locks i m (4 * j) (omega (arith, fx .lockQuads m)))
-        (λ j h k c p. locksHold (lockStart (i .geometry) m + 4 * j) (place-locks (i .geometry) fx _ m (4 * j) refl hm (omega (arith, fx .lockQuads m)))
+        (λ j h. takes-locks i m (4 * j) (omega (arith, fx .locks .each m hm .quads)))
+        (λ j h k c p. locksHold (lockStart (i .geometry) m + 4 * j) (place-locks (i .geometry) fx _ m (4 * j) refl hm (omega (arith, fx .locks .each m hm .quads)))
         (same-word (c .memory .locks) (i .protection) (lockStart (i .geometry) m) (4 * j) (p .done)))
         (λ k c p. p .opened .effect) (λ k c p. p .opened .quiet) (λ k c p. level-safe f m p)
 

@@ -1,14 +1,14 @@
 -- The hypotheses of demand 3 can be met, and done be reached, for every part, M and level. Assumes nothing.
-use mathlib.Core.Bool.{true, false}
+use mathlib.Core.Bool.{Bool, true, false, _&&_}
 use mathlib.Core.List.{List, [], _∷_}
 use mathlib.Core.Logic.{_⊎_, inl, inr}
 use mathlib.Core.Path.{_≡_, refl, ap, _∙_}
 use Prim.Native.Nat.{ℕ, zero, suc, _+_, _/_, _<_}
 use native.Mathlib.Nat.{le-refl}
 use native.Mathlib.Omega.{arith}
-use lib.Dec.{eqb, lit<}
+use lib.Dec.{eqb, ltb}
 use lib.ListN.{length, getD, replicate, length-replicate}
-use borrow.Author.Tests.{eq-eqb}
+use borrow.Author.Tests.{eq-eqb, ltb-true}
 use Rattle.flow.specs.Claim.{RunDemand3, OtherPartWitness, EarlyWitness, Achieved}
 use Rattle.flow.specs.Monitor.{linkError}
 use Rattle.flow.specs.Terms.{Passes, Startable, RightPart, calmEnd, callsEnd, entryOf}
@@ -23,12 +23,12 @@ use Rattle.image.specs.Checks.{imageIdFits, faultIn}
 use Rattle.image.specs.Image.{imageOf, flashIn}
 use Rattle.image.specs.Refusals.{firstRefusal}
 use Rattle.image.specs.declared.Header.{Header}
-use Rattle.parts.specs.Parts.{part1, part2, part3, lookIn, lookupOf, lowFits}
+use Rattle.parts.proofs.Table.{both, everywhere, entry}
+use Rattle.parts.specs.Parts.{partTable, lookupOf, lowFits}
 use Rattle.parts.specs.Sizes.{rowBytes, rowsOf, flashSize, lockTotal, imageSize}
 use Rattle.parts.specs.declared.Geometry.{Geometry}
 use Rattle.parts.specs.declared.Lookup.{Lookup}
 use Rattle.parts.specs.declared.Lookup.the-variants.{Found}
-use Rattle.parts.specs.declared.Part.{Part}
 
 first-one : (n : ℕ) → 0 < n → _≡_ {A = ℕ} (getD (replicate n 1) 0 0) 1
 first-one zero h = absurd (omega arith)
@@ -50,7 +50,17 @@ headerFor g = record {
   level = 1;
 }
 
--- what a look-up and the ID byte ranges give
+-- the test: the part's own IDs fit it, in bytes, and it has flash
+abbrev listed : Geometry → Bool
+listed g =
+    imageIdFits g (headerFor g) && lowFits (g .part) (g .part .«id_low» .first) && ltb (g .part .«id_high») 256 && ltb (g .part .«id_low» .first) 256
+    && ltb (g .part .«id_family») 256 && ltb 0 (flashSize g)
+
+table-listed : everywhere listed partTable ≡ true
+unfolding flashSize rowsOf
+table-listed = refl
+
+-- what a look-up gives
 record Listed (g : Geometry) : Type 0 where
   pub found : lookupOf (g .part .number) (g .macros) ≡ Found g
   pub ids : imageIdFits g (headerFor g) ≡ true
@@ -58,6 +68,25 @@ record Listed (g : Geometry) : Type 0 where
   pub high : g .part .«id_high» < 256
   pub first : g .part .«id_low» .first < 256
   pub family : g .part .«id_family» < 256
+  pub flash : 0 < flashSize g
+
+looked-up : (n m : ℕ) (g : Geometry) → lookupOf n m ≡ Found g → Listed g
+looked-up n m g e =
+    let t = entry listed n m g table-listed e in
+    let t₄ = both _ (ltb 0 (flashSize g)) (t .passes) in
+    let t₃ = both _ (ltb (g .part .«id_family») 256) (t₄ .0) in
+    let t₂ = both _ (ltb (g .part .«id_low» .first) 256) (t₃ .0) in
+    let t₁ = both _ (ltb (g .part .«id_high») 256) (t₂ .0) in
+    let t₀ = both (imageIdFits g (headerFor g)) (lowFits (g .part) (g .part .«id_low» .first)) (t₁ .0) in
+    record {
+      found = ap (λ (k : ℕ). lookupOf k (g .macros)) (t .number) ∙ ap (λ (k : ℕ). lookupOf n k) (t .macros) ∙ e;
+      ids = t₀ .0;
+      low = t₀ .1;
+      high = ltb-true _ _ (t₁ .1);
+      first = ltb-true _ _ (t₂ .1);
+      family = ltb-true _ _ (t₃ .1);
+      flash = ltb-true _ _ (t₄ .1);
+    }
 
 module _ (g : Geometry) (s : Listed g) (level : ℕ) (lv : (level ≡ 1) ⊎ (level ≡ 2)) where
   abbrev erased : List ℕ
@@ -139,10 +168,10 @@ module _ (g : Geometry) (s : Listed g) (level : ℕ) (lv : (level ≡ 1) ⊎ (le
   -- ---- what is left alone
 
   -- the target's flash is not the image's
-  other : (idcode : ℕ) → 0 < flashSize g → (targetOf idcode) .memory .flash ≡ flashIn g erased → ⊥
+  other : (idcode : ℕ) → (targetOf idcode) .memory .flash ≡ flashIn g erased → ⊥
   unfolding targetOf
-  other idcode some e =
-      let one = first-one (flashSize g) some in
+  other idcode e =
+      let one = first-one (flashSize g) (s .flash) in
       let none = zeros-take (flashSize g) erased (zeros (imageSize g)) 0 in
       omega (arith, ap (λ (l : List ℕ). getD l 0 0) e)
 
@@ -150,8 +179,8 @@ module _ (g : Geometry) (s : Listed g) (level : ℕ) (lv : (level ≡ 1) ⊎ (le
   unfolding targetOf
   wrong r = omega (arith, r .idcode)
 
-  other-part : 0 < flashSize g → OtherPartWitness g
-  other-part some =
+  other-part : OtherPartWitness g
+  other-part =
       let most = mostTraffic g (entryOf (targetOf 0)) in
       let n = most .transfers + most .xresets + most .lineResets in
       let d = run-demand3-holds g (headerFor g) erased passes (targetOf 0) (startable 0) (record { line = []; calls = [] }) n in
@@ -163,7 +192,7 @@ module _ (g : Geometry) (s : Listed g) (level : ℕ) (lv : (level ≡ 1) ⊎ (le
           passes = passes;
           target = targetOf 0;
           startable = startable 0;
-          other = other 0 some;
+          other = other 0;
           lists = record { line = []; calls = [] };
           steps = n;
           number = r .number;
@@ -183,9 +212,9 @@ module _ (g : Geometry) (s : Listed g) (level : ℕ) (lv : (level ≡ 1) ⊎ (le
       by d r (inr (inl m)) = absurd (d .provoked (record { line = calmEnd; calls = callsEnd }) (r .number) m)
       by d r (inr (inr (w, j))) = j
 
-  early : 0 < flashSize g → EarlyWitness g
+  early : EarlyWitness g
   unfolding targetOf
-  early some =
+  early =
       let f = faulted (imageOf g (headerFor g) erased) target refl (not-kill level lv) refl in
       record {
         run = record {
@@ -194,7 +223,7 @@ module _ (g : Geometry) (s : Listed g) (level : ℕ) (lv : (level ≡ 1) ⊎ (le
           passes = passes;
           target = target;
           startable = startable 0x0BB11477;
-          other = other 0x0BB11477 some;
+          other = other 0x0BB11477;
           lists = secondFaults;
           steps = 4;
           number = 28;
@@ -209,50 +238,20 @@ module _ (g : Geometry) (s : Listed g) (level : ℕ) (lv : (level ≡ 1) ⊎ (le
 
 -- ---- every part and M
 
-abbrev geometry : Part → ℕ → Geometry
-geometry p m = record { part = p; macros = m }
-
-listed1 : Listed (geometry part1 1)
-unfolding lookIn
-listed1 = record { found = refl; ids = refl; low = refl; high = lit< tt; first = lit< tt; family = lit< tt }
-
-listed2 : Listed (geometry part2 1)
-unfolding lookIn
-listed2 = record { found = refl; ids = refl; low = refl; high = lit< tt; first = lit< tt; family = lit< tt }
-
-listed3 : Listed (geometry part3 1)
-unfolding lookIn
-listed3 = record { found = refl; ids = refl; low = refl; high = lit< tt; first = lit< tt; family = lit< tt }
-
-listed3b : Listed (geometry part3 2)
-unfolding lookIn
-listed3b = record { found = refl; ids = refl; low = refl; high = lit< tt; first = lit< tt; family = lit< tt }
-
 -- from OPEN and from PROTECTED
 pub record Both (g : Geometry) : Type 0 where
   pub fromOpen : Achieved g 1
   pub fromProtected : Achieved g 2
 
-both-levels : (g : Geometry) → Listed g → Both g
-both-levels g s = record { fromOpen = achieved g s 1 (inl refl); fromProtected = achieved g s 2 (inr refl) }
+module _ (part macros : ℕ) (g : Geometry) (e : lookupOf part macros ≡ Found g) where
+  pub witness : Both g
+  witness =
+      let s = looked-up part macros g e in
+      record { fromOpen = achieved g s 1 (inl refl); fromProtected = achieved g s 2 (inr refl) }
 
-pub witness-1 : Both (geometry part1 1)
-witness-1 = both-levels (geometry part1 1) listed1
+  -- a board of another part, and a failure before step 3, both with a flash that is not the image's
+  pub other-part-witness : OtherPartWitness g
+  other-part-witness = other-part g (looked-up part macros g e) 1 (inl refl)
 
-pub witness-2 : Both (geometry part2 1)
-witness-2 = both-levels (geometry part2 1) listed2
-
-pub witness-3 : Both (geometry part3 1)
-witness-3 = both-levels (geometry part3 1) listed3
-
-pub witness-3-2 : Both (geometry part3 2)
-witness-3-2 = both-levels (geometry part3 2) listed3b
-
--- a board of another part, and a failure before step 3, both with a flash that is not the image's
-pub other-part-witness : OtherPartWitness (geometry part1 1)
-unfolding flashSize rowsOf
-other-part-witness = other-part (geometry part1 1) listed1 1 (inl refl) (lit< tt)
-
-pub early-witness : EarlyWitness (geometry part1 1)
-unfolding flashSize rowsOf
-early-witness = early (geometry part1 1) listed1 1 (inl refl) (lit< tt)
+  pub early-witness : EarlyWitness g
+  early-witness = early g (looked-up part macros g e) 1 (inl refl)

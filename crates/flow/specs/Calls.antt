@@ -4,11 +4,10 @@ use mathlib.Core.List.{List, [], _∷_, _++_}
 use Prim.Native.Nat.{ℕ, _+_, _*_, _/_, _%_}
 use lib.Dec.{eqb}
 use lib.ListN.{length, getD, take, drop, replicate}
-use Rattle.flow.specs.Sequence.{lockStart}
-use Rattle.flow.specs.Target.{Memory, Residue, Target, Running, idle, busy, lay, sized, setEnded, setReset}
+use Rattle.flow.specs.Target.{Memory, Residue, Target, Running, idle, busy, lay, sized, withFlash, withLocks, withLatch, withLevel, setEnded, setReset}
 use Rattle.flow.specs.declared.Silicon.{Silicon}
 use Rattle.lent.specs.Words.{total, lowFirst}
-use Rattle.parts.specs.Sizes.{rowBytes, locksIn, PARAMS}
+use Rattle.parts.specs.Sizes.{rowBytes, locksIn, PARAMS, lockStart}
 use Rattle.parts.specs.declared.Geometry.{Geometry}
 
 -- 'Words have the low byte first.'
@@ -18,30 +17,15 @@ bytesIn (w ∷ ws) = lowFirst 4 w ++ bytesIn ws
 
 -- '0x0A zeroes flash and locks.'
 abbrev pub zeroed : (stored : ℕ) → Memory → Memory
-zeroed l m = record {
-  flash = replicate (length (m .flash)) 0;
-  locks = replicate (length (m .locks)) 0;
-  latch = m .latch;
-  stored = l;
-}
+zeroed l m = withFlash (replicate (length (m .flash)) 0) (withLocks (replicate (length (m .locks)) 0) (withLevel l m))
 
 -- '4 fills the latch from byte 0, keeping the rest.'
 abbrev pub fillLatch : List ℕ → Memory → Memory
-fillLatch ps m = record {
-  flash = m .flash;
-  locks = m .locks;
-  latch = lay (m .latch) 0 (take (getD ps 1 0 + 1) (bytesIn (drop 2 ps)));
-  stored = m .stored;
-}
+fillLatch ps m = withLatch (lay (m .latch) 0 (take (getD ps 1 0 + 1) (bytesIn (drop 2 ps)))) m
 
 -- '6 makes the row the latch.'
 abbrev pub programLatch : Geometry → List ℕ → Memory → Memory
-programLatch g ps m = record {
-  flash = lay (m .flash) (getD ps 0 0 / 65536 * rowBytes g) (m .latch);
-  locks = m .locks;
-  latch = m .latch;
-  stored = m .stored;
-}
+programLatch g ps m = withFlash (lay (m .flash) (getD ps 0 0 / 65536 * rowBytes g) (m .latch)) m
 
 -- the level and the macro that 0x0D is given
 abbrev pub levelSent : ℕ → ℕ
@@ -52,12 +36,8 @@ macroSent arg = arg / 16777216
 
 -- '0x0D makes the macro's locks the latch's first PB bytes and, on macro 0 only, stores the level'
 abbrev pub protect : Geometry → (level macro : ℕ) → Memory → Memory
-protect g l n m = record {
-  flash = m .flash;
-  locks = lay (m .locks) (lockStart g n) (take (locksIn g n) (m .latch));
-  latch = m .latch;
-  stored = cond (eqb n 0) l (m .stored);
-}
+protect g l n m =
+    withLocks (lay (m .locks) (lockStart g n) (take (locksIn g n) (m .latch))) (withLevel (cond (eqb n 0) l (m .stored)) m)
 
 -- call c with the level in effect, the word in SYSARG and the words of its list; other calls succeed without effect;
 -- 'with PROTECTED in effect and OPEN sent it instead zeroes flash and locks and stores OPEN'
@@ -86,12 +66,10 @@ failedArg w = cond (eqb (w / 268435456 % 16) 0xA) 0 w
 unfoldable pub afterFailure : (c arg : ℕ) → Residue → Memory → Memory
 afterFailure c arg r m =
     cond (eqb c 0 || eqb c 0x0B || eqb c 0x15) m
-    (record {
-      flash = sized (m .flash) (r .flash);
-      locks = sized (m .locks) (r .locks);
-      latch = sized (m .latch) (r .latch);
-      stored = cond (r .newLevel && eqb c 0x0D && eqb (macroSent arg) 0) (levelSent arg) (m .stored);
-    })
+    (withFlash (sized (m .flash) (r .flash))
+    (withLocks (sized (m .locks) (r .locks))
+    (withLatch (sized (m .latch) (r .latch))
+    (withLevel (cond (r .newLevel && eqb c 0x0D && eqb (macroSent arg) 0) (levelSent arg) (m .stored)) m))))
 
 -- the list of a call whose SYSARG is PARAMS
 abbrev pub listAt : (sysarg : ℕ) → List ℕ → List ℕ

@@ -8,7 +8,7 @@ use Rattle.flow.specs.BoardExamples.{memoryWith, small, boardWith, resid
 use Rattle.flow.specs.Cuts.{cutMemory, CutTo}
 use Rattle.flow.specs.Mishaps.{SYSREQ}
 use Rattle.flow.specs.Sequence.{key}
-use Rattle.flow.specs.Target.{Memory, Residue, Running, idle, busy, Target}
+use Rattle.flow.specs.Target.{Memory, Residue, Running, idle, busy, Target, withLatch}
 use Rattle.parts.specs.Sizes.{PARAMS}
 
 -- a board with this level stored and in effect, this word in SYSARG, and this under way
@@ -57,7 +57,7 @@ pub record Reopening (b : Target) : Type 0 where
 abbrev pub poweredUp : Target → Residue → (latch params : List ℕ) → (register : ℕ) → Target
 poweredUp b r latch params w = record {
   silicon = b .silicon;
-  memory = record { flash = (cutMemory b r) .flash; locks = (cutMemory b r) .locks; latch = latch; stored = (cutMemory b r) .stored };
+  memory = withLatch latch (cutMemory b r);
   effect = w;
   params = params;
   sysarg = w + 1;

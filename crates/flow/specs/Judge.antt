@@ -3,9 +3,9 @@ use mathlib.Core.Bool.{Bool, true, false, cond}
 use mathlib.Core.List.{List}
 use Prim.Native.Nat.{ℕ, suc, _*_}
 use lib.Dec.{eqb, ltb}
-use Rattle.flow.specs.Sequence.{lockStart}
 use Rattle.flow.specs.Words.{testBitSet, free, succeeded, idsFit, levelIn, levelShown, sumsFit}
 use Rattle.flow.specs.declared.Counters.{Counters}
+use Rattle.flow.specs.declared.Entry.{Entry}
 use Rattle.flow.specs.declared.Entry.the-variants.{FromOpen, FromProtected}
 use Rattle.flow.specs.declared.Next.{Next}
 use Rattle.flow.specs.declared.Next.the-variants.{Go, Stop}
@@ -15,8 +15,9 @@ use Rattle.flow.specs.declared.Way.the-variants.{Onward, ToPoll, Enter}
 use Rattle.image.specs.Image.{Image}
 use Rattle.lent.specs.Words.{sameWord, partOf}
 use Rattle.image.specs.declared.Header.{Header}
-use Rattle.parts.specs.Sizes.{rowBytes, locksIn}
+use Rattle.parts.specs.Sizes.{rowBytes, locksIn, lockStart}
 use Rattle.parts.specs.declared.Geometry.{Geometry}
+use Rattle.parts.specs.Parts.{lowFits}
 
 -- ---- counters, each changed by its name
 

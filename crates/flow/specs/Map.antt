@@ -3,10 +3,9 @@ use mathlib.Core.Bool.{Bool, _&&_, cond}
 use mathlib.Core.List.{List, [], _∷_}
 use Prim.Native.Nat.{ℕ, zero, suc, _+_, _-_, _/_}
 use lib.Dec.{leb, ltb}
-use Rattle.flow.specs.Sequence.{lockStart}
 use Rattle.flow.specs.declared.Place.{Place}
 use Rattle.flow.specs.declared.Place.the-variants.{InFlash, InLocks, InParams, AtLevel, AtSysreq, AtSysarg, AtTestMode, Elsewhere}
-use Rattle.parts.specs.Sizes.{rowBytes, macrosOf, flashSize, locksIn, sysreqOf, sysargOf, PARAMS, TEST-MODE, locksAt, levelAt}
+use Rattle.parts.specs.Sizes.{rowBytes, macrosOf, flashSize, locksIn, lockStart, sysreqOf, sysargOf, PARAMS, TEST-MODE, locksAt, levelAt}
 use Rattle.parts.specs.declared.Geometry.{Geometry}
 
 -- 'the word at TAR: flash, locks, the stored level as step 8 reads it, registers, PARAMS, elsewhere any word': addresses from `start`

@@ -9,29 +9,12 @@ use Rattle.flow.specs.declared.Move.{Move}
 use Rattle.flow.specs.declared.Request.{Request}
 use Rattle.flow.specs.declared.Request.the-variants.{Xres, LineReset, ReadIdcode, ReadDrw, WriteTar, WriteDrw, WriteSetup}
 use Rattle.image.specs.Image.{Image}
-use Rattle.parts.specs.Parts.{part3}
+use Rattle.parts.specs.Parts.{part3, resized}
 use Rattle.parts.specs.declared.Geometry.{Geometry}
 
 -- part 3 with smaller rows and so many smaller macros
 abbrev pub withMacros : (n : ℕ) → Geometry
-withMacros n = record {
-  part = record {
-    number = 3;
-    «row_bytes» = 4;
-    «rows_per_macro» = 32;
-    «most_macros» = n;
-    sysreq = part3 .sysreq;
-    imo = part3 .imo;
-    «id_high» = part3 .«id_high»;
-    «id_family» = part3 .«id_family»;
-    «id_low» = part3 .«id_low»;
-    «id_low_or» = part3 .«id_low_or»;
-    locks = 0x0FFFF000;
-    «locks_step» = 0x400;
-    «level_word» = 0x0FFFF07C;
-  };
-  macros = n;
-}
+withMacros n = record { part = resized 4 32 n part3; macros = n }
 
 -- any image of it will do; its level is PROTECTED
 abbrev pub imageWith : (n : ℕ) → Image

@@ -1,6 +1,6 @@
 -- Document 01's count, and the counts of a list of moves. Assumes nothing.
 use mathlib.Core.List.{List, [], _∷_}
-use Prim.Native.Nat.{ℕ, suc, _+_, _*_, _/_}
+use Prim.Native.Nat.{ℕ, zero, suc, _+_, _*_, _/_}
 use Rattle.flow.specs.Packets.{packetOf}
 use Rattle.flow.specs.declared.Entry.{Entry}
 use Rattle.flow.specs.declared.Entry.the-variants.{FromOpen, FromProtected}
@@ -59,10 +59,16 @@ abbrev pub fromProtected : Entry → (more : ℕ) → ℕ
 fromProtected FromOpen more = 0
 fromProtected FromProtected more = more
 
--- 'plan = 69 + 10 × IMO + N × (26 + 5L / 4) + M × (24 + 5PB / 4), and from PROTECTED 26 + 10 × IMO more'
+-- '24 + 5PB / 4' of each of the n macros from 0 on, PB being the locks of that macro
+unfoldable pub lockPlan : Geometry → (n : ℕ) → ℕ
+lockPlan g zero = 0
+lockPlan g (suc m) = 24 + 5 * locksIn g m / 4 + lockPlan g m
+
+-- 'plan = 69 + 10 × IMO + N × (26 + 5L / 4) + M × (24 + 5PB / 4), and from PROTECTED 26 + 10 × IMO more'; the locks
+-- are summed over the macros, which is the paper's product (`plan-multiplied`, proofs/Counting)
 unfoldable pub plan : Geometry → Entry → ℕ
 plan g y =
-    69 + 10 * imoOf g + rowsOf g * (26 + 5 * rowBytes g / 4) + macrosOf g * (24 + 5 * locksIn g 0 / 4) + fromProtected y (26 + 10 * imoOf g)
+    69 + 10 * imoOf g + rowsOf g * (26 + 5 * rowBytes g / 4) + lockPlan g (macrosOf g) + fromProtected y (26 + 10 * imoOf g)
 
 -- 'loops = 5 + IMO + 2N + 2M, and from PROTECTED 2 + IMO more'
 unfoldable pub loops : Geometry → Entry → ℕ

@@ -11,7 +11,7 @@ use Rattle.flow.specs.declared.Request.{Request}
 use Rattle.flow.specs.declared.Request.the-variants.{Xres, LineReset, ReadIdcode, ReadDrw, WriteTar, WriteDrw, WriteSetup}
 use Rattle.image.specs.Image.{Image}
 use Rattle.lent.specs.Words.{wordsAt}
-use Rattle.parts.specs.Sizes.{rowBytes, macrosOf, rowsPerMacro, rowsOf, locksIn, sysreqOf, sysargOf, PARAMS, TEST-MODE, locksAt, levelAt, imoOf}
+use Rattle.parts.specs.Sizes.{rowBytes, macrosOf, rowsPerMacro, rowsOf, locksIn, sysreqOf, sysargOf, PARAMS, TEST-MODE, locksAt, levelAt, imoOf, lockStart}
 use Rattle.parts.specs.declared.Geometry.{Geometry}
 use Rattle.wire.specs.declared.Register.the-variants.{CtrlStat, Select, Csw}
 
@@ -98,10 +98,6 @@ compareWords s a u n = inTurn (compareWord s a u) 0 n
 -- '6. Read every flash word from address 0, comparing each as read.': row by row, a row's words from row × L on
 unfoldable pub verifyRow : Geometry → (row : ℕ) → List Move
 verifyRow g r = compareWords 6 (r * rowBytes g) (FlashWord r) (rowBytes g / 4)
-
--- where macro m's bytes start among the protection bytes
-abbrev pub lockStart : Geometry → (m : ℕ) → ℕ
-lockStart g m = m * (rowsPerMacro g / 8)
 
 -- '7. For macros .. : listed call 4, list k + macro × 2^24, PB - 1, the macro's protection bytes; call 0x0D with
 -- k + level × 2^16 + macro × 2^24.'

@@ -73,6 +73,20 @@ lay l o x = take (length l) (take o l ++ (x ++ drop (o + length x) l))
 abbrev pub sized : List ℕ → List ℕ → List ℕ
 sized l x = take (length l) (x ++ replicate (length l) 0)
 
+-- ---- updates of one piece of memory
+
+abbrev pub withFlash : List ℕ → Memory → Memory
+withFlash x m = record { flash = x; locks = m .locks; latch = m .latch; stored = m .stored }
+
+abbrev pub withLocks : List ℕ → Memory → Memory
+withLocks x m = record { flash = m .flash; locks = x; latch = m .latch; stored = m .stored }
+
+abbrev pub withLatch : List ℕ → Memory → Memory
+withLatch x m = record { flash = m .flash; locks = m .locks; latch = x; stored = m .stored }
+
+abbrev pub withLevel : ℕ → Memory → Memory
+withLevel l m = record { flash = m .flash; locks = m .locks; latch = m .latch; stored = l }
+
 -- ---- updates of one piece of state
 
 abbrev pub setTar : ℕ → Target → Target

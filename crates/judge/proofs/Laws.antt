@@ -14,6 +14,7 @@ use Rattle.flow.specs.declared.Entry.the-variants.{FromOpen, FromProtected}
 use Rattle.flow.specs.declared.Next.{Next}
 use Rattle.flow.specs.declared.Next.the-variants.{Go, Stop}
 use Rattle.flow.specs.declared.Way.the-variants.{Enter}
+use Rattle.lent.specs.Words.{partOf, sameWord}
 use Rattle.parts.specs.Levels.{levelOf}
 use Rattle.parts.specs.declared.Level.{Level}
 use Rattle.parts.specs.declared.Level.the-variants.{Virgin, Open, Protected, Kill, Unknown}
@@ -59,3 +60,7 @@ after-flash l n k e = let d = length-drop n l in take-all (length l - n) (drop n
 
 pub no-locks : (l : List ℕ) (n k : ℕ) → length l ≤ n → n ≡ k → take (length l - length l) (drop (length l) l) ≡ drop k l
 no-locks l n k h e = after-flash l (length l) (length l) refl ∙ drop-length l ∙ sym (drop-past l k (omega arith))
+
+-- the same part of the same bytes has the same word
+pub same-part : {l l′ : List ℕ} {s s′ n n′ : ℕ} → l ≡ l′ → s ≡ s′ → n ≡ n′ → (j w : ℕ) → sameWord (partOf l s n) j w ≡ sameWord (partOf l′ s′ n′) j w
+same-part e start size j w = rw (e, start, size)

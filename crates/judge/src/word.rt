@@ -3,11 +3,10 @@ ghost use mathlib.Core.Path.{_≡_};
 ghost use Prim.Native.Nat.{suc, _*_};
 ghost use lib.Dec.{ltb};
 ghost use Rattle.flow.specs.Judge.{judge, withPolls, withKept, goIf, polled, entryBy, identified, reopened, summed};
-ghost use Rattle.flow.specs.Sequence.{lockStart};
 ghost use Rattle.flow.specs.Words.{free, levelIn};
 ghost use Rattle.image.specs.Image.{imageOf, flashIn, protectionIn};
 ghost use Rattle.lent.specs.Words.{sameWord, partOf};
-ghost use Rattle.parts.specs.Sizes.{rowBytes, locksIn};
+ghost use Rattle.parts.specs.Sizes.{rowBytes, locksIn, lockStart};
 use flow::Counters;
 use flow::Entry;
 use flow::Next;
@@ -128,15 +127,14 @@ fn flash_word_is(g: Geometry, bytes: &[u8], row: u32, at: u32, w: u32) -> bool
 fn lock_word_is(g: Geometry, bytes: &[u8], m: u32, at: u32, w: u32) -> bool
     ensures { λ r. ⌜ r ≡ sameWord (partOf (protectionIn g (now (bytes .entry))) (lockStart g m) (locksIn g m)) at w ⌝ }
 {
-    let p = g.part;
-    let size = (p.rows_per_macro as usize) / 8;
-    let from = (m as usize) * size;
+    let start = parts::lock_start(g, m);
+    let size = parts::locks_in(g, m);
     let flash = parts::flash_size(g);
     let n = bytes.len();
     if n <= flash {
-        return lent::part_word_is(&bytes[n..], from, size, at as usize, w);
+        return lent::part_word_is(&bytes[n..], start, size, at as usize, w);
     }
-    lent::part_word_is(&bytes[flash..], from, size, at as usize, w)
+    lent::part_word_is(&bytes[flash..], start, size, at as usize, w)
 }
 
 // A word, by the purpose of the move that it answers.

@@ -1,11 +1,11 @@
 -- How many moves each list has: decided by the geometry alone. Assumes nothing.
 use mathlib.Core.List.{List, [], _∷_}
-use mathlib.Core.Path.{_≡_, refl, sym, _∙_}
+use mathlib.Core.Path.{_≡_, refl, sym, ap, _∙_}
 use Prim.Native.Nat.{ℕ, _+_, _*_, _/_}
 use native.Mathlib.Omega.{arith}
 use lib.ListN.{length, length-append}
 use Rattle.flow.proofs.Counting.{length-words}
-use Rattle.flow.specs.Sequence.{key, write, read, call, writes, listed, inTurn, imoCall, privileged, latchList, programRow, compareWord, compareWords, verifyRow, lockStart, lockMacro, verifyMacro, macroDown, lockAndVerify, program, opening, afterwards, sequence}
+use Rattle.flow.specs.Sequence.{key, write, read, call, writes, listed, inTurn, imoCall, privileged, latchList, programRow, compareWord, compareWords, verifyRow, lockMacro, verifyMacro, macroDown, lockAndVerify, program, opening, afterwards, sequence}
 use Rattle.flow.specs.declared.Entry.{Entry}
 use Rattle.flow.specs.declared.Entry.the-variants.{FromOpen, FromProtected}
 use Rattle.flow.specs.declared.Purpose.{Purpose}
@@ -15,7 +15,8 @@ use Rattle.moves.proofs.Joined.{length-pieces}
 use Rattle.moves.proofs.Steps.{length-call, length-read, length-silicon, length-acquire}
 use Rattle.flow.specs.Session.{moveCount, bare}
 use Rattle.moves.specs.Moves.{openingCount, programCount}
-use Rattle.parts.specs.Sizes.{rowBytes, macrosOf, rowsPerMacro, rowsOf, locksIn, imoOf, locksAt, levelAt, PARAMS}
+use Rattle.parts.proofs.Locks.{locks-alike}
+use Rattle.parts.specs.Sizes.{rowBytes, macrosOf, rowsPerMacro, rowsOf, locksIn, lockStart, imoOf, locksAt, levelAt, PARAMS}
 use Rattle.parts.specs.declared.Geometry.{Geometry}
 
 pub length-writes : (s a : ℕ) (ws : List ℕ) → length (writes s a ws) ≡ 2 * length ws
@@ -44,8 +45,8 @@ module _ (i : Image) where
   abbrev words : ℕ
   words = rowBytes g / 4
 
-  abbrev locks : ℕ
-  locks = rowsPerMacro g / 8 / 4
+  abbrev locks : (m : ℕ) → ℕ
+  locks m = locksIn g m / 4
 
   pub length-row : (r : ℕ) → length (programRow i r) ≡ 26 + 2 * words
   unfolding programRow
@@ -53,8 +54,8 @@ module _ (i : Image) where
       length-append (listed g 5 4 (latchList (r / rowsPerMacro g) (rowBytes g) (i .flash) (r * rowBytes g))) (listed g 5 6 ((key 6 + r * 0x10000) ∷ []))
       ∙ omega (arith, length-latch g 5 (r / rowsPerMacro g) (rowBytes g) (i .flash) (r * rowBytes g), length-listed g 5 6 ((key 6 + r * 0x10000) ∷ []))
 
-  pub length-lock : (m : ℕ) → length (lockMacro i m) ≡ 24 + 2 * locks
-  unfolding lockMacro locksIn
+  pub length-lock : (m : ℕ) → length (lockMacro i m) ≡ 24 + 2 * locks m
+  unfolding lockMacro
   length-lock m =
       length-append (listed g 7 4 (latchList m (locksIn g m) (i .protection) (lockStart g m))) (call g 7 0x0D (key 0x0D + i .header .level * 0x10000 + m * 0x1000000))
       ∙ omega (arith, length-latch g 7 m (locksIn g m) (i .protection) (lockStart g m), length-call g 7 0x0D (key 0x0D + i .header .level * 0x10000 + m * 0x1000000))
@@ -66,17 +67,21 @@ module _ (i : Image) where
   unfolding verifyRow
   length-verify = length-pieces (verifyRow g) (words * 3) (λ r. length-compared 6 (r * rowBytes g) (FlashWord r) words) 0 (rowsOf g)
 
-  length-check : (m : ℕ) → length (verifyMacro g m) ≡ locks * 3
-  unfolding verifyMacro locksIn
-  length-check m = length-compared 8 (locksAt g m) (LockWord m) locks
+  length-check : (m : ℕ) → length (verifyMacro g m) ≡ locks m * 3
+  unfolding verifyMacro
+  length-check m = length-compared 8 (locksAt g m) (LockWord m) (locks m)
 
-  pub length-macro : (m : ℕ) → length (lockAndVerify i m) ≡ 24 + 5 * locks
+  pub length-macro : (m : ℕ) → length (lockAndVerify i m) ≡ 24 + 5 * locks m
   length-macro m = length-append (lockMacro i m) (verifyMacro g m) ∙ omega (arith, length-lock m, length-check m)
 
-  pub length-macros : length (inTurn (λ k. lockAndVerify i (macroDown g k)) 0 (macrosOf g)) ≡ macrosOf g * (24 + 5 * locks)
-  length-macros = length-pieces (λ k. lockAndVerify i (macroDown g k)) (24 + 5 * locks) (λ k. length-macro (macroDown g k)) 0 (macrosOf g)
+  -- as many as macro 0
+  pub length-alike : (m : ℕ) → length (lockAndVerify i m) ≡ 24 + 5 * locks 0
+  length-alike m = length-macro m ∙ ap (λ (n : ℕ). 24 + 5 * (n / 4)) (locks-alike g m)
 
-  pub length-program : length (program i) ≡ 29 + rowsOf g * (26 + 5 * words) + macrosOf g * (24 + 5 * locks)
+  pub length-macros : length (inTurn (λ k. lockAndVerify i (macroDown g k)) 0 (macrosOf g)) ≡ macrosOf g * (24 + 5 * locks 0)
+  length-macros = length-pieces (λ k. lockAndVerify i (macroDown g k)) (24 + 5 * locks 0) (λ k. length-alike (macroDown g k)) 0 (macrosOf g)
+
+  pub length-program : length (program i) ≡ 29 + rowsOf g * (26 + 5 * words) + macrosOf g * (24 + 5 * locks 0)
   unfolding program
   length-program =
       simp length-append

@@ -2,7 +2,7 @@
 use mathlib.Core.List.{List, [], _∷_, _++_}
 use mathlib.Core.Path.{_≡_, sym, ap, _∙_}
 use Prim.Native.Nat.{ℕ, _+_, _-_, _*_, _/_, _%_, _<_, _≤_}
-use native.Mathlib.Nat.{mul-le-mul, mul-le-mul-left, mul-le-mul-right, mod-lt, div-lt-iff-lt-mul}
+use native.Mathlib.Nat.{mul-le-mul, mul-le-mul-right, mod-lt, div-lt-iff-lt-mul}
 use native.Mathlib.Omega.{arith}
 use lib.ListN.{length, getD, take, drop}
 use Rattle.flow.specs.Sequence.{key, read, call, listed, inTurn, latchList, programRow, compareWord, compareWords, verifyRow, lockMacro, verifyMacro, macroDown, lockAndVerify, endMove}
@@ -10,12 +10,13 @@ use Rattle.flow.specs.declared.Purpose.{Purpose}
 use Rattle.flow.specs.declared.Purpose.the-variants.{FlashWord, LockWord}
 use Rattle.image.specs.Image.{Image, imageOf}
 use Rattle.image.specs.declared.Header.{Header}
-use Rattle.moves.proofs.Counts.{length-row, length-lock, length-macro, length-compared}
+use Rattle.moves.proofs.Counts.{length-row, length-lock, length-alike, length-compared}
 use Rattle.moves.proofs.Joined.{at-first, at-second, at-piece, div-low, part-ends}
 use Rattle.moves.proofs.Steps.{length-read}
 use Rattle.moves.proofs.Words.{front-latch, back-latch}
 use Rattle.moves.specs.Handled.{Handled}
-use Rattle.parts.specs.Sizes.{rowBytes, macrosOf, rowsPerMacro, rowsOf, flashSize, lockTotal, locksIn, imageSize, locksAt}
+use Rattle.parts.proofs.Locks.{locks-most, locks-some, locks-alike, locks-end}
+use Rattle.parts.specs.Sizes.{rowBytes, macrosOf, rowsPerMacro, rowsOf, flashSize, locksIn, lockStart, lockTotal, imageSize, locksAt}
 use Rattle.parts.specs.declared.Geometry.{Geometry}
 
 -- ---- sizes
@@ -43,20 +44,10 @@ module _ (g : Geometry) (ok : Handled g) where
       let l : rowBytes g / 4 * 3 ≤ 768 = omega (arith, ok .rowHigh) in
       omega (arith, mul-le-mul rows-few l)
 
-  pub macros-small : macrosOf g * (24 + 5 * (rowsPerMacro g / 8 / 4)) ≤ 10624
+  pub macros-small : macrosOf g * (24 + 5 * (locksIn g 0 / 4)) ≤ 10624
   macros-small =
-      let l : 24 + 5 * (rowsPerMacro g / 8 / 4) ≤ 664 = omega (arith, ok .macroHigh) in
+      let l : 24 + 5 * (locksIn g 0 / 4) ≤ 664 = omega (arith, ok .macroHigh, locks-most g 0) in
       omega (arith, mul-le-mul (ok .macros) l)
-
-  -- every macro's locks are in the image
-  locks-fit : (m : ℕ) → m < macrosOf g → flashSize g + m * (rowsPerMacro g / 8) + rowsPerMacro g / 8 ≤ imageSize g
-  unfolding imageSize lockTotal rowsOf
-  locks-fit m h =
-      let t = part-ends (macrosOf g) (rowsPerMacro g / 8) m h in
-      let e : rowsPerMacro g / 8 * 8 ≤ rowsPerMacro g = omega arith in
-      let l = mul-le-mul-left (macrosOf g) e in
-      let a : macrosOf g * (rowsPerMacro g / 8 * 8) ≡ 8 * (macrosOf g * (rowsPerMacro g / 8)) = omega arith in
-      omega arith
 
   pub lock-address : (m : ℕ) → m < macrosOf g → g .part .locks + m * g .part .«locks_step» ≤ 2415919087
   lock-address m h = omega (arith, ok .locks, mul-le-mul {n₁ = m} {n₂ = 16} (omega (arith, ok .macros)) (ok .locksStep))
@@ -68,10 +59,12 @@ pub record RowPlace (g : Geometry) (bytes : List ℕ) (r : ℕ) : Type 0 where
   pub end : r * rowBytes g + rowBytes g ≤ length bytes
   pub small : r * rowBytes g + rowBytes g ≤ 67108864
 
-pub record LockPlace (g : Geometry) (bytes : List ℕ) (flash m : ℕ) : Type 0 where
+pub record LockPlace (g : Geometry) (bytes : List ℕ) (m : ℕ) : Type 0 where
   pub low : m < 16
-  pub end : flash + m * (rowsPerMacro g / 8) + rowsPerMacro g / 8 ≤ length bytes
-  pub small : flash + m * (rowsPerMacro g / 8) + rowsPerMacro g / 8 ≤ 67117056
+  pub end : flashSize g + lockStart g m + locksIn g m ≤ length bytes
+  pub small : flashSize g + lockStart g m + locksIn g m ≤ 67117056
+  pub some : 1 ≤ locksIn g m
+  pub most : locksIn g m ≤ 512
 
 row-found : (g : Geometry) (ok : Handled g) (bytes : List ℕ) (exact : length bytes ≡ imageSize g) (r : ℕ) → r < rowsOf g → RowPlace g bytes r
 unfolding flashSize imageSize
@@ -80,11 +73,17 @@ row-found g ok bytes exact r l =
     let m : r < 256 * rowsPerMacro g = omega (arith, ok .macroLow, rows-per g ok) in
     record { low = omega (arith, rows-few g ok); macro = (div-lt-iff-lt-mul {k = rowsPerMacro g} {x = r} {y = 256} (omega (arith, ok .macroLow))) .1 m; end = omega arith; small = omega (arith, flash-small g ok) }
 
-pub lock-place : (g : Geometry) (ok : Handled g) (bytes : List ℕ) (exact : length bytes ≡ imageSize g) (flash m : ℕ) → flash ≡ flashSize g → m < macrosOf g → LockPlace g bytes flash m
+pub lock-place : (g : Geometry) (ok : Handled g) (bytes : List ℕ) (exact : length bytes ≡ imageSize g) (m : ℕ) → m < macrosOf g → LockPlace g bytes m
 unfolding imageSize lockTotal
-lock-place g ok bytes exact flash m f l =
-    let t : flash + m * (rowsPerMacro g / 8) + rowsPerMacro g / 8 ≤ flashSize g + rowsOf g / 8 = rw f (locks-fit g ok m l) in
-    record { low = omega (arith, ok .macros); end = omega arith; small = omega (arith, flash-small g ok, rows-few g ok) }
+lock-place g ok bytes exact m l =
+    let t : lockStart g m + locksIn g m ≤ rowsOf g / 8 = locks-end g m l in
+    record {
+      low = omega (arith, ok .macros);
+      end = omega arith;
+      small = omega (arith, flash-small g ok, rows-few g ok);
+      some = locks-some g m l (omega (arith, ok .macroLow));
+      most = omega (arith, ok .macroHigh, locks-most g m);
+    }
 
 -- ---- step 5
 
@@ -113,15 +112,16 @@ module _ (g : Geometry) (ok : Handled g) (h : Header) (bytes : List ℕ) (exact 
 
   -- ---- steps 7 and 8 of a macro
 
-  module _ (m j n : ℕ) (e : n ≡ 24 + 2 * (rowsPerMacro g / 8 / 4)) where
-    pub lock-at : (flash : ℕ) → flash ≡ flashSize g → m < macrosOf g → (bs : List ℕ)
-        → bs ≡ take (flash + m * (rowsPerMacro g / 8) + rowsPerMacro g / 8 - (flash + m * (rowsPerMacro g / 8))) (drop (flash + m * (rowsPerMacro g / 8)) bytes)
+  module _ (m j n : ℕ) (e : n ≡ 24 + 2 * (locksIn g m / 4)) where
+    pub lock-at : (start size : ℕ) → start ≡ flashSize g + lockStart g m → size ≡ locksIn g m → m < macrosOf g → (bs : List ℕ)
+        → bs ≡ take (start + size - start) (drop start bytes)
         → j < n
         → getD (listed g 7 4 (latchList m (length bs) bs 0) ++ call g 7 0x0D (key 0x0D + h .level * 0x10000 + m * 0x1000000)) j endMove
         ≡ getD (lockAndVerify i m) j endMove
-    unfolding lockMacro locksIn
-    lock-at flash f room bs is low =
-        rw (back-latch bytes bs (flash + m * (rowsPerMacro g / 8)) (rowsPerMacro g / 8) is (lock-place g ok bytes exact flash m f room .end) (flashSize g) m (m * (rowsPerMacro g / 8)) (omega arith))
+    unfolding lockMacro
+    lock-at start size s z room bs is low =
+        let fits : start + size ≤ length bytes = rw (s, z) (lock-place g ok bytes exact m room .end) in
+        rw (back-latch bytes bs start size is fits (flashSize g) m (lockStart g m) s, z)
         (sym (at-first (lockMacro i m) (verifyMacro g m) endMove n j (length-lock i m ∙ sym e) low))
 
     pub check-at : n ≤ j → getD (verifyMacro g m) (j - n) endMove ≡ getD (lockAndVerify i m) j endMove
@@ -129,18 +129,18 @@ module _ (g : Geometry) (ok : Handled g) (h : Header) (bytes : List ℕ) (exact 
 
   -- ---- steps 7 and 8 but for the level: the k-th macro from above
 
-  module _ (j b : ℕ) (e : b ≡ 24 + 5 * (rowsPerMacro g / 8 / 4)) (low : j < macrosOf g * (24 + 5 * (rowsPerMacro g / 8 / 4))) where
+  module _ (j b : ℕ) (e : b ≡ 24 + 5 * (locksIn g 0 / 4)) (low : j < macrosOf g * (24 + 5 * (locksIn g 0 / 4))) where
     pub macro-low : j / b < macrosOf g
     macro-low = div-low (macrosOf g) b j (omega arith) (rw e low)
 
-    pub macro-inside : j % b < 24 + 5 * (rowsPerMacro g / 8 / 4)
-    macro-inside = let l : j % b < b = mod-lt j (omega arith) in omega arith
+    pub macro-inside : (m : ℕ) → j % b < 24 + 5 * (locksIn g m / 4)
+    macro-inside m = let l : j % b < b = mod-lt j (omega arith) in omega (arith, locks-alike g m)
 
     pub macros-at : getD (lockAndVerify i (macrosOf g - 1 - j / b)) (j % b) endMove ≡ getD (inTurn (λ k. lockAndVerify i (macroDown g k)) 0 (macrosOf g)) j endMove
     macros-at =
         let t : macrosOf g - 1 - j / b ≡ macroDown g (j / b) = omega arith in
         ap (λ (m : ℕ). getD (lockAndVerify i m) (j % b) endMove) t
-        ∙ sym (at-piece (λ k. lockAndVerify i (macroDown g k)) b (λ k. length-macro i (macroDown g k) ∙ sym e) endMove (macrosOf g) j (omega arith) (rw e low))
+        ∙ sym (at-piece (λ k. lockAndVerify i (macroDown g k)) b (λ k. length-alike i (macroDown g k) ∙ sym e) endMove (macrosOf g) j (omega arith) (rw e low))
 
 -- ---- steps 6 and 8: a word of some, and of n pieces of as many
 
@@ -178,7 +178,7 @@ module _ (g : Geometry) (ok : Handled g) (j : ℕ) where
         (at-piece (verifyRow g) each (λ r. length-compared 6 (r * rowBytes g) (FlashWord r) (rowBytes g / 4)) endMove (rowsOf g) j some low
         ∙ word-at 6 (j / each * rowBytes g) (FlashWord (j / each)) (rowBytes g / 4) (j % each) inside)
 
-  pub lock-word-at : (m : ℕ) → j < rowsPerMacro g / 8 / 4 * 3
+  pub lock-word-at : (m : ℕ) → j < locksIn g m / 4 * 3
       → getD (read 8 (locksAt g m + 4 * (j / 3)) (LockWord m (4 * (j / 3)))) (j % 3) endMove ≡ getD (verifyMacro g m) j endMove
-  unfolding verifyMacro locksIn
-  lock-word-at m low = sym (word-at 8 (locksAt g m) (LockWord m) (rowsPerMacro g / 8 / 4) j low)
+  unfolding verifyMacro
+  lock-word-at m low = sym (word-at 8 (locksAt g m) (LockWord m) (locksIn g m / 4) j low)

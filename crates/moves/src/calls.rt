@@ -10,11 +10,9 @@ use flow::Move;
 use flow::Purpose;
 use flow::Request;
 use parts::Geometry;
+use parts::PARAMS;
+use parts::TEST_MODE;
 use wire::Register;
-
-pub(crate) const PARAMS: u32 = 0x20000100;
-
-const TEST_MODE: u32 = 0x40030014;
 
 pub(crate) fn tar(step: u8, a: u32) -> Move
     ensures { λ r. ⌜ r ≡ move step (Request.WriteTar a) Purpose.Sent ⌝ }

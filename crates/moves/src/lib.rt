@@ -60,7 +60,7 @@ fn ends_of(g: Geometry) -> Ends
     Ends {
         rows: rows,
         words: words,
-        macros: words + m * macro_moves(g),
+        macros: words + m * macro_moves(g, 0),
     }
 }
 
@@ -192,7 +192,7 @@ fn program_moves(g: Geometry) -> usize
     let rows = parts::rows(g) as usize;
     let macros = g.macros as usize;
     let words = (p.row_bytes as usize) / 4;
-    let locks = (p.rows_per_macro as usize) / 8 / 4;
+    let locks = parts::locks_in(g, 0) / 4;
     29 + rows * (26 + 5 * words) + macros * (24 + 5 * locks)
 }
 

@@ -7,8 +7,7 @@ ghost use Rattle.flow.specs.Sequence.{key, call, listed, inTurn, latchList, pro
 ghost use Rattle.image.specs.Image.{imageOf};
 ghost use Rattle.moves.specs.Handled.{Handled};
 ghost use Rattle.moves.specs.Stands.{Stands};
-ghost use Rattle.parts.specs.Sizes.{rowBytes, macrosOf, rowsPerMacro, rowsOf, imageSize};
-use crate::calls::PARAMS;
+ghost use Rattle.parts.specs.Sizes.{rowBytes, macrosOf, rowsOf, locksIn, imageSize};
 use crate::calls::call_move;
 use crate::calls::drw;
 use crate::calls::key_of;
@@ -19,6 +18,7 @@ use flow::Move;
 use flow::Purpose;
 use image::Header;
 use parts::Geometry;
+use parts::PARAMS;
 
 // A word of the list of a latch call: the key, the number of bytes less one, the bytes' words.
 pub(crate) fn list_word(bytes: &[u8], m: u32, i: u32) -> u32
@@ -121,17 +121,16 @@ pub(crate) fn lock_move(locks: &[u8], sysreq: u32, m: u32, level: u8, j: u32) ->
     )
 }
 
-// The moves of a macro in step 7.
-pub(crate) fn lock_moves(g: Geometry) -> u32
-    ensures { λ n. ⌜ n ≡ 24 + 2 * (rowsPerMacro g / 8 / 4) ⌝ ∗ ⌜ n < 32800 ⌝ }
+// The moves of macro m in step 7.
+pub(crate) fn lock_moves(g: Geometry, m: u32) -> u32
+    ensures { λ n. ⌜ n ≡ 24 + 2 * (locksIn g m / 4) ⌝ ∗ ⌜ n < 32800 ⌝ }
 {
-    let p = g.part;
-    24 + 2 * ((p.rows_per_macro as u32) / 8 / 4)
+    24 + 2 * ((parts::locks_in(g, m) / 4) as u32)
 }
 
 // Step 8 of macro m.
 pub(crate) fn check_move(g: Geometry, m: u32, j: u32) -> Move
-    requires { ⌜ Handled g ⌝ ∗ ⌜ m < macrosOf g ⌝ ∗ ⌜ j < rowsPerMacro g / 8 / 4 * 3 ⌝ }
+    requires { ⌜ Handled g ⌝ ∗ ⌜ m < macrosOf g ⌝ ∗ ⌜ j < locksIn g m / 4 * 3 ⌝ }
     ensures { λ t. ⌜ t ≡ getD (verifyMacro g m) j endMove ⌝ }
 {
     let p = g.part;
@@ -144,36 +143,34 @@ pub(crate) fn check_move(g: Geometry, m: u32, j: u32) -> Move
     )
 }
 
-// The moves of a macro in steps 7 and 8.
-pub(crate) fn macro_moves(g: Geometry) -> u32
-    ensures { λ n. ⌜ n ≡ 24 + 5 * (rowsPerMacro g / 8 / 4) ⌝ ∗ ⌜ n < 32800 ⌝ }
+// The moves of macro m in steps 7 and 8.
+pub(crate) fn macro_moves(g: Geometry, m: u32) -> u32
+    ensures { λ n. ⌜ n ≡ 24 + 5 * (locksIn g m / 4) ⌝ ∗ ⌜ n < 32800 ⌝ }
 {
-    let p = g.part;
-    24 + 5 * ((p.rows_per_macro as u32) / 8 / 4)
+    24 + 5 * ((parts::locks_in(g, m) / 4) as u32)
 }
 
 // Step 7 of macro m, then step 8 of it.
 pub(crate) fn macro_move(g: Geometry, h: Header, bytes: &[u8], m: u32, j: u32) -> Move
-    requires { ⌜ Handled g ⌝ ∗ ⌜ length (now bytes) ≡ imageSize g ⌝ ∗ ⌜ m < macrosOf g ⌝ ∗ ⌜ j < 24 + 5 * (rowsPerMacro g / 8 / 4) ⌝ }
+    requires { ⌜ Handled g ⌝ ∗ ⌜ length (now bytes) ≡ imageSize g ⌝ ∗ ⌜ m < macrosOf g ⌝ ∗ ⌜ j < 24 + 5 * (locksIn g m / 4) ⌝ }
     ensures { λ t. ⌜ t ≡ getD (lockAndVerify (imageOf g h (now (bytes .entry))) m) j endMove ⌝ }
 {
-    let n = lock_moves(g);
+    let n = lock_moves(g, m);
     if n <= j {
         return check_move(g, m, j - n);
     }
     let p = g.part;
-    let size = (p.rows_per_macro as u32) / 8;
-    let start = parts::flash_size(g) + ((m * size) as usize);
-    let end = start + (size as usize);
+    let start = parts::flash_size(g) + parts::lock_start(g, m);
+    let end = start + parts::locks_in(g, m);
     lock_move(&bytes[start..end], p.sysreq, m, h.level, j)
 }
 
-// Steps 7 and 8 but for the level, from the highest macro down to 0.
+// Steps 7 and 8 but for the level, from the highest macro down to 0: all have as many moves as macro 0.
 pub(crate) fn macros_move(g: Geometry, h: Header, bytes: &[u8], j: u32) -> Move
-    requires { ⌜ Handled g ⌝ ∗ ⌜ length (now bytes) ≡ imageSize g ⌝ ∗ ⌜ j < macrosOf g * (24 + 5 * (rowsPerMacro g / 8 / 4)) ⌝ }
+    requires { ⌜ Handled g ⌝ ∗ ⌜ length (now bytes) ≡ imageSize g ⌝ ∗ ⌜ j < macrosOf g * (24 + 5 * (locksIn g 0 / 4)) ⌝ }
     ensures { λ t. ⌜ t ≡ getD (inTurn (λ k. lockAndVerify (imageOf g h (now (bytes .entry))) (macroDown g k)) 0 (macrosOf g)) j endMove ⌝ }
 {
-    let each = macro_moves(g);
+    let each = macro_moves(g, 0);
     let top = (g.macros as u32) - 1;
     let k = j / each;
     macro_move(g, h, bytes, top - k, j % each)

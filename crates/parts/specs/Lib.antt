@@ -1,3 +1,4 @@
 pub mod Parts
 pub mod Sizes
+pub mod LockExamples
 pub mod Levels

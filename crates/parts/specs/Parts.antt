@@ -12,6 +12,10 @@ use Rattle.parts.specs.declared.Part.{Part}
 abbrev pub anyByte : ByteRange
 anyByte = record { first = 0x00; last = 0xFF }
 
+-- 'Macro m's locks start at 0x0FFFF000 + m × 0x400.'
+abbrev LOCKS : ℕ
+LOCKS = 0x0FFFF000
+
 -- '| 1 | 4000 | 64 | 256 | 1 | 0x40100004 | 1 | 0x0A, 0x9A |'; the level word is '0x0FFFF000 + 2L - 4 for part 1'
 abbrev pub part1 : Part
 part1 = record {
@@ -25,9 +29,9 @@ part1 = record {
   «id_family» = 0x9A;
   «id_low» = anyByte;
   «id_low_or» = anyByte;
-  locks = 0x0FFFF000;
+  locks = LOCKS;
   «locks_step» = 0x400;
-  «level_word» = 0x0FFFF000 + 2 * 64 - 4;
+  «level_word» = LOCKS + 2 * 64 - 4;
 }
 
 -- '| 2 | 4100/4200 | 128 | 256 | 1 | 0x40000004 | 0 | 0x04, 0x93 |'; 'Part 2's low ID byte is 0x00 to 0x7F or 0xA0 to 0xFF';
@@ -44,9 +48,9 @@ part2 = record {
   «id_family» = 0x93;
   «id_low» = record { first = 0x00; last = 0x7F };
   «id_low_or» = record { first = 0xA0; last = 0xFF };
-  locks = 0x0FFFF000;
+  locks = LOCKS;
   «locks_step» = 0x400;
-  «level_word» = 0x0FFFF000 + 128 - 4;
+  «level_word» = LOCKS + 128 - 4;
 }
 
 -- '| 3 | 4100M/4200M | 128 | 512 | 1 or 2 | 0x40100004 | 0 | 0x11, 0xA1 |'
@@ -62,9 +66,27 @@ part3 = record {
   «id_family» = 0xA1;
   «id_low» = anyByte;
   «id_low_or» = anyByte;
-  locks = 0x0FFFF000;
+  locks = LOCKS;
   «locks_step» = 0x400;
-  «level_word» = 0x0FFFF000 + 128 - 4;
+  «level_word» = LOCKS + 128 - 4;
+}
+
+-- a part with rows of l bytes, r of them in a macro, and at most n macros, all else as it is: for examples
+abbrev pub resized : (l r n : ℕ) → Part → Part
+resized l r n p = record {
+  number = p .number;
+  «row_bytes» = l;
+  «rows_per_macro» = r;
+  «most_macros» = n;
+  sysreq = p .sysreq;
+  imo = p .imo;
+  «id_high» = p .«id_high»;
+  «id_family» = p .«id_family»;
+  «id_low» = p .«id_low»;
+  «id_low_or» = p .«id_low_or»;
+  locks = p .locks;
+  «locks_step» = p .«locks_step»;
+  «level_word» = p .«level_word»;
 }
 
 abbrev pub partTable : List Part

@@ -1,5 +1,5 @@
 -- Document 01, 'Parts': sizes and addresses of a part with M macros in use. Every size above is one of these. Assumes nothing.
-use Prim.Native.Nat.{ℕ, _+_, _*_, _/_}
+use Prim.Native.Nat.{ℕ, zero, suc, _+_, _*_, _/_}
 use Rattle.parts.specs.declared.Geometry.{Geometry}
 
 -- 'L is bytes per row, M macros used'
@@ -19,6 +19,11 @@ rowsOf g = macrosOf g * rowsPerMacro g
 -- 'PB = rows per macro / 8': the lock bytes of macro m
 unfoldable pub locksIn : Geometry → (m : ℕ) → ℕ
 locksIn g m = rowsPerMacro g / 8
+
+-- where macro m's bytes start among the protection bytes: past those of the macros below it
+unfoldable pub lockStart : Geometry → (m : ℕ) → ℕ
+lockStart g zero = 0
+lockStart g (suc m) = lockStart g m + locksIn g m
 
 -- 'The protection bytes (N / 8) follow the flash bytes (N × L) in it.'
 unfoldable pub flashSize : Geometry → ℕ

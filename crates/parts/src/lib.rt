@@ -3,8 +3,16 @@ ghost use mathlib.Core.Bool.{true};
 ghost use mathlib.Core.Path.{_≡_};
 ghost use Prim.Native.Nat.{_<_, _^_};
 ghost use Rattle.parts.specs.Parts.{lookupOf, offers, inRange, lowFits, idFits};
-ghost use Rattle.parts.specs.Sizes.{rowsOf, flashSize, lockTotal, imageSize};
+ghost use Rattle.parts.specs.Sizes.{rowsOf, flashSize, locksIn, lockStart, lockTotal, imageSize};
 ghost use Rattle.parts.specs.Levels.{levelOf, isLevel};
+
+// Where the words of a listed call are, and the register of step 1.
+pub const PARAMS: u32 = 0x20000100;
+
+pub const TEST_MODE: u32 = 0x40030014;
+
+// Where every part's locks start.
+const LOCKS: u32 = 0x0FFFF000;
 
 // A range of bytes, both ends included.
 pub struct ByteRange {
@@ -71,9 +79,9 @@ const PARTS: [Part; 3] = [
             first: 0x00,
             last: 0xFF,
         },
-        locks: 0x0FFFF000,
+        locks: LOCKS,
         locks_step: 0x400,
-        level_word: 0x0FFFF07C,
+        level_word: LOCKS + 0x7C,
     },
     Part {
         number: 2,
@@ -92,9 +100,9 @@ const PARTS: [Part; 3] = [
             first: 0xA0,
             last: 0xFF,
         },
-        locks: 0x0FFFF000,
+        locks: LOCKS,
         locks_step: 0x400,
-        level_word: 0x0FFFF07C,
+        level_word: LOCKS + 0x7C,
     },
     Part {
         number: 3,
@@ -113,9 +121,9 @@ const PARTS: [Part; 3] = [
             first: 0x00,
             last: 0xFF,
         },
-        locks: 0x0FFFF000,
+        locks: LOCKS,
         locks_step: 0x400,
-        level_word: 0x0FFFF07C,
+        level_word: LOCKS + 0x7C,
     },
 ];
 
@@ -197,6 +205,21 @@ pub fn flash_size(g: Geometry) -> usize
 {
     let p = g.part;
     (rows(g) as usize) * (p.row_bytes as usize)
+}
+
+// The bytes of macro m's locks: a bit for each of its rows.
+pub fn locks_in(g: Geometry, m: u32) -> usize
+    ensures { λ n. ⌜ n ≡ locksIn g m ⌝ ∗ ⌜ n < 8192 ⌝ }
+{
+    let p = g.part;
+    (p.rows_per_macro as usize) / 8
+}
+
+// Where they start among the bytes of locks: past those of the macros below it.
+pub fn lock_start(g: Geometry, m: u32) -> usize
+    ensures { λ n. ⌜ n ≡ lockStart g m ⌝ ∗ ⌜ n < 2 ^ 45 ⌝ }
+{
+    (m as usize) * locks_in(g, 0)
 }
 
 // The bytes of locks: a bit for each row.

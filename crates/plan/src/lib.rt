@@ -1,7 +1,8 @@
 // The plan and the most transfers, as document 01 counts them.
 ghost use mathlib.Core.Path.{_≡_};
 ghost use Prim.Native.Nat.{_≤_, _<_, _^_};
-ghost use Rattle.flow.specs.Plan.{fromProtected, plan, loops, acquisitions, mostTraffic};
+ghost use Rattle.flow.specs.Plan.{fromProtected, lockPlan, plan, loops, acquisitions, mostTraffic};
+ghost use Rattle.parts.specs.Sizes.{macrosOf};
 use flow::Entry;
 use parts::Geometry;
 
@@ -24,6 +25,21 @@ fn acquisitions_of(y: Entry) -> u64
     }
 }
 
+// The locks' part of it, summed over the macros.
+fn lock_plan(g: Geometry) -> u64
+    ensures { λ r. ⌜ r ≡ lockPlan g (macrosOf g) ⌝ ∗ ⌜ r ≤ 2616810 ⌝ }
+{
+    let macros = g.macros as u32;
+    let mut sum: u64 = 0;
+    let mut m: u32 = 0;
+    while m < macros {
+        let locks = parts::locks_in(g, m) as u64;
+        sum += 24 + 5 * locks / 4;
+        m += 1;
+    }
+    sum
+}
+
 // The plan: the reads and writes of the sequence.
 fn plan_of(g: Geometry, y: Entry) -> u64
     ensures { λ r. ⌜ r ≡ plan g y ⌝ ∗ ⌜ r < 2 ^ 54 ⌝ }
@@ -31,12 +47,7 @@ fn plan_of(g: Geometry, y: Entry) -> u64
     let p = g.part;
     let imo = p.imo as u64;
     let row = 26 + 5 * (p.row_bytes as u64) / 4;
-    let locks = 24 + 5 * ((p.rows_per_macro / 8) as u64) / 4;
-    69
-        + 10 * imo
-        + (parts::rows(g) as u64) * row
-        + (g.macros as u64) * locks
-        + if_protected(y, 26 + 10 * imo)
+    69 + 10 * imo + (parts::rows(g) as u64) * row + lock_plan(g) + if_protected(y, 26 + 10 * imo)
 }
 
 // The poll loops of the sequence.

@@ -7,7 +7,7 @@ use native.Mathlib.Omega.{arith}
 use lib.Dec.{eqb}
 use Rattle.flow.proofs.CutExamples.{cut-examples}
 use Rattle.flow.proofs.Reopening.{Reopens, comes-to-reopen}
-use Rattle.flow.proofs.Witness.{witness-1, witness-2, witness-3, witness-3-2}
+use Rattle.flow.proofs.Witness.{witness}
 use Rattle.flow.specs.BoardExamples.{none}
 use Rattle.flow.specs.Calls.{afterFailure}
 use Rattle.flow.specs.Claim.{Achieved}
@@ -19,8 +19,9 @@ use Rattle.flow.specs.declared.LineEvent.{LineEvent}
 use Rattle.flow.specs.declared.Packet.the-variants as Packets
 use Rattle.image.specs.Checks.{imageFault}
 use Rattle.image.specs.declared.Header.{Header}
-use Rattle.parts.specs.Parts.{part1, part2, part3}
+use Rattle.parts.specs.Parts.{lookupOf}
 use Rattle.parts.specs.declared.Geometry.{Geometry}
+use Rattle.parts.specs.declared.Lookup.the-variants.{Found}
 use Rattle.recovery.specs.Recovery.{Start, imageIn, Leads, Interrupted, never, cut}
 use Rattle.recovery.specs.Witness.{FreeCuts, Reloaded, ReopeningCut}
 use Rattle.recovery.proofs.Recovery.{recovery-holds}
@@ -117,16 +118,6 @@ reopening-cut g a =
           (old-level (w .state .target) (r .reopening) ∙ ap (λ (m : Memory). m .stored) (r .memory) ∙ a .stored) (λ h. omega arith);
     }
 
--- ---- every part and M
-
-pub reopening-1 : ReopeningCut (record { part = part1; macros = 1 })
-reopening-1 = reopening-cut _ (witness-1 .fromProtected)
-
-pub reopening-2 : ReopeningCut (record { part = part2; macros = 1 })
-reopening-2 = reopening-cut _ (witness-2 .fromProtected)
-
-pub reopening-3 : ReopeningCut (record { part = part3; macros = 1 })
-reopening-3 = reopening-cut _ (witness-3 .fromProtected)
-
-pub reopening-3-2 : ReopeningCut (record { part = part3; macros = 2 })
-reopening-3-2 = reopening-cut _ (witness-3-2 .fromProtected)
+-- every part and M
+pub reopening : (part macros : ℕ) (g : Geometry) → lookupOf part macros ≡ Found g → ReopeningCut g
+reopening part macros g e = reopening-cut g ((witness part macros g e) .fromProtected)

@@ -6,7 +6,7 @@ use native.Mathlib.Omega.{arith}
 use Rattle.flow.proofs.Reaches.{same-running, no-seal, seal-succeeds}
 use Rattle.flow.proofs.Sealed.{seals-at-step-7, done-sealed}
 use Rattle.flow.proofs.Unheard.{unheard}
-use Rattle.flow.proofs.Witness.{Both, witness-1, witness-2, witness-3, witness-3-2}
+use Rattle.flow.proofs.Witness.{witness}
 use Rattle.flow.specs.BoardExamples.{none}
 use Rattle.flow.specs.Claim.{Achieved}
 use Rattle.flow.specs.Packets.{packetOf}
@@ -19,8 +19,9 @@ use Rattle.flow.specs.Target.{Target, Lists}
 use Rattle.flow.specs.Terms.{Startable, entryOf}
 use Rattle.flow.specs.declared.Packet.{Packet}
 use Rattle.image.specs.Image.{Image}
-use Rattle.parts.specs.Parts.{part1, part2, part3}
+use Rattle.parts.specs.Parts.{lookupOf}
 use Rattle.parts.specs.declared.Geometry.{Geometry}
+use Rattle.parts.specs.declared.Lookup.the-variants.{Found}
 use Rattle.recovery.proofs.Walking.{Walked, walked}
 use Rattle.recovery.proofs.Witness.{granted}
 use Rattle.recovery.specs.Recovery.{Start, imageIn, Leads}
@@ -154,24 +155,13 @@ module _ (g : Geometry) (level : ℕ) (a : Achieved g level) where
         sealed = sealed-on start (a .target) (a .startable) l before seal;
       }
 
-sessions : (g : Geometry) → Both g → SealedSessions g
-sessions g w = record {
-  openDone = doneSession g 1 (w .fromOpen);
-  protectedDone = doneSession g 2 (w .fromProtected);
-  openSilent = silentSession g 1 (w .fromOpen);
-  protectedSilent = silentSession g 2 (w .fromProtected);
-}
-
--- ---- every part and M
-
-pub sealed-sessions-1 : SealedSessions (record { part = part1; macros = 1 })
-sealed-sessions-1 = sessions _ witness-1
-
-pub sealed-sessions-2 : SealedSessions (record { part = part2; macros = 1 })
-sealed-sessions-2 = sessions _ witness-2
-
-pub sealed-sessions-3 : SealedSessions (record { part = part3; macros = 1 })
-sealed-sessions-3 = sessions _ witness-3
-
-pub sealed-sessions-3-2 : SealedSessions (record { part = part3; macros = 2 })
-sealed-sessions-3-2 = sessions _ witness-3-2
+-- every part and M
+pub sealed-sessions : (part macros : ℕ) (g : Geometry) → lookupOf part macros ≡ Found g → SealedSessions g
+sealed-sessions part macros g e =
+    let w = witness part macros g e in
+    record {
+      openDone = doneSession g 1 (w .fromOpen);
+      protectedDone = doneSession g 2 (w .fromProtected);
+      openSilent = silentSession g 1 (w .fromOpen);
+      protectedSilent = silentSession g 2 (w .fromProtected);
+    }

@@ -1,71 +1,70 @@
--- The macros left decide; the sums stay small. Assumes nothing.
-use mathlib.Core.Path.{_≡_, refl, sym, _∙_}
-use Prim.Native.Nat.{_+_, _*_, _/_, _≤_}
+-- The macros from m on decide; the sums stay small. Assumes nothing.
+use mathlib.Core.Path.{_≡_, sym, ap, _∙_}
+use Prim.Native.Nat.{ℕ, suc, _+_, _*_, _-_, _≤_}
+use native.Mathlib.Nat.{mul-le-mul}
 use native.Mathlib.Omega.{arith}
 use borrow.Author.Needs.{needs}
-use Rattle.bench_map.proofs.Mapping.{lockFrom, lock-none, lock-hit, lock-miss, covering-low, covering-high, locks-found}
+use Rattle.bench_map.proofs.Mapping.{locksFrom, lock-none, lock-hit, lock-miss, start-on, covering-low, covering-high}
 use Rattle.bench_map.proofs.lock_place.Statement.{statement}
 use Rattle.bench_map.proofs.lock_place.Tie as tie
+use Rattle.parts.specs.Sizes.{locksAt}
 
 abbrev Inv-loop : tie.InvT-loop
-Inv-loop a size step start₀ from₀ left₀ start from left =
-    (lockFrom size step start from left a ≡ lockFrom size step start₀ from₀ left₀ a)
-    × (start + left * 4294967296 ≤ start₀ + left₀ * 4294967296)
-    × (from + left * 8192 ≤ from₀ + left₀ * 8192)
-    × (left ≤ left₀)
+Inv-loop g a step macros start₀ m₀ start m =
+    (locksFrom g m (macros - m) a ≡ locksFrom g 0 macros a) × (start ≡ locksAt g m) × (m ≤ macros)
 
 abbrev μ-loop : tie.MeasureT-loop
-μ-loop a size step start₀ from₀ left₀ start from left = left
+μ-loop g a step macros start₀ m₀ start m = macros - m
 
 loop-holds : tie.Need-loop-holds Inv-loop μ-loop
-loop-holds c = (refl, omega arith, omega arith, omega arith)
+loop-holds c =
+    let x = c .before .before .before .before .args in
+    let all : x .g .macros - 0 ≡ x .g .macros = omega arith in
+    (ap (λ (n : ℕ). locksFrom (x .g) 0 n (x .a)) all, omega arith, omega arith)
 
 sub-t12 : tie.Need-sub-t12 Inv-loop μ-loop
-sub-t12 c = covering-low _ _ _ (sym (c .before .covers .ensures) ∙ c .if1 .taken)
+sub-t12 c = covering-low _ _ _ (sym (c .before .before .covers .ensures) ∙ c .before .if1 .taken)
 
 add-t13 : tie.Need-add-t13 Inv-loop μ-loop
 add-t13 c =
-    let b = c .before .before .before in
-    let g = b .before .before .before .before .before .args .g in
-    let k : g .part .«rows_per_macro» ≤ 65535 = omega arith in
-    let m : g .macros ≤ 255 = omega arith in
-    let t = covering-high (b .loop .start) (g .part .«rows_per_macro» / 8) (b .before .before .before .before .before .args .a) (sym (c .before .covers .ensures) ∙ c .if1 .taken) in
+    let in-loop = c .before .before .before .before in
+    let at-start = in-loop .before .before .before .before .before .before in
+    let t = covering-high (in-loop .before .loop .start) (c .before .before .before .locks-in .result) (at-start .args .a) (sym (c .before .before .covers .ensures) ∙ c .before .if1 .taken) in
     omega arith
 
 returns : tie.Need-returns Inv-loop μ-loop
 returns c =
-    let b = c .before .before .before in
-    let x = b .before .before .before .before .before .args in
-    let l = b .loop in
-    sym (lock-hit _ _ (l .start) (l .from) (l .left) (x .a) (c .before .before .loop-test .taken) (sym (c .before .covers .ensures) ∙ c .if1 .taken))
-    ∙ (l .inv .0 ∙ sym (locks-found (x .g) (x .a)))
+    let in-loop = c .before .before .before .before in
+    let l = in-loop .before .loop in
+    let x = in-loop .before .before .before .before .before .before .args in
+    let left : x .g .macros - l .m ≡ suc (x .g .macros - l .m - 1) = omega (arith, in-loop .loop-test .taken) in
+    lock-hit (x .g) (x .a) (l .m) (l .start) _ (l .inv .1) (c .before .before .before .locks-in .ensures .0) _ _ _ left (c .lock-start .ensures .0) (sym (c .before .before .covers .ensures) ∙ c .before .if1 .taken)
+    ∙ l .inv .0
+
+-- where the next macro's locks start
+small : (locks step m start : ℕ) → start ≡ locks + m * step → locks ≤ 4294967295 → step ≤ 4294967295 → m ≤ 255 → start ≤ 4294967295 * 256
+small locks step m start e a b d = omega (arith, mul-le-mul d b)
 
 add-start : tie.Need-add-start Inv-loop μ-loop
 add-start c =
-    let f = c .before .before .before .before .before .struct-known2 .given in
-    let g = c .before .before .before .before .before .before .before .before .args .g in
-    let k : g .part .«locks_step» ≤ 4294967295 = omega (arith, f .1 .1 .1 .1 .1 .1 .1 .1 .1 .1 .1 .0) in
-    let s : g .part .locks ≤ 4294967295 = omega arith in
-    let m : g .macros ≤ 255 = omega arith in
-    omega arith
-
-add-from : tie.Need-add-from Inv-loop μ-loop
-add-from c =
-    let g = c .before .before .before .before .before .before .before .before .args .g in
-    let k : g .part .«rows_per_macro» ≤ 65535 = omega arith in
-    let m : g .macros ≤ 255 = omega arith in
+    let in-loop = c .before .before .before in
+    let l = in-loop .before .loop in
+    let at-step = in-loop .before .before .before .before in
+    let g = at-step .before .before .args .g in
+    let known = at-step .struct-known .given in
+    let b : g .part .«locks_step» ≤ 4294967295 = omega (arith, known) in
+    let s = small (g .part .locks) (g .part .«locks_step») (l .m) (l .start) (l .inv .1) (omega (arith, known)) b (omega arith) in
     omega arith
 
 loop-again : tie.Need-loop-again Inv-loop μ-loop
 loop-again c =
-    let b = c .before .before .before in
-    let x = b .before .before .before .before .before .args in
-    let l = b .loop in
-    let k : x .g .part .«rows_per_macro» ≤ 65535 = omega arith in
-    let s : x .g .part .«locks_step» ≤ 4294967295 = omega (arith, b .before .before .struct-known2 .given .1 .1 .1 .1 .1 .1 .1 .1 .1 .1 .1 .0) in (
-      sym (lock-miss _ _ (l .start) (l .from) (l .left) (x .a) (c .before .before .loop-test .taken) (sym (c .before .covers .ensures) ∙ c .if1 .left)) ∙ l .inv .0,
-      omega arith,
-      omega arith,
+    let in-loop = c .before .before .before in
+    let l = in-loop .before .loop in
+    let x = in-loop .before .before .before .before .before .before .args in
+    let left : x .g .macros - l .m ≡ suc (x .g .macros - (l .m + 1)) = omega (arith, in-loop .loop-test .taken) in
+    let n = c .before .before .locks-in .ensures .0 in (
+      sym (lock-miss (x .g) (x .a) (l .m) (l .start) _ (l .inv .1) n _ _ left (sym (c .before .covers .ensures) ∙ c .if1 .left)) ∙ l .inv .0,
+      start-on (x .g) (x .a) (l .m) (l .start) _ (l .inv .1) n,
       omega arith,
     )
 
@@ -73,8 +72,7 @@ returns-2 : tie.Need-returns-2 Inv-loop μ-loop
 returns-2 c =
     let l = c .before .loop in
     let x = c .before .before .before .before .before .before .args in
-    let z : l .left ≡ 0 = omega arith in
-    sym (lock-none _ _ (l .start) (l .from) (x .a)) ∙ ((rw z at (l .inv .0)) ∙ sym (locks-found (x .g) (x .a)))
+    sym (lock-none (x .g) (x .a) (l .m) (x .g .macros - l .m) (omega arith)) ∙ l .inv .0
 
 pub lock-place-spec : {M : Type 1} → statement M
 lock-place-spec =
@@ -87,11 +85,12 @@ lock-place-spec =
     (λ c. search needs)
     loop-holds
     (λ c κs. search needs)
+    (λ c κs. search needs)
+    (λ c κs. search needs)
     sub-t12
     add-t13
     returns
     add-start
-    add-from
     (λ c. omega arith)
     (λ c. omega arith)
     loop-again

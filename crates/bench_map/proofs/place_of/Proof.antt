@@ -37,8 +37,8 @@ returns-4 c =
     sym (at-test (x .g) (x .address) (past e₀) (sym (e₁ .before .covers .ensures) ∙ e₁ .if2 .left) (sym (e₂ .before .covers2 .ensures) ∙ e₂ .if3 .left)
     (sym (c .before .covers3 .ensures) ∙ c .if4 .taken))
 
-sub-t13 : tie.Need-sub-t13
-sub-t13 c = covering-low _ _ _ (sym (c .before .covers4 .ensures) ∙ c .if5 .taken)
+sub-t14 : tie.Need-sub-t14
+sub-t14 c = covering-low _ _ _ (sym (c .before .covers4 .ensures) ∙ c .if5 .taken)
 
 returns-5 : tie.Need-returns-5
 returns-5 c =
@@ -79,6 +79,7 @@ place-of-spec =
     tie.close
     (tie.spec
     (λ c. search needs)
+    (λ c. search needs)
     (λ c κs. search needs)
     returns
     (λ c κs. search needs)
@@ -86,12 +87,13 @@ place-of-spec =
     (λ c. search needs)
     (λ c κs. search needs)
     returns-3
+    (λ c. search needs)
     (λ c κs. search needs)
     returns-4
     (λ c. search needs)
     (λ c. search needs)
     (λ c κs. search needs)
-    sub-t13
+    sub-t14
     returns-5
     (λ c. search needs)
     (λ c κs. search needs)

@@ -9,17 +9,21 @@ use Rattle.flow.specs.Session.{bare}
 use Rattle.moves.proofs.program_moves.Statement.{statement}
 use Rattle.moves.proofs.program_moves.Tie as tie
 
-first : (c : tie.After-struct-known3) → c .before .before .before .rows .result * (26 + 5 * (c .before .before .before .before .before .args .g .part .«row_bytes» / 4)) ≤ 351933934000000
-first c =
-    let r : c .before .before .before .rows .result ≤ 4294967295 = omega arith in
-    let b : 26 + 5 * (c .before .before .before .before .before .args .g .part .«row_bytes» / 4) ≤ 81941 = omega arith in
-    omega (arith, mul-le-mul r b)
+module _ (c : tie.After-locks-in) where
+  abbrev at-start : tie.Start
+  at-start = c .before .before .before .before .before
 
-second : (c : tie.After-struct-known3) → c .before .before .before .before .before .args .g .macros * (24 + 5 * (c .before .before .before .before .before .args .g .part .«rows_per_macro» / 8 / 4)) ≤ 2616045
-second c =
-    let r : c .before .before .before .before .before .args .g .macros ≤ 255 = omega arith in
-    let b : 24 + 5 * (c .before .before .before .before .before .args .g .part .«rows_per_macro» / 8 / 4) ≤ 10259 = omega arith in
-    omega (arith, mul-le-mul r b)
+  first : c .before .before .before .rows .result * (26 + 5 * (at-start .args .g .part .«row_bytes» / 4)) ≤ 351933934000000
+  first =
+      let r : c .before .before .before .rows .result ≤ 4294967295 = omega arith in
+      let b : 26 + 5 * (at-start .args .g .part .«row_bytes» / 4) ≤ 81941 = omega arith in
+      omega (arith, mul-le-mul r b)
+
+  second : at-start .args .g .macros * (24 + 5 * (c .locks-in .result / 4)) ≤ 2616045
+  second =
+      let r : at-start .args .g .macros ≤ 255 = omega arith in
+      let b : 24 + 5 * (c .locks-in .result / 4) ≤ 10259 = omega arith in
+      omega (arith, mul-le-mul r b)
 
 pub program-moves-spec : {M : Type 1} → statement M
 program-moves-spec =
@@ -29,7 +33,7 @@ program-moves-spec =
     (λ c. search needs)
     (λ c. search needs)
     (λ c. search needs)
-    (λ c. search needs)
+    (λ c κs. search needs)
     (λ c. search needs)
     (λ c. search needs)
     (λ c. omega (arith, first c))
@@ -38,4 +42,4 @@ program-moves-spec =
     (λ c. search needs)
     (λ c. omega (arith, second c))
     (λ c. omega (arith, first c, second c))
-    (λ c. (rw (c .before .before .before .rows .ensures) (sym (length-program (bare (c .before .before .before .before .before .args .g)))), omega (arith, first c, second c))))
+    (λ c. (rw (c .before .before .before .rows .ensures, c .locks-in .ensures .0) (sym (length-program (bare (at-start c .args .g)))), omega (arith, first c, second c))))

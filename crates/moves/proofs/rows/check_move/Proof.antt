@@ -4,6 +4,7 @@ use Prim.Native.Nat.{_+_, _*_, _≤_}
 use native.Mathlib.Omega.{arith}
 use borrow.Author.Needs.{needs}
 use Rattle.moves.proofs.Sections.{lock-address, lock-word-at}
+use Rattle.parts.proofs.Locks.{locks-most}
 use Rattle.moves.proofs.rows.check_move.Statement.{statement}
 use Rattle.moves.proofs.rows.check_move.Tie as tie
 
@@ -14,9 +15,9 @@ pub check-move-spec : {M : Type 1} → statement M
 check-move-spec =
     tie.close
     (tie.spec
-    (λ c. search needs)
+    (λ c. let s = c .before in omega (arith, s .pre .1 .1, (s .pre .0) .macroHigh, locks-most (s .args .g) (s .args .m)))
     (λ c. omega (arith, address c))
     (λ c. omega (arith, address (c .before)))
-    (λ c. let s = c .before .before .before in omega (arith, address (c .before), s .pre .1 .1, (s .pre .0) .macroHigh))
+    (λ c. let s = c .before .before .before in omega (arith, address (c .before), s .pre .1 .1, (s .pre .0) .macroHigh, locks-most (s .args .g) (s .args .m)))
     (λ c κs. search needs)
     (λ c. let s = c .before .before .before .before in c .read-move .ensures ∙ lock-word-at (s .args .g) (s .pre .0) (s .args .j) (s .args .m) (s .pre .1 .1)))

@@ -31,7 +31,7 @@ macros-move-spec =
         s .pre .1 .0,
         (
           omega (arith, low c),
-          macro-inside (s .args .g) (s .pre .0) (s .args .h) (now (s .args .bytes)) (s .pre .1 .0) (s .args .j) _ (c .before .macro-moves .ensures .0) (s .pre .1 .1),
+          macro-inside (s .args .g) (s .pre .0) (s .args .h) (now (s .args .bytes)) (s .pre .1 .0) (s .args .j) _ (c .before .macro-moves .ensures .0) (s .pre .1 .1) _,
         ),
       ),
     ))
