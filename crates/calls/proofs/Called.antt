@@ -15,10 +15,9 @@ use Rattle.encoding.specs.Outcomes.{outcomeBytes, numberOf}
 use Rattle.encoding.specs.Records.{recordBytes, recordIn}
 use Rattle.encoding.specs.Sessions.{sessionBytes, sessionIn, isSession}
 use Rattle.flow.specs.declared.Answer.{Answer}
+use Rattle.hex.specs.HexFormat.{hexFormat}
 use Rattle.hex.specs.Texts.{contentOf, hexReading}
-use Rattle.hex_writer.proofs.Entries.{refused-eleven}
-use Rattle.hex_writer.specs.Writing.{Unwritten, writeFor, writing, writeOf, textAfter}
-use Rattle.hex_writer.specs.declared.WriteAnswer.{WriteAnswer}
+use Rattle.hex_writer.specs.Writing.{writing, writeOf, textAfter}
 use Rattle.image.specs.Checks.{faultIn, imageFault}
 use Rattle.image.specs.Refusals.{firstRefusal}
 use Rattle.lent.specs.Words.{lowFirst}
@@ -32,9 +31,12 @@ use Rattle.session.specs.Sessions.{noSession}
 use Rattle.session.specs.declared.Given.{Given}
 use Rattle.session.specs.declared.Outcome.the-variants.{Refused}
 use Rattle.session.specs.declared.Session.{Session}
+use Rattle.text.proofs.Entries.{refused-eleven}
 use Rattle.text.specs.Reading.{Untouched, readFor, answerOf, bufferAfter}
 use Rattle.text.specs.Storing.{cleared}
+use Rattle.text.specs.Writing.{Unwritten, writeFor}
 use Rattle.text.specs.declared.ReadAnswer.{ReadAnswer}
+use Rattle.text.specs.declared.WriteAnswer.{WriteAnswer}
 
 -- what a contract says: the number, and both buffers
 abbrev pub Leaves : CallResult → (number : ℕ) (first second : List ℕ) → Type 0
@@ -103,8 +105,8 @@ module _ (header image text size : List ℕ) where
     write-room n = rw (le-leb 17 (length header) h, le-leb 8 (length size) n) (by (lookupOf (recordIn header .part) (recordIn header .macros)) refl)
       where
         by : (l : Lookup) → lookupOf (recordIn header .part) (recordIn header .macros) ≡ l
-            → writeInto (refusedOr (cond (isFound l) 0 11) Unwritten (writeFor l (recordIn header) image (length text))) text size
-            ≡ writeInto (writeFor l (recordIn header) image (length text)) text size
+            → writeInto (refusedOr (cond (isFound l) 0 11) Unwritten (writeFor hexFormat l (recordIn header) image (length text))) text size
+            ≡ writeInto (writeFor hexFormat l (recordIn header) image (length text)) text size
         by (NotFound k) e = rw (refused-eleven (recordIn header .part) (recordIn header .macros) k e)
         by (Found g) e = refl
 

@@ -7,20 +7,19 @@ use native.Mathlib.Omega.{arith}
 use borrow.Author.Tests.{eqb-true, leb-true, leb-false, le-leb, lt-leb}
 use lib.Dec.{leb, eqb}
 use lib.ListN.{length, getD, take, drop, replicate, length-drop}
-use lib.Seq.{length-sets, length-take-le}
+use lib.Seq.{length-take-le}
 use Rattle.encoding.proofs.Backs.{record-length}
 use Rattle.calls.proofs.Called.{read-under, read-room, write-partless, write-under, write-room}
 use Rattle.encoding.proofs.Putting.{put-kept, put-found}
 use Rattle.calls.specs.Calls.{CallResult, isFound, inTable, readRefusal, writeRefusal, refusedOr, readCall, writeCall}
-use Rattle.encoding.specs.Buffers.{putInto}
+use Rattle.encoding.specs.Buffers.{putInto, Kept}
 use Rattle.encoding.specs.Values.{Twelve}
-use Rattle.encoding.specs.Buffers.{Kept}
 use Rattle.calls.specs.Claims.{Zeroed, ReadClaims, WriteClaims}
 use Rattle.encoding.specs.Records.{recordBytes, recordIn}
-use Rattle.hex.proofs.Taken.{taken-from}
-use Rattle.hex.specs.Texts.{events, hexReading}
+use Rattle.hex.specs.HexFormat.{hexFormat}
+use Rattle.hex.specs.Texts.{hexReading}
 use Rattle.hex.specs.Written.{textLength}
-use Rattle.hex_writer.specs.Writing.{Writing, Unwritten, Written, writing, writeFor, answerTo, leftBy}
+use Rattle.hex_writer.specs.Writing.{writing}
 use Rattle.image.specs.Refusals.{firstRefusal}
 use Rattle.sections.specs.Sections.{sectionsOf, headerOf}
 use Rattle.lent.specs.Words.{lowFirst}
@@ -31,16 +30,13 @@ use Rattle.parts.specs.Sizes.{imageSize}
 use Rattle.parts.specs.declared.Geometry.{Geometry}
 use Rattle.parts.specs.declared.Lookup.{Lookup}
 use Rattle.parts.specs.declared.Lookup.the-variants.{Found}
-use Rattle.text.proofs.Placing.{placing-length, laid, laid-in}
-use Rattle.text.specs.Lines.{linesOf}
-use Rattle.text.specs.Placing.{gathered, overall}
+use Rattle.text.proofs.Placing.{header-length}
+use Rattle.text.proofs.Taken.{taken-from, each-byte}
+use Rattle.text.specs.Placing.{gathered}
 use Rattle.text.specs.Reading.{Reading, Untouched, Cleared, Taken, answerOf}
+use Rattle.text.specs.Writing.{Writing, Unwritten, Written, writeFor, answerTo, leftBy}
 
 -- ---- what is read has twelve metadata bytes
-
-header-size : (g : Geometry) (stream : List ℕ) → length stream ≡ overall (λ s. s .size) (sectionsOf g) → length (gathered InHeader (sectionsOf g) stream) ≡ 15
-unfolding laid
-header-size g stream all = ap length (sym (laid-in g stream all InHeader (replicate 15 0) refl)) ∙ simp length-sets
 
 twelve-of : (part macros : ℕ) (bs : List ℕ) → length bs ≡ 15 → Twelve (headerOf part macros bs)
 twelve-of part macros bs n = length-take-le 12 (drop 2 bs) (omega (arith, length-drop 2 bs))
@@ -52,9 +48,9 @@ read-twelve part macros text room = by (hexReading part macros text room) refl
     by (Untouched n) e = refl
     by (Cleared n size) e = refl
     by (Taken h bytes) e =
-        let t = taken-from part macros text room h bytes e in
+        let t = taken-from hexFormat part macros text room h bytes e in
         let s = gathered InHeader (sectionsOf (t .g)) (t .stream) in
-        let n = header-size (t .g) (t .stream) (placing-length (events 0 (linesOf text)) (sectionsOf (t .g)) (t .stream) (t .content)) in
+        let n = header-length (t .g) (t .stream) (each-byte t) in
         ap (λ (x : Header). length (x .metadata)) (sym (t .header)) ∙ twelve-of part macros s n
 
 over : (m k : ℕ) → ¬ (m ≤ k) → k < m
@@ -134,11 +130,11 @@ module _ (header image text size : List ℕ) where
 
   -- the core's own 12
   other-sizes : (g : Geometry) (h : Header) → ¬ ((length image ≡ imageSize g) × (textLength g ≤ length text))
-      → answerTo (writeFor (Found g) h image (length text)) .number ≡ 12
+      → answerTo (writeFor hexFormat (Found g) h image (length text)) .number ≡ 12
   unfolding firstRefusal
   other-sizes g h lacks = by (eqb (length image) (imageSize g)) refl
     where
-      by : (t : Bool) → eqb (length image) (imageSize g) ≡ t → answerTo (writeFor (Found g) h image (length text)) .number ≡ 12
+      by : (t : Bool) → eqb (length image) (imageSize g) ≡ t → answerTo (writeFor hexFormat (Found g) h image (length text)) .number ≡ 12
       by true e =
           let f = lt-leb (textLength g) (length text) (over (textLength g) (length text) (λ k. lacks (eqb-true (length image) (imageSize g) e, k))) in
           rw (e, f)
@@ -154,7 +150,7 @@ module _ (header image text size : List ℕ) where
       by true f =
           let room = leb-true 8 (length size) f in
           ap (λ (x : CallResult). x .number) (write-room header image text size n room)
-          ∙ ap (λ (l : Lookup). answerTo (writeFor l (recordIn header) image (length text)) .number) e
+          ∙ ap (λ (l : Lookup). answerTo (writeFor hexFormat l (recordIn header) image (length text)) .number) e
           ∙ other-sizes g (recordIn header) (λ k. lacks (room, k .0, k .1))
       by false f = ap (λ (x : CallResult). x .number) (write-under header image text size n (leb-false 8 (length size) f)) ∙ ap (λ (l : Lookup). cond (isFound l) 12 11) e
 

@@ -12,7 +12,7 @@ use Rattle.encoding.specs.Sessions.{sessionBytes, sessionIn, isSession}
 use Rattle.flow.specs.declared.Answer.{Answer}
 use Rattle.flow.specs.declared.Answer.the-variants.{ResetDone, Transferred}
 use Rattle.hex.specs.Texts.{hexReading}
-use Rattle.hex_writer.specs.Writing.{Writing, Unwritten, writing, answerTo, leftBy}
+use Rattle.hex_writer.specs.Writing.{writing}
 use Rattle.image.specs.Refusals.{_unless_, firstRefusal}
 use Rattle.lent.specs.Words.{lowFirst}
 use Rattle.parts.specs.Parts.{lookupOf}
@@ -22,6 +22,7 @@ use Rattle.session.specs.Given.{startOf, startRefused, stepWith, refusing}
 use Rattle.session.specs.Possible.{possible}
 use Rattle.session.specs.declared.Given.{Given}
 use Rattle.text.specs.Reading.{Reading, Untouched, answerOf, bufferAfter}
+use Rattle.text.specs.Writing.{Writing, Unwritten, answerTo, leftBy}
 
 -- the number that a call returns, and the two buffers lent to it for writing, in the order of its parameters, at its end
 pub record CallResult : Type 0 where

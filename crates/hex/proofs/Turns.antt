@@ -9,7 +9,7 @@ use lib.Dec.{eqb, leb}
 use lib.ListN.{length, getD, drop, drop-of-length-le}
 use lib.Seq.{drop-cons}
 use Rattle.hex.specs.Records.{Record, BadRecord, DataRecord, ExtendedAddress, EndRecord}
-use Rattle.hex.specs.Steps.{LineAt, LineTo, FoundAt, contentAt, dues, dataTurn, endTurn, TurnAt}
+use Rattle.hex.specs.Steps.{LineAt, LineTo, FoundAt, contentAt, dataTurn, endTurn, TurnAt}
 use Rattle.hex.specs.Texts.{upperAfter, eventOf, events}
 use Rattle.hex.specs.declared.Found.{Found}
 use Rattle.hex.specs.declared.Found.the-variants.{Refused, Payload, Extended, Ended}
@@ -17,6 +17,7 @@ use Rattle.hex.specs.declared.Turn.the-variants.{Stop, Done, Moved, Stor
 use Rattle.sections.specs.declared.Section.{Section}
 use Rattle.text.specs.Lines.{Line, linesOf}
 use Rattle.text.specs.Placing.{Event, Data, Refusal, Stream, placing}
+use Rattle.text.specs.Scanning.{dues}
 use Rattle.text.proofs.Lines.{some-line}
 use Rattle.hex.proofs.Bodies.{payloadIn, payload-length}
 

@@ -3,4 +3,4 @@ pub mod Texts
 pub mod Written
 pub mod Examples
 pub mod Steps
-pub mod Claims
+pub mod HexFormat

@@ -6,25 +6,18 @@ use Prim.Native.Nat.{ℕ, _+_, _*_, _≤_, _<_}
 use lib.Dec.{eqb, leb}
 use lib.ListN.{length, getD, take, drop}
 use Rattle.hex.specs.Records.{Record, BadRecord, DataRecord, ExtendedAddress, EndRecord, lineRecord, recordOf}
-use Rattle.hex.specs.Texts.{events, contentOf}
-use Rattle.hex.specs.declared.Due.{Due}
+use Rattle.hex.specs.Texts.{events}
 use Rattle.hex.specs.declared.Found.{Found}
 use Rattle.hex.specs.declared.Found.the-variants.{Refused, Payload, Extended, Ended}
 use Rattle.hex.specs.declared.Frame.{Frame}
 use Rattle.hex.specs.declared.Frame.the-variants.{Broken, Framed}
-use Rattle.hex.specs.declared.Scanned.{Scanned}
-use Rattle.hex.specs.declared.Scanned.the-variants.{Bad, Whole}
 use Rattle.hex.specs.declared.Turn.{Turn}
 use Rattle.hex.specs.declared.Turn.the-variants.{Stop, Done, Moved, Store}
-use Rattle.sections.specs.Sections.{sectionsOf, noSection, locationBytes}
 use Rattle.lent.specs.Words.{total}
-use Rattle.sections.specs.declared.Location.{Location}
 use Rattle.sections.specs.declared.Section.{Section}
-use Rattle.parts.specs.Sizes.{flashSize, lockTotal, imageSize}
-use Rattle.parts.specs.declared.Geometry.{Geometry}
 use Rattle.text.specs.Lines.{Line, linesOf}
-use Rattle.text.specs.Placing.{Content, Refusal, Stream, placing, prepend, dueAfter, restOf, sameLocation, gathered}
-use Rattle.text.specs.Storing.{storedAt}
+use Rattle.text.specs.Placing.{Content, Refusal, Stream, placing, prepend, dueAfter}
+use Rattle.text.specs.Scanning.{dues}
 
 -- the first line at a position is such a record
 pub record LineAt (text : List ℕ) (at : ℕ) (r : Record) : Type 0 where
@@ -73,10 +66,6 @@ FoundAt text at next Ended row = LineTo text at next EndRecord
 abbrev pub contentAt : (text : List ℕ) (at upper : ℕ) (due : List Section) → Content
 contentAt text at upper due = placing due (events upper (linesOf (drop at text)))
 
--- a section and those after it; one of no bytes stands for none
-abbrev pub dues : Section → List Section → List Section
-dues s ss = cond (eqb (s .size) 0) [] (s ∷ ss)
-
 unfoldable pub dataTurn : Section → (upper low count next : ℕ) → Turn
 dataTurn due upper low count next =
     cond (leb (low + count) 65536 && (eqb (65536 * upper + low) (due .address) && leb count (due .size))) (Store count next) (Stop 4)
@@ -97,36 +86,3 @@ TurnAt text at upper due (Store count next) row =
     × (1 ≤ count)
     × (count ≤ 255)
     × (count ≤ due .size)
-
--- the sizes of a part in the table
-pub record TableSizes (g : Geometry) : Type 0 where
-  pub flash-some : 0 < flashSize g
-  pub flash-most : flashSize g ≤ 131072
-  pub locks-some : 0 < lockTotal g
-  pub locks-most : lockTotal g ≤ 128
-
--- what the reader fills: the bytes of an image of such a part, and a header's
-pub record ToFill (g : Geometry) (image header : List ℕ) : Type 0 where
-  pub table : TableSizes g
-  pub image-size : length image ≡ imageSize g
-  pub header-size : length header ≡ 15
-
--- what is due after count bytes
-abbrev pub advancedOf : Geometry → Due → (count : ℕ) → Due
-advancedOf g d count =
-    cond (eqb count (d .section .size)) (record { section = getD (sectionsOf g) (d .next) noSection; next = d .next + 1 })
-    (record { section = restOf count (d .section); next = d .next })
-
--- the bytes of a location after payload of the row went into the section that is due: its own location has them, the others stay
-abbrev pub filledIn : Section → (row : List ℕ) (count : ℕ) → Location → (part : List ℕ) → List ℕ
-filledIn due row count l part = cond (sameLocation l (due .location)) (storedAt part (due .offset) row 4 count) part
-
--- a text whose records all are in place: every location has the bytes of its sections
-pub record Filled (text : List ℕ) (g : Geometry) (image header : List ℕ) : Type 0 where
-  pub stream : List ℕ
-  pub is : contentOf text (sectionsOf g) ≡ Stream stream
-  pub has : (l : Location) → locationBytes g image header l ≡ gathered l (sectionsOf g) stream
-
-abbrev pub ScannedAs : (text : List ℕ) (g : Geometry) → Scanned → (image header : List ℕ) → Type 0
-ScannedAs text g (Bad n) image header = contentOf text (sectionsOf g) ≡ Refusal n
-ScannedAs text g Whole image header = Filled text g image header

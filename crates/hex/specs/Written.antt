@@ -51,14 +51,16 @@ linesFrom upper (p ∷ ps) =
 unfoldable pub writtenText : List Piece → List ℕ
 writtenText ps = extendedLine 0 ++ (linesFrom 0 ps ++ endLine)
 
--- the text of an image
-unfoldable pub textOf : Geometry → Header → (bytes : List ℕ) → List ℕ
-textOf g h bytes = writtenText (pieces (sectionBytes g h bytes) (sectionsOf g))
-
 -- the text's length: 17 bytes for each upper half, 13 for each data record and the end record, 2 for each byte of data
 abbrev pub uppersIn : Section → ℕ
 uppersIn s = (s .size + 65535) / 65536
 
-unfoldable pub textLength : Geometry → ℕ
-textLength g =
-    17 * overall uppersIn (sectionsOf g) + 13 * (overall piecesIn (sectionsOf g) + 1) + 2 * overall (λ s. s .size) (sectionsOf g)
+unfoldable pub writtenLength : List Section → ℕ
+writtenLength ss = 17 * overall uppersIn ss + 13 * (overall piecesIn ss + 1) + 2 * overall (λ s. s .size) ss
+
+-- the text of an image, and its length
+abbrev pub textOf : Geometry → Header → (bytes : List ℕ) → List ℕ
+textOf g h bytes = writtenText (pieces (sectionBytes g h bytes) (sectionsOf g))
+
+abbrev pub textLength : Geometry → ℕ
+textLength g = writtenLength (sectionsOf g)

@@ -2,7 +2,8 @@
 ghost use mathlib.Core.Path.{_≡_};
 ghost use Prim.Native.Nat.{_+_, _*_, _≤_, _<_};
 ghost use lib.ListN.{length};
-ghost use Rattle.hex.specs.Steps.{FrameAt, foundIn, FoundAt, dataTurn, endTurn, TurnAt, ToFill, advancedOf, filledIn, ScannedAs};
+ghost use Rattle.hex.specs.HexFormat.{hexFormat};
+ghost use Rattle.hex.specs.Steps.{FrameAt, foundIn, FoundAt, dataTurn, endTurn, TurnAt};
 ghost use Rattle.hex.specs.Texts.{contentOf, hexReading};
 ghost use Rattle.image.specs.Image.{flashIn, protectionIn};
 ghost use Rattle.sections.specs.Sections.{sectionsOf};
@@ -10,11 +11,14 @@ ghost use Rattle.sections.specs.declared.Location.the-variants.{InFlash, InProt
 ghost use Rattle.parts.specs.Parts.{lookupOf};
 ghost use Rattle.parts.specs.Sizes.{flashSize, imageSize};
 ghost use Rattle.text.specs.Reading.{judged, answerOf, bufferAfter};
+ghost use Rattle.text.specs.Scanning.{ToFill, advancedOf, filledIn, ScannedAs};
 use parts::Geometry;
 use parts::Lookup;
 use sections::Location;
 use sections::Section;
+use text::Due;
 use text::ReadAnswer;
+use text::Scanned;
 
 // The frame of a line: it is broken, or has so many payload bytes, a sum, and a place where the next line begins.
 enum Frame {
@@ -37,24 +41,12 @@ struct Located {
     next: usize,
 }
 
-// The section that is due, and the number of the one after it.
-struct Due {
-    section: Section,
-    next: usize,
-}
-
 // What a record leads to: 1 to 5, the end, a new upper half, or payload for the section that is due.
 enum Turn {
     Stop(u8),
     Done,
     Moved { next: usize, upper: u32 },
     Store { count: usize, next: usize },
-}
-
-// What a text's records come to: 1 to 5, or each byte of each section in its place.
-enum Scanned {
-    Bad(u8),
-    Whole,
 }
 
 // The frame of the line at a position; its bytes are left in the row.
@@ -240,9 +232,9 @@ fn store_payload(
     count: usize,
 )
     requires { ⌜ flashSize g ≤ length (now image) ⌝ }
-    ensures { λ _. ⌜ flashIn g (now (image .exit)) ≡ filledIn due (now (row .entry)) count InFlash (flashIn g (now (image .entry))) ⌝ }
-    ensures { λ _. ⌜ protectionIn g (now (image .exit)) ≡ filledIn due (now (row .entry)) count InProtection (protectionIn g (now (image .entry))) ⌝ }
-    ensures { λ _. ⌜ now (header .exit) ≡ filledIn due (now (row .entry)) count InHeader (now (header .entry)) ⌝ }
+    ensures { λ _. ⌜ flashIn g (now (image .exit)) ≡ filledIn due (now (row .entry)) 4 count InFlash (flashIn g (now (image .entry))) ⌝ }
+    ensures { λ _. ⌜ protectionIn g (now (image .exit)) ≡ filledIn due (now (row .entry)) 4 count InProtection (protectionIn g (now (image .entry))) ⌝ }
+    ensures { λ _. ⌜ now (header .exit) ≡ filledIn due (now (row .entry)) 4 count InHeader (now (header .entry)) ⌝ }
 {
     let flash = parts::flash_size(g);
     let location = due.location;
@@ -257,7 +249,7 @@ fn store_payload(
 // Puts the payload of a text's records where their sections lie.
 fn scan(g: Geometry, text: &[u8], image: &mut [u8], header: &mut [u8]) -> Scanned
     requires { ⌜ ToFill g (now image) (now header) ⌝ }
-    ensures { λ r. ⌜ ScannedAs (now (text .entry)) g r (now (image .exit)) (now (header .exit)) ⌝ }
+    ensures { λ r. ⌜ ScannedAs hexFormat (now (text .entry)) g r (now (image .exit)) (now (header .exit)) ⌝ }
 {
     let mut row = [0u8; 260];
     let mut at: usize = 0;

@@ -9,15 +9,16 @@ use lib.Dec.{eqb}
 use lib.ListN.{length, getD, take, drop, length-append, length-take, length-drop}
 use Rattle.hex.specs.Written.{dataLine, newUpper, lowOf, upperOf, linesFrom, textOf, textLength}
 use Rattle.hex_writer.specs.Lines.{upperPast, positionAfter}
-use Rattle.hex_writer.specs.Sized.{Sized, Laid}
 use Rattle.hex_writer.proofs.Lines.{data-length, extended-length, upper-same, upper-new, lines-append}
-use Rattle.hex_writer.proofs.Whole.{linesLength, laid-at, text-lines, text-room}
+use Rattle.hex_writer.proofs.Whole.{linesLength, text-lines, text-room}
 use Rattle.sections.specs.Sections.{sectionsOf, noSection, sectionBytes}
 use Rattle.image.specs.declared.Header.{Header}
 use Rattle.sections.specs.declared.Section.{Section}
 use Rattle.parts.specs.Sizes.{flashSize}
 use Rattle.parts.specs.declared.Geometry.{Geometry}
+use Rattle.text.proofs.Laid.{size-at}
 use Rattle.text.specs.Placing.{Piece, cut, piecesIn, pieces, overall}
+use Rattle.text.specs.Sized.{Sized}
 
 -- a type 4 record of the next upper half
 stays : (u v : ℕ) → v ≡ u → length (newUpper u v) ≡ 0
@@ -130,34 +131,28 @@ first-lines f s ss some size begins rest =
       ap (λ (v : ℕ). length (linesFrom v (pieces f ss))) past,
     )
 
-section-size : (part : List ℕ) (s : Section) → Laid part s → length (take (s .size) (drop (s .offset) part)) ≡ s .size
-section-size part s l = omega (arith, length-take (s .size) (drop (s .offset) part), length-drop (s .offset) part, l .inside)
-
 -- the text of an image has the length that the formula says
 module _ {g : Geometry} {h : Header} {bytes : List ℕ} (z : Sized g h bytes) where
-  pub size-at : (k : ℕ) → k < 5 → length (sectionBytes g h bytes (getD (sectionsOf g) k noSection)) ≡ getD (sectionsOf g) k noSection .size
-  size-at k i = section-size _ (getD (sectionsOf g) k noSection) (laid-at z k i)
-
   all-apart : Apart (sectionBytes g h bytes) ((flashSize g - 1) / 65536) (drop 1 (sectionsOf g))
   all-apart =
       let f = z .sizes .flash-most in
       let l = z .sizes .locks-most in
       let b = z .sizes .locks-some in (
         omega arith,
-        size-at 1 (omega arith),
+        size-at z 1 (omega arith),
         omega arith,
         (λ e. absurd (omega arith)),
         (
           b,
-          size-at 2 (omega arith),
+          size-at z 2 (omega arith),
           omega arith,
           (λ e. absurd (omega arith)),
           (
             omega arith,
-            size-at 3 (omega arith),
+            size-at z 3 (omega arith),
             omega arith,
             (λ e. absurd (omega arith)),
-            (omega arith, size-at 4 (omega arith), omega arith, (λ e. absurd (omega arith)), tt),
+            (omega arith, size-at z 4 (omega arith), omega arith, (λ e. absurd (omega arith)), tt),
           ),
         ),
       )
@@ -169,5 +164,5 @@ module _ {g : Geometry} {h : Header} {bytes : List ℕ} (z : Sized g h bytes) wh
         arith,
         text-room [] g h bytes,
         text-lines g,
-        first-lines (sectionBytes g h bytes) (getD (sectionsOf g) 0 noSection) (drop 1 (sectionsOf g)) (z .sizes .flash-some) (size-at 0 (omega arith)) refl all-apart,
+        first-lines (sectionBytes g h bytes) (getD (sectionsOf g) 0 noSection) (drop 1 (sectionsOf g)) (z .sizes .flash-some) (size-at z 0 (omega arith)) refl all-apart,
       )

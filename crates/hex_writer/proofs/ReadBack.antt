@@ -2,11 +2,11 @@
 use mathlib.Core.Bool.{Bool, true, false}
 use mathlib.Core.List.{List, [], _∷_, _++_, append-assoc}
 use mathlib.Core.Path.{_≡_, refl, sym, ap, _∙_, subst}
-use Prim.Native.Nat.{ℕ, zero, suc, _+_, _-_, _*_, _/_, _%_, _≤_, _<_}
+use Prim.Native.Nat.{ℕ, zero, _+_, _*_, _/_, _%_, _<_}
 use native.Mathlib.Omega.{arith}
 use borrow.Author.Tests.{eq-eqb, le-leb, eqb-true, eqb-false}
 use lib.Dec.{eqb}
-use lib.ListN.{length, drop, length-append, length-take, length-drop}
+use lib.ListN.{length, length-append}
 use lib.Seq.{take-at}
 use Rattle.hex.specs.Records.{Record, DataRecord, ExtendedAddress, typed, recordOf, ofSpelt, ofBody, lineRecord}
 use Rattle.hex.specs.Texts.{upperAfter, eventOf, events}
@@ -14,12 +14,13 @@ use Rattle.hex.specs.Written.{sumByte, lineText, dataLine, extendedLine, endLin
 use Rattle.hex_writer.proofs.Pairs.{total-append}
 use Rattle.hex_writer.proofs.Lines.{upper-same, upper-new}
 use Rattle.lent.specs.Words.{total}
-use Rattle.text.proofs.Capitals.{AllBytes, bytes-append, bytes-take, bytes-drop, pairs-digits, spelt-pairs}
+use Rattle.text.proofs.Capitals.{AllBytes, bytes-append, pairs-digits, spelt-pairs}
+use Rattle.text.proofs.Formats.{FitsRecord, AllFitRecords}
 use Rattle.text.proofs.Lines.{lines-cut, digits-no-lf, no-lf-append, cr-bare}
 use Rattle.text.proofs.Pieces.{Says}
 use Rattle.text.specs.Digits.{pairsOf, digitOf, spelt, withByte}
 use Rattle.text.specs.Lines.{Ended, linesOf, onto, withoutCR}
-use Rattle.text.specs.Placing.{Other, Data, End, Piece, cut}
+use Rattle.text.specs.Placing.{Other, Data, End, Piece}
 
 abbrev withSum : List ℕ → List ℕ
 withSum bs = bs ++ (sumByte bs ∷ [])
@@ -80,18 +81,6 @@ pub end-events : (u : ℕ) → events u (linesOf endLine) ≡ End ∷ []
 unfolding events linesOf onto lineRecord ofBody ofSpelt recordOf typed total digitOf spelt withByte withoutCR eventOf upperAfter
 end-events u = refl
 
--- a piece that a record may have: 1 to 64 bytes, within a 64 KiB line
-pub record FitsRecord (p : Piece) : Type 0 where
-  pub some : 0 < length (p .bytes)
-  pub most : length (p .bytes) ≤ 64
-  pub high : p .address < 4294967296
-  pub inside : lowOf (p .address) + length (p .bytes) ≤ 65536
-  pub bytes : AllBytes (p .bytes)
-
-abbrev pub AllFitRecords : List Piece → Type 0
-AllFitRecords [] = Unit {0}
-AllFitRecords (p ∷ ps) = FitsRecord p × AllFitRecords ps
-
 extended-events : (u v : ℕ) (rest : List ℕ) → v < 65536 → events u (linesOf (extendedLine v ++ rest)) ≡ Other ∷ events v (linesOf rest)
 unfolding eventOf upperAfter
 extended-events u v rest h =
@@ -145,21 +134,3 @@ lines-say u (p ∷ ps) a = piece-says u p ps (a .0) (lines-say (upperOf (p .addr
 pub text-says : (ps : List Piece) → AllFitRecords ps → Says ps (events 0 (linesOf (writtenText ps)))
 unfolding writtenText
 text-says ps a = rw (extended-events 0 0 (linesFrom 0 ps ++ endLine) (omega arith)) (lines-say 0 ps a)
-
--- a written record never crosses a 64 KiB line
-pub cut-fits : (n a size : ℕ) (bs : List ℕ) → length bs ≡ size → 0 < size → n ≡ (size + 63) / 64 → a % 64 ≡ 0 → a + size ≤ 4294967296 → AllBytes bs
-    → AllFitRecords (cut n a bs)
-unfolding cut
-cut-fits zero a size bs l some c d h all = tt
-cut-fits (suc zero) a size bs l some c d h all =
-    let t = length-take 64 bs in
-    (record { some = omega arith; most = omega arith; high = omega arith; inside = omega arith; bytes = bytes-take 64 bs all }, tt)
-cut-fits (suc (suc n)) a size bs l some c d h all =
-    let t = length-take 64 bs in (
-      record { some = omega arith; most = omega arith; high = omega arith; inside = omega arith; bytes = bytes-take 64 bs all },
-      cut-fits (suc n) (a + 64) (size - 64) (drop 64 bs) (omega (arith, length-drop 64 bs)) (omega arith) (omega arith) (omega arith) (omega arith) (bytes-drop 64 bs all),
-    )
-
-pub fits-append : (ps qs : List Piece) → AllFitRecords ps → AllFitRecords qs → AllFitRecords (ps ++ qs)
-fits-append [] qs h k = k
-fits-append (p ∷ ps) qs h k = (h .0, fits-append ps qs (h .1) k)

@@ -10,7 +10,7 @@ use lib.ListN.{length, take, drop, length-drop, length-take, drop-of-length-le}
 use lib.Seq.{sets, take-all, drop-drop}
 use Rattle.hex.specs.Written.{linesFrom}
 use Rattle.hex_writer.specs.Lines.{onePiece, positionAfter}
-use Rattle.hex_writer.specs.Sized.{Laid, piecesOf}
+use Rattle.text.specs.Sized.{Laid, piecesOf}
 use Rattle.hex_writer.specs.declared.Position.{Position}
 use Rattle.hex_writer.proofs.Lines as lines
 use Rattle.sections.specs.Sections.{locationBytes, headerBytes}

@@ -1,26 +1,23 @@
 -- Laws of all sections. Assumes nothing.
 use mathlib.Core.List.{List, [], _∷_, _++_}
 use mathlib.Core.Path.{_≡_, refl, sym, ap, _∙_}
-use Prim.Native.Nat.{ℕ, zero, suc, _+_, _*_, _≤_, _<_}
+use Prim.Native.Nat.{ℕ, suc, _+_, _*_, _≤_, _<_}
 use native.Mathlib.Omega.{arith}
 use lib.ListN.{length, getD, drop, length-append, drop-of-length-le}
 use lib.Seq.{sets, drop-cons}
-use Rattle.hex.specs.Steps.{TableSizes}
-use Rattle.hex.specs.Written.{extendedLine, endLine, linesFrom, writtenText, textOf, uppersIn, textLength}
+use Rattle.hex.specs.Written.{extendedLine, endLine, linesFrom, writtenText, textOf, uppersIn, writtenLength, textLength}
 use Rattle.hex_writer.specs.Lines.{positionAfter}
-use Rattle.hex_writer.specs.Sized.{Sized, Laid}
 use Rattle.hex_writer.specs.declared.Position.{Position}
 use Rattle.hex_writer.proofs.Lines as lines
-use Rattle.sections.proofs.Sections.{locationSize, location-length}
 use Rattle.sections.specs.Sections.{sectionsOf, noSection, sectionBytes, locationBytes, headerBytes}
 use Rattle.image.specs.declared.Header.{Header}
-use Rattle.sections.specs.declared.Location.{Location}
-use Rattle.sections.specs.declared.Location.the-variants.{InFlash, InProtection, InHeader}
 use Rattle.sections.specs.declared.Section.{Section}
 use Rattle.parts.specs.Sizes.{flashSize, imageSize}
 use Rattle.parts.specs.declared.Geometry.{Geometry}
+use Rattle.text.proofs.Laid.{roomy-at, laid-at}
 use Rattle.text.proofs.Storing.{sets-append}
 use Rattle.text.specs.Placing.{Piece, cut, piecesIn, pieces, overall}
+use Rattle.text.specs.Sized.{TableSizes, Sized, Laid}
 
 -- the length of a section's lines, where its first upper half is a new one
 abbrev pub linesLength : Section → ℕ
@@ -38,32 +35,9 @@ pub pieces-none : (f : Section → List ℕ) (ss : List Section) (k : ℕ) → l
 unfolding pieces
 pieces-none f ss k h = ap (pieces f) (drop-of-length-le ss {i = k} h)
 
-pub small-at : (g : Geometry) → TableSizes g → (k : ℕ) → k < 5 → getD (sectionsOf g) k noSection .offset + getD (sectionsOf g) k noSection .size ≤ 33554432
-small-at g z zero i = omega (arith, z .flash-most)
-small-at g z (suc zero) i = omega arith
-small-at g z (suc (suc zero)) i = omega (arith, z .locks-most)
-small-at g z (suc (suc (suc zero))) i = omega arith
-small-at g z (suc (suc (suc (suc zero)))) i = omega arith
-small-at g z (suc (suc (suc (suc (suc k))))) i = absurd (omega arith)
-
-module _ {g : Geometry} {h : Header} {bytes : List ℕ} (z : Sized g h bytes) where
-  header-size : length (headerBytes h) ≡ 15
-  header-size = omega (arith, length-append (h .metadata) (h .level ∷ []), z .metadata)
-
-  room-at : (l : Location) → length (locationBytes g bytes (headerBytes h) l) ≡ locationSize g l
-  room-at l = location-length g bytes (headerBytes h) l (z .exact) header-size
-
-  pub laid-at : (k : ℕ) → k < 5 → Laid (locationBytes g bytes (headerBytes h) (getD (sectionsOf g) k noSection .location)) (getD (sectionsOf g) k noSection)
-  laid-at zero i = record { some = z .sizes .flash-some; small = small-at g (z .sizes) 0 i; high = omega (arith, z .sizes .flash-most); inside = omega (arith, room-at InFlash) }
-  laid-at (suc zero) i = record { some = omega arith; small = small-at g (z .sizes) 1 i; high = omega arith; inside = omega (arith, room-at InHeader) }
-  laid-at (suc (suc zero)) i = record { some = z .sizes .locks-some; small = small-at g (z .sizes) 2 i; high = omega (arith, z .sizes .locks-most); inside = omega (arith, room-at InProtection) }
-  laid-at (suc (suc (suc zero))) i = record { some = omega arith; small = small-at g (z .sizes) 3 i; high = omega arith; inside = omega (arith, room-at InHeader) }
-  laid-at (suc (suc (suc (suc zero)))) i = record { some = omega arith; small = small-at g (z .sizes) 4 i; high = omega arith; inside = omega (arith, room-at InHeader) }
-  laid-at (suc (suc (suc (suc (suc k))))) i = absurd (omega arith)
-
-  flash-inside : flashSize g ≤ length bytes
-  unfolding imageSize
-  flash-inside = omega (arith, z .exact)
+flash-inside : {g : Geometry} {h : Header} {bytes : List ℕ} → Sized g h bytes → flashSize g ≤ length bytes
+unfolding imageSize
+flash-inside z = omega (arith, z .exact)
 
 -- how far the loop over the sections has come
 pub record Through (text₀ : List ℕ) (w₀ : Position) (g : Geometry) (h : Header) (bytes text : List ℕ) (w : Position) (k : ℕ) : Type 0 where
@@ -103,7 +77,7 @@ overall-lines [] = refl
 overall-lines (s ∷ ss) = let e = overall-lines ss in omega arith
 
 pub text-lines : (g : Geometry) → textLength g ≡ 13 + overall linesLength (sectionsOf g)
-unfolding textLength
+unfolding writtenLength
 text-lines g = omega (arith, overall-lines (sectionsOf g))
 
 overall-turn : (f : Section → ℕ) (ss : List Section) (k : ℕ) (d : Section) → k < length ss → overall f (drop k ss) ≡ f (getD ss k d) + overall f (drop (k + 1) ss)
@@ -129,7 +103,7 @@ measure-start g z = record { sizes = z; within = omega arith; small = omega arit
 module _ {g : Geometry} {sum k : ℕ} (v : Measuring g sum k) where
   module _ (some : k < 5) (s : Section) (is : s ≡ getD (sectionsOf g) k noSection) where
     pub measure-small : s .size ≤ 33554432
-    measure-small = omega (arith, small-at g (v .sizes) k some, ap (λ (x : Section). x .size) is)
+    measure-small = omega (arith, roomy-at g (v .sizes) k .end, ap (λ (x : Section). x .size) is)
 
     pub measure-turn : (n : ℕ) → n ≡ linesLength s → n ≤ 100000000 → Measuring g (sum + n) (k + 1)
     measure-turn n e l = record {
@@ -151,7 +125,7 @@ module _ (text : List ℕ) (g : Geometry) (h : Header) (bytes : List ℕ) where
   begin = record { at = 17; upper = 0 }
 
   pub text-room : length (textOf g h bytes) ≡ positionAfter begin all .at + 13
-  unfolding textOf writtenText positionAfter
+  unfolding writtenText positionAfter
   text-room =
       omega (
         arith,
@@ -170,7 +144,7 @@ module _ (text : List ℕ) (g : Geometry) (h : Header) (bytes : List ℕ) where
       → t₂ ≡ sets t₁ 17 (linesFrom 0 all)
       → t₃ ≡ sets t₂ (w .at) endLine
       → t₃ ≡ sets text 0 (textOf g h bytes)
-  unfolding textOf writtenText positionAfter
+  unfolding writtenText positionAfter
   text-put t₁ t₂ t₃ w e₁ ew e₂ e₃ =
       let n : 0 + length (extendedLine 0) ≡ 17 = omega (arith, lines.extended-length 0) in
       sym

@@ -1,55 +1,18 @@
--- What writing a text gives: document 01, 'Who brings a number about'. Assumes nothing.
-use mathlib.Core.Bool.{cond}
-use mathlib.Core.List.{List, _∷_, _++_}
+-- What writing an Intel hex text gives: text's specs/Writing.antt, for this format. Assumes nothing.
+use mathlib.Core.List.{List}
 use Prim.Native.Nat.{ℕ}
-use lib.Dec.{eqb, leb}
-use lib.ListN.{length, drop}
-use Rattle.hex.specs.Written.{textOf, textLength}
-use Rattle.hex_writer.specs.declared.WriteAnswer.{WriteAnswer}
-use Rattle.image.specs.Checks.{contentChecks}
-use Rattle.image.specs.Refusals.{Check, _unless_, firstRefusal}
+use Rattle.hex.specs.HexFormat.{hexFormat}
 use Rattle.image.specs.declared.Header.{Header}
-use Rattle.parts.specs.Parts.{lookupOf}
-use Rattle.parts.specs.Sizes.{imageSize}
-use Rattle.parts.specs.declared.Geometry.{Geometry}
-use Rattle.parts.specs.declared.Lookup.{Lookup}
-use Rattle.parts.specs.declared.Lookup.the-variants.{Found, Refused}
-
--- how a writing ends
-pub data Writing : Type 0 where
-  -- 'Other refusals write nothing'
-  Unwritten : (number : ℕ) → Writing
-  Written : (text : List ℕ) → Writing
-
--- 'Writing and starting check 11, 12, 6 to 10'; 12 is 'an image lent for reading not of exact size', then 'the buffer to be written under size'
-abbrev pub writeChecks : Geometry → Header → (bytes : List ℕ) (room : ℕ) → List Check
-writeChecks g h bytes room =
-    12 unless eqb (length bytes) (imageSize g) ∷ 12 unless leb (textLength g) room ∷ contentChecks g h bytes
-
-abbrev pub unlessRefused : (number : ℕ) (text : List ℕ) → Writing
-unlessRefused n text = cond (eqb n 0) (Written text) (Unwritten n)
-
-abbrev pub writeFor : Lookup → Header → (bytes : List ℕ) (room : ℕ) → Writing
-writeFor (Refused n) h bytes room = Unwritten n
-writeFor (Found g) h bytes room = unlessRefused (firstRefusal (writeChecks g h bytes room)) (textOf g h bytes)
+use Rattle.text.specs.Writing.{Writing, writingIn, writeIn, textAfterIn}
+use Rattle.text.specs.declared.WriteAnswer.{WriteAnswer}
 
 -- an image's header and bytes, written into a buffer of `room` bytes
 abbrev pub writing : Header → (bytes : List ℕ) (room : ℕ) → Writing
-writing h bytes room = writeFor (lookupOf (h .part) (h .macros)) h bytes room
-
--- 'A record, session or length given with a refusal is all 0.'
-abbrev pub answerTo : Writing → WriteAnswer
-answerTo (Unwritten n) = record { number = n; length = 0 }
-answerTo (Written text) = record { number = 0; length = length text }
-
--- 'bytes past them, or past a written text, never alter'
-abbrev pub leftBy : Writing → (buffer : List ℕ) → List ℕ
-leftBy (Unwritten n) buffer = buffer
-leftBy (Written text) buffer = text ++ drop (length text) buffer
+writing h bytes room = writingIn hexFormat h bytes room
 
 -- the answer, and the buffer at the end
 abbrev pub writeOf : Header → (bytes buffer : List ℕ) → WriteAnswer
-writeOf h bytes buffer = answerTo (writing h bytes (length buffer))
+writeOf h bytes buffer = writeIn hexFormat h bytes buffer
 
 abbrev pub textAfter : Header → (bytes buffer : List ℕ) → List ℕ
-textAfter h bytes buffer = leftBy (writing h bytes (length buffer)) buffer
+textAfter h bytes buffer = textAfterIn hexFormat h bytes buffer

@@ -6,29 +6,23 @@ ghost use lib.ListN.{length};
 ghost use lib.Seq.{sets};
 ghost use Rattle.lent.specs.Words.{total};
 ghost use Rattle.text.specs.Digits.{capital as capitalOf, pairsOf};
-ghost use Rattle.hex.specs.Steps.{TableSizes};
 ghost use Rattle.hex.specs.Written.{lineText, dataLine, extendedLine, endLine, newUpper, linesFrom, textOf, textLength};
 ghost use Rattle.hex_writer.specs.Lines.{capitalsFrom, onePiece, positionAfter};
-ghost use Rattle.hex_writer.specs.Sized.{Sized, Laid, piecesOf};
 ghost use Rattle.hex_writer.specs.Writing.{writeOf, textAfter};
 ghost use Rattle.sections.specs.Sections.{sectionsOf, headerBytes, locationBytes, sectionBytes};
 ghost use Rattle.parts.specs.Parts.{lookupOf};
 ghost use Rattle.parts.specs.Sizes.{flashSize};
 ghost use Rattle.parts.specs.declared.Lookup.the-variants.{Found};
 ghost use Rattle.text.specs.Placing.{cut, pieces};
+ghost use Rattle.text.specs.Sized.{TableSizes, Sized, Laid, piecesOf};
 use image::Header;
 use parts::Geometry;
 use parts::Lookup;
 use sections::Location;
 use sections::Section;
+use text::WriteAnswer;
 
 mod table;
-
-// What writing gives: 0 and the text's length, or a refusal's number and 0.
-pub struct WriteAnswer {
-    pub number: u8,
-    pub length: usize,
-}
 
 // How far the text has come: the next place, and the upper half of the last address.
 struct Position {

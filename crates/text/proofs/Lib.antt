@@ -7,3 +7,17 @@ pub mod Settling
 pub mod Placing
 pub mod Pieces
 pub mod Capitals
+pub mod Entries
+pub mod Sizes
+pub mod Telling
+pub mod Laid
+pub mod Lending
+pub mod Scans
+pub mod Readings
+pub mod Formats
+pub mod LineFormats
+pub mod Taken
+pub mod Written
+pub mod Answers
+pub mod RoundTrip
+pub mod Claims

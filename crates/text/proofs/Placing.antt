@@ -7,8 +7,8 @@ use native.Mathlib.Nat.{le-refl}
 use native.Mathlib.Omega.{arith}
 use borrow.Author.Tests.{eqb-true, leb-true}
 use lib.Dec.{eqb, leb}
-use lib.ListN.{length, take, drop, length-append, length-drop}
-use lib.Seq.{sets, sets-eq, drop-length, take-at, drop-at, take-append-add, drop-append-add, length-take-le}
+use lib.ListN.{length, take, drop, replicate, length-append, length-drop}
+use lib.Seq.{sets, sets-eq, length-sets, drop-length, take-at, drop-at, drop-drop, take-append-add, drop-append-add, length-take-le}
 use Rattle.sections.proofs.Sections.{locationSize}
 use Rattle.sections.specs.Sections.{sectionsOf}
 use Rattle.sections.specs.declared.Location.{Location}
@@ -202,6 +202,22 @@ module _ (g : Geometry) (stream : List ℕ) (all : length stream ≡ overall siz
   pub image-length : length (imageIn g stream) ≡ imageSize g
   unfolding gathered imageSize r₁ r₂
   image-length = let a = flash-length in let b = protection-length in simp (length-append, append-nil) (omega arith)
+
+  pub header-length : length (gathered InHeader (sectionsOf g) stream) ≡ 15
+  unfolding laid
+  header-length = ap length (sym (laid-in InHeader (replicate 15 0) refl)) ∙ simp length-sets
+
+  -- the metadata are the 12 bytes before the last, whatever the geometry
+  pub metadata-at : take 12 (drop 2 (gathered InHeader (sectionsOf g) stream)) ≡ take 12 (drop (imageSize g + 2) stream)
+  unfolding gathered imageSize r₁ r₂ r₃ r₄
+  metadata-at =
+      let z = sizes in
+      let e : flashSize g + 2 + lockTotal g ≡ flashSize g + lockTotal g + 2 = omega arith in
+      ap (take 12) (drop-at (take 2 r₁) (take 12 r₃ ++ (take 1 r₄ ++ [])) 2 (length-take-le 2 r₁ (omega (arith, z .0))))
+      ∙ take-at (take 12 r₃) (take 1 r₄ ++ []) 12 (length-take-le 12 r₃ (omega (arith, z .2)))
+      ∙ ap (λ (l : List ℕ). take 12 (drop (lockTotal g) l)) (drop-drop 2 (flashSize g) stream)
+      ∙ ap (take 12) (drop-drop (lockTotal g) (flashSize g + 2) stream)
+      ∙ ap (λ (k : ℕ). take 12 (drop k stream)) e
 
 -- Whatever follows records that are in place is 5.
 pub placing-followed : (es : List Event) (ds : List Section) (g : List ℕ) (f : Event) (fs : List Event) → placing ds es ≡ Stream g → placing ds (es ++ (f ∷ fs)) ≡ Refusal 5

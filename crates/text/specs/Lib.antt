@@ -2,5 +2,10 @@ pub mod Digits
 pub mod Lines
 pub mod Placing
 pub mod Reading
+pub mod Formats
+pub mod Writing
+pub mod Claims
+pub mod Sized
 pub mod Spelling
 pub mod Storing
+pub mod Scanning

@@ -11,6 +11,7 @@ ghost use Rattle.text.specs.Spelling.{digitsFrom, front, pairsAt, pairRu
 ghost use Rattle.text.specs.Reading.{answerOf, bufferAfter};
 ghost use Rattle.text.specs.Storing.{storedAt, cleared, settled};
 use image::Header;
+use sections::Section;
 
 mod table;
 
@@ -24,6 +25,24 @@ pub struct PairRun {
 pub struct ReadAnswer {
     pub number: u8,
     pub header: Header,
+}
+
+// What writing gives: 0 and the text's length, or a refusal's number and 0.
+pub struct WriteAnswer {
+    pub number: u8,
+    pub length: usize,
+}
+
+// The section that is due, and the number of the one after it.
+pub struct Due {
+    pub section: Section,
+    pub next: usize,
+}
+
+// What a text's records come to: 1 to 5, or each byte of each section in its place.
+pub enum Scanned {
+    Bad(u8),
+    Whole,
 }
 
 // The value of a hex digit, by the table.

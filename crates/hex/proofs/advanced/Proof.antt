@@ -1,5 +1,5 @@
 -- The section is complete, or its rest. Assumes nothing.
-use Rattle.hex.proofs.Scans.{advanced-next, advanced-rest}
+use Rattle.text.proofs.Scans.{advanced-next, advanced-rest}
 use borrow.Author.Needs.{needs}
 use Rattle.hex.proofs.advanced.Statement.{statement}
 use Rattle.hex.proofs.advanced.Tie as tie

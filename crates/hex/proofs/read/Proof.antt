@@ -2,7 +2,8 @@
 use native.Mathlib.Omega.{arith}
 use mathlib.Core.Path.{sym, _∙_}
 use lib.Seq.{length-take-le}
-use Rattle.hex.proofs.Readings.{no-part, no-room, in-room}
+use Rattle.hex.specs.HexFormat.{hexFormat}
+use Rattle.text.proofs.Readings.{no-part, no-room, in-room}
 use borrow.Author.Needs.{needs}
 use Rattle.hex.proofs.read.Statement.{statement}
 use Rattle.hex.proofs.read.Tie as tie
@@ -11,7 +12,7 @@ returns : tie.Need-returns
 returns c =
     let a = c .before .before .before .before .before .before .before .before .before .args in
     let e = sym (c .before .before .before .before .before .before .find .ensures) ∙ c .before .before .before .before .found2 .given .1 in
-    no-room (a .part) (a .macros) (a .text .now) (a .buffer .now) _ e _ (omega arith) (c .refusal2 .ensures)
+    no-room hexFormat (a .part) (a .macros) (a .text .now) (a .buffer .now) _ e _ (omega arith) (c .refusal2 .ensures)
 
 read-image-requires : tie.Need-read-image-requires
 read-image-requires c κs =
@@ -22,7 +23,7 @@ returns-2 : tie.Need-returns-2
 returns-2 c =
     let a = c .before .before .before .before .before .before .before .args in
     let e = sym (c .before .before .before .before .find .ensures) ∙ c .before .before .found .given .1 in
-    no-part (a .part) (a .macros) (a .text .now) (a .buffer .now) _ _ e (c .refusal .ensures)
+    no-part hexFormat (a .part) (a .macros) (a .text .now) (a .buffer .now) _ _ e (c .refusal .ensures)
 
 returns-3 : tie.Need-returns-3
 returns-3 c =
@@ -30,7 +31,7 @@ returns-3 c =
     let e = sym (c .before .before .before .before .before .before .before .before .before .find .ensures) ∙ c .before .before .before .before .before .before .before .found2 .given .1 in
     let z = c .before .before .before .before .before .image-size .ensures in
     let r = c .before .before .read-image .ensures in
-    in-room (a .part) (a .macros) (a .text .now) (a .buffer .now) _ e _ _ _ z (omega arith) (r .0) (r .1)
+    in-room hexFormat (a .part) (a .macros) (a .text .now) (a .buffer .now) _ e _ _ _ z (omega arith) (r .0) (r .1)
 
 pub read-spec : {M : Type 1} → statement M
 read-spec =

@@ -1,7 +1,8 @@
 -- Refused and zeroed, or settled. Assumes nothing.
 use mathlib.Core.Path.{refl}
-use Rattle.hex.proofs.Readings.{refused, whole}
-use Rattle.hex.proofs.Sizes.{sized}
+use Rattle.hex.specs.HexFormat.{hexFormat}
+use Rattle.text.proofs.Readings.{refused, whole}
+use Rattle.text.proofs.Sizes.{sized}
 use borrow.Author.Needs.{needs}
 use Rattle.hex.proofs.read_image.Statement.{statement}
 use Rattle.hex.proofs.read_image.Tie as tie
@@ -17,7 +18,7 @@ returns c =
     let a = c .before .before .before .before .before .before .before .before .before .before .before .before .before .before .before .before .args in
     let p = c .before .before .before .before .before .before .before .before .before .before .before .before .before .before .before .before .pre in
     let s = c .before .before .before .before .before .before .before .before .before .before .before .scan in
-    refused (a .g) (a .part) (a .macros) (a .text .now) (a .image .now) (p .1) _ _ _ _ _ _ (s .ensures) (c .before .before .before .before .before .before .scanned .given .1) (s .kept .1 .1 .0) (c .refusal .ensures) (c .before .before .before .clear .ensures)
+    refused hexFormat (a .g) (a .part) (a .macros) (a .text .now) (a .image .now) (p .1) _ _ _ _ _ _ (s .ensures) (c .before .before .before .before .before .before .scanned .given .1) (s .kept .1 .1 .0) (c .refusal .ensures) (c .before .before .before .clear .ensures)
 
 returns-2 : tie.Need-returns-2
 returns-2 c =
@@ -25,7 +26,7 @@ returns-2 c =
     let p = c .before .before .before .before .before .before .before .before .before .before .before .before .before .before .pre in
     let s = c .before .before .before .before .before .before .before .before .before .scan in
     let t = c .before .before .settle .ensures in
-    whole (a .g) (a .part) (a .macros) (a .text .now) (a .image .now) (p .1) _ _ _ _ _ (s .ensures) (c .before .before .before .before .enum-told .given .1) (s .kept .1 .1 .0) (t .0) (t .1)
+    whole hexFormat (a .g) (a .part) (a .macros) (a .text .now) (a .image .now) (p .1) _ _ _ _ _ (s .ensures) (c .before .before .before .before .enum-told .given .1) (s .kept .1 .1 .0) (t .0) (t .1)
 
 pub read-image-spec : {M : Type 1} → statement M
 read-image-spec =

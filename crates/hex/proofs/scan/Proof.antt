@@ -4,7 +4,8 @@ use borrow.Author.Needs.{needs}
 use mathlib.Core.Path.{_≡_, refl, sym, _∙_}
 use Prim.Native.Nat.{_-_}
 use lib.ListN.{length}
-use Rattle.hex.proofs.Scans.{Here, here-start, here-stop, here-done, here-moved, moved-less, store-bounds, store-asks, here-flash, here-store}
+use Rattle.hex.proofs.Scans.{Here, here-start, here-stop, here-done, here-moved, moved-less, store-bounds, store-asks, here-store}
+use Rattle.text.proofs.Scans.{here-flash}
 use Rattle.hex.proofs.scan.Statement.{statement}
 use Rattle.hex.proofs.scan.Tie as tie
 
@@ -52,7 +53,7 @@ slice-aggregate-store-payload c =
 store-payload-requires : tie.Need-store-payload-requires Inv-loop μ-loop
 store-payload-requires c κs =
     let o = c .before .before .before .before .before .before .before .before .before .before in
-    here-flash (o .before .before .before .before .before .pre) (o .loop .inv .0)
+    here-flash _ _ _ _ _ (o .before .before .before .before .before .pre) (o .loop .inv .0 .there)
 
 advanced-requires : tie.Need-advanced-requires Inv-loop μ-loop
 advanced-requires c κs =
@@ -91,12 +92,12 @@ scan-spec =
     (λ c. sym (c .before .before .loop .inv .1))
     (λ c κs. let l = c .before .before .loop in (l .inv .0 .at-le, l .inv .0 .upper-lt, l .inv .1))
     (λ c. c .match .keys1)
-    (λ c. let t = c .before .before .before .before in t .before .before .before .loop .inv .0 .image-kept)
-    (λ c. let t = c .before .before .before .before in t .before .before .before .loop .inv .0 .header-kept)
+    (λ c. let t = c .before .before .before .before in t .before .before .before .loop .inv .0 .there .image-kept)
+    (λ c. let t = c .before .before .before .before in t .before .before .before .loop .inv .0 .there .header-kept)
     returns
     (λ c. c .match .keys2)
-    (λ c. let t = c .before .before .before in t .before .before .before .loop .inv .0 .image-kept)
-    (λ c. let t = c .before .before .before in t .before .before .before .loop .inv .0 .header-kept)
+    (λ c. let t = c .before .before .before in t .before .before .before .loop .inv .0 .there .image-kept)
+    (λ c. let t = c .before .before .before in t .before .before .before .loop .inv .0 .there .header-kept)
     returns-2
     (λ c. c .match .keys3)
     loop-less

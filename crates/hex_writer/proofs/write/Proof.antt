@@ -1,7 +1,8 @@
 -- The look-up decides. Assumes nothing.
 use mathlib.Core.Path.{sym, _∙_}
 use borrow.Author.Needs.{needs}
-use Rattle.hex_writer.proofs.Answers.{unknown}
+use Rattle.hex.specs.HexFormat.{hexFormat}
+use Rattle.text.proofs.Answers.{unknown}
 use Rattle.hex_writer.proofs.write.Statement.{statement}
 use Rattle.hex_writer.proofs.write.Tie as tie
 
@@ -11,7 +12,7 @@ write-found-requires c κs = sym (c .before .before .before .before .find .ensur
 returns : tie.Need-returns
 returns c =
     let a = c .before .before .before .before .before .before .before .args in
-    let u = unknown (a .header) (a .bytes .now) (a .text .now) _ (sym (c .before .before .before .before .find .ensures) ∙ c .before .before .found .given .1) in
+    let u = unknown hexFormat (a .header) (a .bytes .now) (a .text .now) _ (sym (c .before .before .before .before .find .ensures) ∙ c .before .before .found .given .1) in
     (c .refusal .ensures ∙ u .0, u .1)
 
 pub write-spec : {M : Type 1} → statement M

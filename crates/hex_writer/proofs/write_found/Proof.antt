@@ -3,31 +3,32 @@ use mathlib.Core.Path.{sym, _∙_}
 use Prim.Native.Nat.{ℕ}
 use native.Mathlib.Omega.{arith}
 use borrow.Author.Needs.{needs, length-unmapped}
-use Rattle.hex_writer.specs.Sized.{Sized}
-use Rattle.hex_writer.proofs.Answers.{wrong-size, no-room, faulty, done}
+use Rattle.hex.specs.HexFormat.{hexFormat}
 use Rattle.hex_writer.proofs.Lengths.{text-length}
-use Rattle.hex.proofs.Sizes.{sized}
+use Rattle.text.proofs.Answers.{wrong-size, no-room, faulty, done}
+use Rattle.text.proofs.Sizes.{sized}
+use Rattle.text.specs.Sized.{Sized}
 use Rattle.hex_writer.proofs.write_found.Statement.{statement}
 use Rattle.hex_writer.proofs.write_found.Tie as tie
 
 returns : tie.Need-returns
 returns c =
     let s = c .before .before .before .before .before in
-    let u = wrong-size (s .args .h) (s .args .bytes .now) (s .args .text .now) (s .args .g) (s .pre) (λ e. c .before .if1 .taken (e ∙ sym (c .before .before .image-size .ensures))) in
+    let u = wrong-size hexFormat (s .args .h) (s .args .bytes .now) (s .args .text .now) (s .args .g) (s .pre) (λ e. c .before .if1 .taken (e ∙ sym (c .before .before .image-size .ensures))) in
     (c .refusal .ensures ∙ u .0, u .1)
 
 returns-2 : tie.Need-returns-2
 returns-2 c =
     let b = c .before .before .before in
     let s = b .before .before .before .before in
-    let u = no-room (s .args .h) (s .args .bytes .now) (s .args .text .now) (s .args .g) (s .pre) (b .if1 .left ∙ b .before .image-size .ensures) (omega (arith, c .before .if2 .taken, c .before .before .text-length .ensures)) in
+    let u = no-room hexFormat (s .args .h) (s .args .bytes .now) (s .args .text .now) (s .args .g) (s .pre) (b .if1 .left ∙ b .before .image-size .ensures) (omega (arith, c .before .if2 .taken, c .before .before .text-length .ensures)) in
     (c .refusal2 .ensures ∙ u .0, u .1)
 
 returns-3 : tie.Need-returns-3
 returns-3 c =
     let b = c .before .before .before .before .before in
     let s = b .before .before .before .before in
-    let u = faulty (s .args .h) (s .args .bytes .now) (s .args .text .now) (s .args .g) (s .pre) (b .if1 .left ∙ b .before .image-size .ensures) (omega (arith, c .before .before .before .if2 .left, c .before .before .before .before .text-length .ensures)) _ (c .before .before .check .ensures) (c .before .if3 .taken) in
+    let u = faulty hexFormat (s .args .h) (s .args .bytes .now) (s .args .text .now) (s .args .g) (s .pre) (b .if1 .left ∙ b .before .image-size .ensures) (omega (arith, c .before .before .before .if2 .left, c .before .before .before .before .text-length .ensures)) _ (c .before .before .check .ensures) (c .before .if3 .taken) in
     (c .refusal3 .ensures ∙ u .0, u .1)
 
 put-text-requires : tie.Need-put-text-requires
@@ -51,7 +52,7 @@ returns-4 c =
       metadata = length-unmapped ℕ (s .args .h .metadata) 12 (s .good .1 .1 .0 .1 .1 .1 .1 .1 .0 .1 .0 .1);
       exact = b .if1 .left ∙ b .before .image-size .ensures;
     } in
-    done (s .args .h) (s .args .bytes .now) (s .args .text .now) (s .args .g) (s .pre) (z .exact) (omega (arith, c .before .before .before .before .before .before .if2 .left, n)) _ _
+    done hexFormat (s .args .h) (s .args .bytes .now) (s .args .text .now) (s .args .g) (s .pre) (z .exact) (omega (arith, c .before .before .before .before .before .before .if2 .left, n)) _ _
     (sym (c .before .before .before .before .before .check .ensures) ∙ c .before .before .before .before .if3 .left)
     (n ∙ sym (text-length z))
     (omega (arith, text-length z, n, c .before .before .before .before .before .before .if2 .left))

@@ -1,21 +1,13 @@
--- A written text reads back. Assumes nothing.
+-- A written text reads back, in every format that has the laws of writing. Assumes nothing.
 use mathlib.Core.Bool.{Bool, cond}
 use mathlib.Core.List.{List, [], _∷_, _++_, append-nil}
-use mathlib.Core.Path.{_≡_, refl, sym, ap, _∙_}
+use mathlib.Core.Path.{_≡_, sym, ap, _∙_}
 use Prim.Native.Nat.{ℕ, _+_, _*_, _/_, _%_, _≤_, _<_}
 use native.Mathlib.Omega.{arith}
 use borrow.Author.Tests.{le-leb}
-use lib.ListN.{length, getD, take, drop, length-append, length-drop, take-append-drop}
+use lib.ListN.{length, getD, take, drop, length-drop, take-append-drop}
 use lib.Seq.{take-all, take-at, getD-at, drop-drop}
-use Rattle.hex.specs.Claims.{Takes}
-use Rattle.hex.specs.Texts.{contentOf}
-use Rattle.hex.specs.Written.{textOf}
-use Rattle.hex_writer.specs.Claims.{Typed}
-use Rattle.hex_writer.specs.Sized.{Sized}
-use Rattle.hex_writer.proofs.Lengths.{size-at}
-use Rattle.hex_writer.proofs.ReadBack.{AllFitRecords, fits-append, cut-fits, text-says}
-use Rattle.hex.proofs.Sizes as table
-use Rattle.sections.proofs.Sections.{headerWith, location-length}
+use Rattle.sections.proofs.Sections.{headerWith}
 use Rattle.image.specs.Checks.{imageFault}
 use Rattle.image.specs.Image.{flashIn, protectionIn}
 use Rattle.sections.specs.Sections.{sectionsOf, noSection, sectionBytes, locationBytes, headerBytes, headerOf}
@@ -28,23 +20,16 @@ use Rattle.parts.specs.Sizes.{flashSize, lockTotal, imageSize}
 use Rattle.parts.specs.declared.Geometry.{Geometry}
 use Rattle.parts.specs.declared.Lookup.{Lookup}
 use Rattle.parts.specs.declared.Lookup.the-variants.{Found}
 use Rattle.text.proofs.Capitals.{AllBytes, bytes-all, bytes-append, bytes-take, bytes-drop}
+use Rattle.text.proofs.Formats.{WritingLaws, Aligned, pieces-fit}
+use Rattle.text.proofs.Laid.{all-filled, header-size, room-at}
 use Rattle.text.proofs.Pieces.{Filled, joined, placed, gathered-joined}
-use Rattle.text.specs.Placing.{Stream, pieces, piecesIn, cut, gathered}
+use Rattle.text.proofs.Sizes as table
+use Rattle.text.specs.Claims.{Takes, Typed}
+use Rattle.text.specs.Formats.{Format, contentIn, textIn}
+use Rattle.text.specs.Placing.{Stream, pieces, gathered}
 use Rattle.text.specs.Reading.{Untouched, imageIn, judged, readFor}
-
--- sections whose pieces are neat
-abbrev Aligned : (Section → List ℕ) → List Section → Type 0
-Aligned f [] = Unit {0}
-Aligned f (s ∷ ss) = (s .address % 64 ≡ 0) × (s .address + s .size ≤ 4294967296) × AllBytes (f s) × Aligned f ss
-
-pieces-fit : (f : Section → List ℕ) (ss : List Section) → Filled f ss → Aligned f ss → AllFitRecords (pieces f ss)
-unfolding pieces
-pieces-fit f [] fill aligned = tt
-pieces-fit f (s ∷ ss) fill aligned =
-    fits-append (cut (piecesIn s) (s .address) (f s)) (pieces f ss)
-    (cut-fits (piecesIn s) (s .address) (s .size) (f s) (fill .1) (fill .0) refl (aligned .0) (aligned .1) (aligned .2))
-    (pieces-fit f ss (fill .2) (aligned .3))
+use Rattle.text.specs.Sized.{Sized}
 
 -- what a header says of itself makes it again
 module _ (h : Header) (sum : h .sum < 65536) (twelve : length (h .metadata) ≡ 12) where
@@ -74,20 +59,7 @@ module _ {g : Geometry} {h : Header} {bytes : List ℕ} (found : lookupOf (h .pa
   f = sectionBytes g h bytes
 
   filled : Filled f (sectionsOf g)
-  filled =
-      let a = sized .sizes .flash-some in
-      let b = sized .sizes .locks-some in (
-        a,
-        size-at sized 0 (omega arith),
-        (
-          omega arith,
-          size-at sized 1 (omega arith),
-          (b, size-at sized 2 (omega arith), (omega arith, size-at sized 3 (omega arith), (omega arith, size-at sized 4 (omega arith), tt))),
-        ),
-      )
-
-  header-length : length (headerBytes h) ≡ 15
-  header-length = omega (arith, length-append (h .metadata) (h .level ∷ []), t .metadata)
+  filled = all-filled sized
 
   header-bytes : AllBytes (headerBytes h)
   header-bytes =
@@ -122,17 +94,11 @@ module _ {g : Geometry} {h : Header} {bytes : List ℕ} (found : lookupOf (h .pa
         ),
       )
 
-  content : contentOf (textOf g h bytes) (sectionsOf g) ≡ Stream (joined f (sectionsOf g))
-  unfolding textOf
-  content = placed f (sectionsOf g) _ filled (text-says (pieces f (sectionsOf g)) (pieces-fit f (sectionsOf g) filled aligned))
-
   flash-is : gathered InFlash (sectionsOf g) (joined f (sectionsOf g)) ≡ flashIn g bytes
-  flash-is = gathered-joined InFlash f (sectionsOf g) filled ∙ one-part (flashIn g bytes) (flashSize g) (location-length g bytes (headerBytes h) InFlash exact header-length)
+  flash-is = gathered-joined InFlash f (sectionsOf g) filled ∙ one-part (flashIn g bytes) (flashSize g) (room-at sized InFlash)
 
   protection-is : gathered InProtection (sectionsOf g) (joined f (sectionsOf g)) ≡ protectionIn g bytes
-  protection-is =
-      gathered-joined InProtection f (sectionsOf g) filled
-      ∙ one-part (protectionIn g bytes) (lockTotal g) (location-length g bytes (headerBytes h) InProtection exact header-length)
+  protection-is = gathered-joined InProtection f (sectionsOf g) filled ∙ one-part (protectionIn g bytes) (lockTotal g) (room-at sized InProtection)
 
   image-is : imageIn g (joined f (sectionsOf g)) ≡ bytes
   image-is = rw (flash-is, protection-is) (take-append-drop (flashSize g) bytes)
@@ -140,11 +106,15 @@ module _ {g : Geometry} {h : Header} {bytes : List ℕ} (found : lookupOf (h .pa
   header-is : gathered InHeader (sectionsOf g) (joined f (sectionsOf g)) ≡ headerBytes h
   header-is =
       gathered-joined InHeader f (sectionsOf g) filled
-      ∙ three-parts (headerBytes h) header-length
+      ∙ three-parts (headerBytes h) (header-size sized)
 
-  pub reads-back : (room : ℕ) → imageFault h bytes ≡ 0 → length bytes ≤ room → Takes (h .part) (h .macros) (textOf g h bytes) room h bytes
-  reads-back room none fits =
-      ap (λ (l : Lookup). readFor l (h .part) (h .macros) room (contentOf (textOf g h bytes))) found
-      ∙ ap (λ (b : Bool). cond b (judged g (h .part) (h .macros) (contentOf (textOf g h bytes) (sectionsOf g))) (Untouched 12)) (le-leb (imageSize g) room (omega arith))
-      ∙ ap (judged g (h .part) (h .macros)) content
-      ∙ rw (header-is, image-is, header-again h (t .sum) (t .metadata), none)
+  module _ (F : Format) (laws : WritingLaws F) where
+    content : contentIn F (textIn F g h bytes) (sectionsOf g) ≡ Stream (joined f (sectionsOf g))
+    content = placed f (sectionsOf g) _ filled (laws .says (pieces f (sectionsOf g)) (pieces-fit f (sectionsOf g) filled aligned))
+
+    pub reads-back : (room : ℕ) → imageFault h bytes ≡ 0 → length bytes ≤ room → Takes F (h .part) (h .macros) (textIn F g h bytes) room h bytes
+    reads-back room none fits =
+        ap (λ (l : Lookup). readFor l (h .part) (h .macros) room (contentIn F (textIn F g h bytes))) found
+        ∙ ap (λ (b : Bool). cond b (judged g (h .part) (h .macros) (contentIn F (textIn F g h bytes) (sectionsOf g))) (Untouched 12)) (le-leb (imageSize g) room (omega arith))
+        ∙ ap (judged g (h .part) (h .macros)) content
+        ∙ rw (header-is, image-is, header-again h (t .sum) (t .metadata), none)

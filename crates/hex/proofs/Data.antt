@@ -1,25 +1,20 @@
--- The data of a text are bytes. Assumes nothing.
+-- The payload of a line is bytes. Assumes nothing.
 use mathlib.Core.Bool.{Bool, true, false, _&&_, cond}
 use mathlib.Core.List.{List, [], _∷_}
 use mathlib.Core.Path.{_≡_, refl}
-use Prim.Native.Nat.{ℕ, _+_, _*_, _%_}
+use Prim.Native.Nat.{ℕ, _+_, _%_}
 use lib.Dec.{eqb, leb}
 use lib.ListN.{length, getD, take, drop}
+use Rattle.hex.specs.HexFormat.{payloadOf}
 use Rattle.hex.specs.Records.{Record, BadRecord, DataRecord, ExtendedAddress, EndRecord, highFirst, typed, recordOf, ofSpelt, ofBody, lineRecord}
-use Rattle.hex.specs.Texts.{upperAfter, eventOf, events}
 use Rattle.lent.specs.Words.{total}
-use Rattle.text.proofs.Capitals.{AllBytes, bytes-spelt, bytes-append, bytes-take, bytes-drop}
-use Rattle.text.proofs.Pieces.{dataOf}
+use Rattle.text.proofs.Capitals.{AllBytes, bytes-spelt, bytes-take, bytes-drop}
 use Rattle.text.specs.Digits.{Spelt, Unreadable, Spells, spelt}
 use Rattle.text.specs.Lines.{Line, Ended, Open, withoutCR}
-use Rattle.text.specs.Placing.{Event, Bad, Data}
 
 -- a record whose payload, if it has one, is bytes
 abbrev PayloadBytes : Record → Type 0
-PayloadBytes (BadRecord n) = Unit {0}
-PayloadBytes (DataRecord low bs) = AllBytes bs
-PayloadBytes (ExtendedAddress upper) = Unit {0}
-PayloadBytes EndRecord = Unit {0}
+PayloadBytes r = AllBytes (payloadOf r)
 
 either : (b : Bool) (x y : Record) → PayloadBytes x → PayloadBytes y → PayloadBytes (cond b x y)
 either true x y h k = h
@@ -51,24 +46,7 @@ unfolding ofBody
 payload-body [] = tt
 payload-body (c ∷ s) = either (eqb c 58) (ofSpelt (spelt s)) (BadRecord 1) (payload-spelt s (spelt s) refl) tt
 
-payload-line : (l : Line) → PayloadBytes (lineRecord l)
+pub line-bytes : (l : Line) → AllBytes (payloadOf (lineRecord l))
 unfolding lineRecord
-payload-line (Open l) = tt
-payload-line (Ended l) = payload-body (withoutCR l)
-
--- the data of an event, before those of the events after it
-data-event : (u : ℕ) (r : Record) (es : List Event) → PayloadBytes r → AllBytes (dataOf es) → AllBytes (dataOf (eventOf u r ∷ es))
-unfolding eventOf dataOf
-data-event u (BadRecord n) es f a = a
-data-event u (ExtendedAddress v) es f a = a
-data-event u EndRecord es f a = a
-data-event u (DataRecord low bs) es f a = go (leb (low + length bs) 65536)
-  where
-    go : (b : Bool) → AllBytes (dataOf (cond b (Data (65536 * u + low) bs) (Bad 4) ∷ es))
-    go true = bytes-append bs (dataOf es) f a
-    go false = a
-
-pub data-bytes : (u : ℕ) (ls : List Line) → AllBytes (dataOf (events u ls))
-unfolding events dataOf
-data-bytes u [] = tt
-data-bytes u (l ∷ ls) = data-event u (lineRecord l) (events (upperAfter u (lineRecord l)) ls) (payload-line l) (data-bytes (upperAfter u (lineRecord l)) ls)
+line-bytes (Open l) = tt
+line-bytes (Ended l) = payload-body (withoutCR l)

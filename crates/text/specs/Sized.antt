@@ -1,14 +1,21 @@
--- What the functions that put sections ask for. Assumes nothing.
+-- What the functions that read or write sections ask for: the sizes of an image of a part in the table, and where its sections lie. Assumes
+-- nothing.
+use mathlib.Core.List.{List}
 use mathlib.Core.Path.{_≡_}
 use Prim.Native.Nat.{ℕ, _+_, _≤_, _<_}
-use mathlib.Core.List.{List}
 use lib.ListN.{length, take, drop}
-use Rattle.hex.specs.Steps.{TableSizes}
 use Rattle.image.specs.declared.Header.{Header}
 use Rattle.sections.specs.declared.Section.{Section}
-use Rattle.parts.specs.Sizes.{imageSize}
+use Rattle.parts.specs.Sizes.{flashSize, lockTotal, imageSize}
 use Rattle.parts.specs.declared.Geometry.{Geometry}
 use Rattle.text.specs.Placing.{Piece, cut, piecesIn}
+
+-- the sizes of a part in the table
+pub record TableSizes (g : Geometry) : Type 0 where
+  pub flash-some : 0 < flashSize g
+  pub flash-most : flashSize g ≤ 131072
+  pub locks-some : 0 < lockTotal g
+  pub locks-most : lockTotal g ≤ 128
 
 -- an image of a geometry's sizes
 pub record Sized (g : Geometry) (h : Header) (bytes : List ℕ) : Type 0 where
