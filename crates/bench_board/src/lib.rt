@@ -111,7 +111,7 @@ pub fn meet(
     e: LineEvent,
     o: CallOutcome,
 ) -> Met
-    ensures { λ m. ⌜ metOf (left (now («left_flash» .entry)) (now («left_locks» .entry)) (now («left_latch» .entry))) e o m (lent (now (flash .exit)) (now (locks .exit)) (now (latch .exit)) (now (params .exit))) ≡ Flow.meet g p (listsOf (left (now («left_flash» .entry)) (now («left_locks» .entry)) (now («left_latch» .entry))) e o) (targetOf (left (now («left_flash» .entry)) (now («left_locks» .entry)) (now («left_latch» .entry))) r (lent (now (flash .entry)) (now (locks .entry)) (now (latch .entry)) (now (params .entry)))) ⌝ }
+    ensures met { λ m. ⌜ metOf (left (now («left_flash» .entry)) (now («left_locks» .entry)) (now («left_latch» .entry))) e o m (lent (now (flash .exit)) (now (locks .exit)) (now (latch .exit)) (now (params .exit))) ≡ Flow.meet g p (listsOf (left (now («left_flash» .entry)) (now («left_locks» .entry)) (now («left_latch» .entry))) e o) (targetOf (left (now («left_flash» .entry)) (now («left_locks» .entry)) (now («left_latch» .entry))) r (lent (now (flash .entry)) (now (locks .entry)) (now (latch .entry)) (now (params .entry)))) ⌝ }
 {
     let d = decide(g, r, flash, locks, params, p, e, o);
     let n = d.change;

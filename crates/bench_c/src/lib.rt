@@ -144,7 +144,7 @@ pub extern "C" fn halzuqeen_bench_meet(
     request: &[u8],
     answer: &mut [u8],
 ) -> u32
-    ensures { λ r. ⌜ benched r (benchOf (now (board .exit)) (now (flash .exit)) (now (locks .exit)) (now (latch .exit)) (now (params .exit)) (now (answer .exit))) ≡ meetCall part macros (now (event .entry)) (now (call .entry)) (now (request .entry)) (left (now («left_flash» .entry)) (now («left_locks» .entry)) (now («left_latch» .entry))) (benchOf (now (board .entry)) (now (flash .entry)) (now (locks .entry)) (now (latch .entry)) (now (params .entry)) (now (answer .entry))) ⌝ }
+    ensures met { λ r. ⌜ benched r (benchOf (now (board .exit)) (now (flash .exit)) (now (locks .exit)) (now (latch .exit)) (now (params .exit)) (now (answer .exit))) ≡ meetCall part macros (now (event .entry)) (now (call .entry)) (now (request .entry)) (left (now («left_flash» .entry)) (now («left_locks» .entry)) (now («left_latch» .entry))) (benchOf (now (board .entry)) (now (flash .entry)) (now (locks .entry)) (now (latch .entry)) (now (params .entry)) (now (answer .entry))) ⌝ }
 {
     let asked = asked_of(part, macros, board, event, call, request, answer);
     let Asked::Meets(g, r, p, e, o) = asked else {

@@ -152,7 +152,7 @@ pub fn complete(
     o: CallOutcome,
     c: u8,
 ) -> Change
-    ensures { λ n. ⌜ MakesOf (now (flash .entry)) (now (params .entry)) r n (λ x t. finish g (o .succeeds) (residueOf x o) c t) ⌝ }
+    ensures ended { λ n. ⌜ MakesOf (now (flash .entry)) (now (params .entry)) r n (λ x t. finish g (o .succeeds) (residueOf x o) c t) ⌝ }
 {
     if o.succeeds {
         return succeed(g, r, flash, params, c);
@@ -185,7 +185,7 @@ fn cleared(n: Change) -> Change
 
 // XRES.
 pub fn xres(r: Registers) -> Change
-    ensures { λ n. ⌜ Resets r n ⌝ }
+    ensures reset { λ n. ⌜ Resets r n ⌝ }
 {
     let running = r.running;
     match running {

@@ -18,7 +18,7 @@ fn reply_with(ack: u8, filler: Reply) -> Reply
 
 // A silence: nobody drives the wire.
 pub fn silent_reply(filler: Reply) -> Reply
-    ensures { λ r. ⌜ r ≡ silentReply filler ⌝ }
+    ensures reply { λ r. ⌜ r ≡ silentReply filler ⌝ }
 {
     reply_with(7, filler)
 }
@@ -76,7 +76,7 @@ pub fn reply_to(
     word: u32,
     filler: Reply,
 ) -> Reply
-    ensures { λ r. ⌜ r ≡ replyTo outcome bars reads word filler ⌝ }
+    ensures reply { λ r. ⌜ r ≡ replyTo outcome bars reads word filler ⌝ }
 {
     match outcome {
         TransferOutcome::Clean => if bars {
@@ -98,7 +98,7 @@ pub fn reply_to(
 
 // Whether a transfer of this outcome is carried out.
 pub fn carries_out(outcome: TransferOutcome) -> bool
-    ensures { λ t. ⌜ t ≡ carriedOut outcome ⌝ }
+    ensures carried { λ t. ⌜ t ≡ carriedOut outcome ⌝ }
 {
     match outcome {
         TransferOutcome::Clean => true,

@@ -43,7 +43,7 @@ fn lock_place(g: Geometry, a: usize) -> Place
 
 // What is at an address.
 pub fn place_of(g: Geometry, address: u32) -> Place
-    ensures { λ r. ⌜ r ≡ place g address ⌝ }
+    ensures place { λ r. ⌜ r ≡ place g address ⌝ }
 {
     let p = g.part;
     let a = address as usize;
@@ -102,7 +102,7 @@ fn is_guarded(at: Place) -> bool
 
 // Whether PROTECTED in effect answers FAULT.
 pub fn bars(effect: u8, q: Request, at: Place) -> bool
-    ensures { λ t. ⌜ t ≡ (eqb effect 2 && overDrw q && guarded at) ⌝ }
+    ensures barred { λ t. ⌜ t ≡ (eqb effect 2 && overDrw q && guarded at) ⌝ }
 {
     if effect != 2 {
         return false;
@@ -130,7 +130,7 @@ fn at_sysreq(at: Place) -> bool
 
 // Whether a word written starts a call.
 pub fn is_call(w: u32, at: Place) -> bool
-    ensures { λ t. ⌜ t ≡ (isCall w && isSysreq at) ⌝ }
+    ensures call { λ t. ⌜ t ≡ (isCall w && isSysreq at) ⌝ }
 {
     if 2147483648 <= w {
         return at_sysreq(at);

@@ -38,7 +38,7 @@ fn stores_level(new_level: bool, number: u8, c: u8) -> bool
 
 // The level stored after a call that failed.
 pub fn level_left(sysarg: u32, stored: u8, new_level: bool, c: u8) -> u8
-    ensures { λ l. ⌜ l ≡ cond («new_level» && eqb c 0x0D && eqb (macroSent sysarg) 0) (levelSent sysarg) (stored % 16) ⌝ ∗ ⌜ l < 16 ⌝ }
+    ensures level { λ l. ⌜ l ≡ cond («new_level» && eqb c 0x0D && eqb (macroSent sysarg) 0) (levelSent sysarg) (stored % 16) ⌝ ∗ ⌜ l < 16 ⌝ }
 {
     if stores_level(new_level, macro_sent(sysarg), c) {
         return level_sent(sysarg);
@@ -103,7 +103,8 @@ fn protect(g: Geometry, effect: u8, sysarg: u32, stored: u8) -> Effect
 
 // What a successful call does to the memory.
 pub fn effect_of(g: Geometry, effect: u8, sysarg: u32, stored: u8, params: &[u32], c: u8) -> Effect
-    ensures { λ e. ⌜ Effects g effect sysarg stored (now (params .entry)) c e ⌝ ∗ ⌜ e .stored < 16 ⌝ }
+    ensures effects { λ e. ⌜ Effects g effect sysarg stored (now (params .entry)) c e ⌝ }
+    ensures bounded { λ e. ⌜ e .stored < 16 ⌝ }
 {
     let p = g.part;
     if c == 0x0A {

@@ -38,14 +38,14 @@ pub struct Effect {
 
 // A word of PARAMS, and 0 past its end.
 pub fn word_of(params: &[u32], k: usize) -> u32
-    ensures { λ w. ⌜ w ≡ getD (now (params .entry)) k 0 ⌝ }
+    ensures word { λ w. ⌜ w ≡ getD (now (params .entry)) k 0 ⌝ }
 {
     if k < params.len() { params[k] } else { 0 }
 }
 
 // All bytes together, modulo 2^28.
 pub fn sum_of(bytes: &[u8]) -> u32
-    ensures { λ r. ⌜ r ≡ total (now (bytes .entry)) % 268435456 ⌝ }
+    ensures sum { λ r. ⌜ r ≡ total (now (bytes .entry)) % 268435456 ⌝ }
 {
     let mut sum: u32 = 0;
     let mut place: usize = 0;
@@ -157,7 +157,7 @@ pub fn perform(
     left_locks: &[u8],
     left_latch: &[u8],
 )
-    ensures { λ _. ⌜ lent (now (flash .exit)) (now (locks .exit)) (now (latch .exit)) (now (params .exit)) ≡ buffersAfter (left (now («left_flash» .entry)) (now («left_locks» .entry)) (now («left_latch» .entry))) act (lent (now (flash .entry)) (now (locks .entry)) (now (latch .entry)) (now (params .entry))) ⌝ }
+    ensures buffers { λ _. ⌜ lent (now (flash .exit)) (now (locks .exit)) (now (latch .exit)) (now (params .exit)) ≡ buffersAfter (left (now («left_flash» .entry)) (now («left_locks» .entry)) (now («left_latch» .entry))) act (lent (now (flash .entry)) (now (locks .entry)) (now (latch .entry)) (now (params .entry))) ⌝ }
 {
     match act {
         Act::Keep => {}

@@ -97,7 +97,7 @@ fn write_of(r: u8, w: u32, p: u8) -> Decoded
 
 // The request that a packet is.
 pub fn request_in(p: Packet) -> Decoded
-    ensures { λ d. ⌜ d ≡ decode p ⌝ }
+    ensures request { λ d. ⌜ d ≡ decode p ⌝ }
 {
     match p {
         Packet::Xres => Decoded::Known(Request::Xres),

@@ -43,7 +43,7 @@ fn grown(value: u32, digit: u32, most: u32) -> u32
 
 // The next number of standard input, with the byte after it; at most `most`.
 pub fn read_number(most: u32) -> Number
-    ensures { λ r. ⌜ r .value ≤ most ⌝ }
+    ensures bounded { λ r. ⌜ r .value ≤ most ⌝ }
 {
     let mut value: u32 = 0;
     let mut left: u32 = 20;
@@ -77,14 +77,14 @@ fn scaled(x: u64) -> u64
 
 // The digest after a byte more.
 pub fn mixed(h: u64, b: u8) -> u64
-    ensures { λ r. ⌜ r ≡ fnvStep h b ⌝ }
+    ensures mixed { λ r. ⌜ r ≡ fnvStep h b ⌝ }
 {
     scaled(h ^ (b as u64))
 }
 
 // The FNV-1a digest of bytes.
 pub fn digest(bytes: &[u8]) -> u64
-    ensures { λ r. ⌜ r ≡ fnv (now (bytes .entry)) ⌝ }
+    ensures digest { λ r. ⌜ r ≡ fnv (now (bytes .entry)) ⌝ }
 {
     let mut h: u64 = 14695981039346656037;
     let mut i: usize = 0;

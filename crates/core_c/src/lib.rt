@@ -99,9 +99,9 @@ pub extern "C" fn halzuqeen_step(
     parity: u8,
     outcome: &mut [u8],
 ) -> u32
-    ensures { λ r. ⌜ r ≡ stepCall (now (session .entry)) (now (image .entry)) (answerIn «reset_done» ack word parity) (now (outcome .entry)) .number ⌝ }
-    ensures { λ _. ⌜ now (session .exit) ≡ stepCall (now (session .entry)) (now (image .entry)) (answerIn «reset_done» ack word parity) (now (outcome .entry)) .first ⌝ }
-    ensures { λ _. ⌜ now (outcome .exit) ≡ stepCall (now (session .entry)) (now (image .entry)) (answerIn «reset_done» ack word parity) (now (outcome .entry)) .second ⌝ }
+    ensures number { λ r. ⌜ r ≡ stepCall (now (session .entry)) (now (image .entry)) (answerIn «reset_done» ack word parity) (now (outcome .entry)) .number ⌝ }
+    ensures session { λ _. ⌜ now (session .exit) ≡ stepCall (now (session .entry)) (now (image .entry)) (answerIn «reset_done» ack word parity) (now (outcome .entry)) .first ⌝ }
+    ensures outcome { λ _. ⌜ now (outcome .exit) ≡ stepCall (now (session .entry)) (now (image .entry)) (answerIn «reset_done» ack word parity) (now (outcome .entry)) .second ⌝ }
 {
     if session.len() < 45 {
         put_outcome(outcome, Outcome::Refused(12));
@@ -120,9 +120,9 @@ pub extern "C" fn halzuqeen_start(
     session: &mut [u8],
     outcome: &mut [u8],
 ) -> u32
-    ensures { λ r. ⌜ r ≡ startCall (now (header .entry)) (now (image .entry)) leave (now (session .entry)) (now (outcome .entry)) .number ⌝ }
-    ensures { λ _. ⌜ now (session .exit) ≡ startCall (now (header .entry)) (now (image .entry)) leave (now (session .entry)) (now (outcome .entry)) .first ⌝ }
-    ensures { λ _. ⌜ now (outcome .exit) ≡ startCall (now (header .entry)) (now (image .entry)) leave (now (session .entry)) (now (outcome .entry)) .second ⌝ }
+    ensures number { λ r. ⌜ r ≡ startCall (now (header .entry)) (now (image .entry)) leave (now (session .entry)) (now (outcome .entry)) .number ⌝ }
+    ensures session { λ _. ⌜ now (session .exit) ≡ startCall (now (header .entry)) (now (image .entry)) leave (now (session .entry)) (now (outcome .entry)) .first ⌝ }
+    ensures outcome { λ _. ⌜ now (outcome .exit) ≡ startCall (now (header .entry)) (now (image .entry)) leave (now (session .entry)) (now (outcome .entry)) .second ⌝ }
 {
     if header.len() < 17 {
         return refuse_start(session, outcome, 12);
@@ -151,9 +151,9 @@ pub extern "C" fn halzuqeen_read(
     image: &mut [u8],
     header: &mut [u8],
 ) -> u32
-    ensures { λ r. ⌜ r ≡ readCall part macros (now (text .entry)) (now (image .entry)) (now (header .entry)) .number ⌝ }
-    ensures { λ _. ⌜ now (image .exit) ≡ readCall part macros (now (text .entry)) (now (image .entry)) (now (header .entry)) .first ⌝ }
-    ensures { λ _. ⌜ now (header .exit) ≡ readCall part macros (now (text .entry)) (now (image .entry)) (now (header .entry)) .second ⌝ }
+    ensures number { λ r. ⌜ r ≡ readCall part macros (now (text .entry)) (now (image .entry)) (now (header .entry)) .number ⌝ }
+    ensures image { λ _. ⌜ now (image .exit) ≡ readCall part macros (now (text .entry)) (now (image .entry)) (now (header .entry)) .first ⌝ }
+    ensures header { λ _. ⌜ now (header .exit) ≡ readCall part macros (now (text .entry)) (now (image .entry)) (now (header .entry)) .second ⌝ }
 {
     if header.len() < 17 {
         return under_size(part, macros) as u32;
@@ -172,9 +172,9 @@ pub extern "C" fn halzuqeen_write(
     text: &mut [u8],
     size: &mut [u8],
 ) -> u32
-    ensures { λ r. ⌜ r ≡ writeCall (now (header .entry)) (now (image .entry)) (now (text .entry)) (now (size .entry)) .number ⌝ }
-    ensures { λ _. ⌜ now (text .exit) ≡ writeCall (now (header .entry)) (now (image .entry)) (now (text .entry)) (now (size .entry)) .first ⌝ }
-    ensures { λ _. ⌜ now (size .exit) ≡ writeCall (now (header .entry)) (now (image .entry)) (now (text .entry)) (now (size .entry)) .second ⌝ }
+    ensures number { λ r. ⌜ r ≡ writeCall (now (header .entry)) (now (image .entry)) (now (text .entry)) (now (size .entry)) .number ⌝ }
+    ensures text { λ _. ⌜ now (text .exit) ≡ writeCall (now (header .entry)) (now (image .entry)) (now (text .entry)) (now (size .entry)) .first ⌝ }
+    ensures size { λ _. ⌜ now (size .exit) ≡ writeCall (now (header .entry)) (now (image .entry)) (now (text .entry)) (now (size .entry)) .second ⌝ }
 {
     if header.len() < 17 {
         put_length(size, 0);

@@ -260,7 +260,7 @@ fn ran_by(r: Report) -> Ran
 
 // The dry run of a text: refused with the reader's number, or done with the plan.
 pub fn run(text: &[u8]) -> Ran
-    ensures { λ r. ⌜ r ≡ ranOn (now (text .entry)) ⌝ }
+    ensures ran { λ r. ⌜ r ≡ ranOn (now (text .entry)) ⌝ }
 {
     let mut image = blank_image();
     let answer = hex::read(1, 1, text, &mut image);
@@ -284,8 +284,8 @@ fn run_cut(text: &[u8]) -> Ran
 
 // The dry run of a text, cut at 64 KiB, as the line that the program prints: puts it at the start of `line`, keeps the rest, and gives its length.
 pub fn line_of(text: &[u8], line: &mut [u8; 32]) -> usize
-    ensures { λ r. ⌜ Counts r (now (line .exit)) × LineOf (ranOn (take 65536 (now (text .entry)))) (take r (now (line .exit))) ⌝ }
-    ensures { λ r. ⌜ drop r (now (line .exit)) ≡ drop r (now (line .entry)) ⌝ }
+    ensures line { λ r. ⌜ Counts r (now (line .exit)) × LineOf (ranOn (take 65536 (now (text .entry)))) (take r (now (line .exit))) ⌝ }
+    ensures rest { λ r. ⌜ drop r (now (line .exit)) ≡ drop r (now (line .entry)) ⌝ }
 {
     lines::ran_line(run_cut(text), line)
 }

@@ -4,14 +4,15 @@ use mathlib.Core.List.{List, [], _∷_, _++_}
 use mathlib.Core.Path.{_≡_, refl, sym, ap, subst, _∙_}
 use Prim.Native.Nat.{ℕ, _+_, _*_, _/_, _%_, _≤_, _<_}
 use native.Mathlib.Omega.{arith}
-use borrow.Author.Tests.{eqb-true, eqb-false, leb-true}
+use borrow.Author.Tests.{eqb-true, eqb-false, leb-true, le-leb}
 use lib.Dec.{eqb, leb}
 use lib.ListN.{length, getD, take}
 use Rattle.encoding.specs.Values.{Bytes}
-use Rattle.encoding.specs.Records.{recordBytes, recordIn}
-use Rattle.encoding.specs.Sessions.{entryByte, entryIn, singles, standingBytes, countersIn, sessionBytes, sessionIn, isSession}
+use Rattle.encoding.specs.Records.{recordBytes, recordIn, recordFound}
+use Rattle.encoding.specs.Sessions.{entryByte, entryIn, singles, standingBytes, countersIn, sessionBytes, sessionOf, sessionIn, sessionFound, isSession}
 use Rattle.flow.specs.declared.Entry.{Entry}
 use Rattle.flow.specs.declared.Entry.the-variants.{FromOpen, FromProtected}
+use Rattle.image.specs.declared.Header.{Header}
 use Rattle.sections.proofs.Sections.{spread, spread-part, spread-all}
 use Rattle.lent.specs.Words.{wordAt, lowFirst}
 use Rattle.layout.specs.Bytes.{flagByte}
@@ -108,3 +109,11 @@ module _ (bs : List ℕ) (n : 45 ≤ length bs) (h : Bytes bs) (is : isSession b
   session-whole =
       both (record-start bs (omega arith) h) (both single-bytes (both standing-bytes (word-whole bs 41 h)))
       ∙ spread-part 0 45 bs n
+
+-- where bytes are enough, what is found is what they hold
+pub record-found : (bs : List ℕ) → 17 ≤ length bs → recordFound bs ≡ recordIn bs
+record-found bs h = rw (le-leb 17 (length bs) h)
+
+pub session-found : (bs : List ℕ) → 45 ≤ length bs → sessionFound bs ≡ sessionIn bs
+unfolding sessionIn
+session-found bs h = ap (λ (r : Header). sessionOf r bs) (record-found bs (omega arith))

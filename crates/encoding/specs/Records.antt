@@ -1,7 +1,10 @@
 -- An image's record as 17 bytes. Assumes nothing.
+use mathlib.Core.Bool.{cond}
 use mathlib.Core.List.{List, [], _∷_, _++_}
 use Prim.Native.Nat.{ℕ, _+_, _*_, _/_, _%_}
-use lib.ListN.{getD, take, drop}
+use lib.Dec.{leb}
+use lib.ListN.{length, getD, take, drop}
+use Rattle.image.specs.Image.{noHeader}
 use Rattle.image.specs.declared.Header.{Header}
 
 -- part at 0, macros at 1, sum at 2, metadata at 4, level at 16
@@ -17,3 +20,7 @@ recordIn bs = record {
   metadata = take 12 (drop 4 bs);
   level = getD bs 16 0;
 }
+
+-- the same, and all 0 where the bytes are too few for one
+abbrev pub recordFound : List ℕ → Header
+recordFound bs = cond (leb 17 (length bs)) (recordIn bs) noHeader

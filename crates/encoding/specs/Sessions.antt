@@ -4,10 +4,11 @@ use mathlib.Core.List.{List, [], _∷_, _++_}
 use Prim.Native.Nat.{ℕ}
 use lib.Dec.{eqb, leb}
 use lib.ListN.{getD}
-use Rattle.encoding.specs.Records.{recordBytes, recordIn}
+use Rattle.encoding.specs.Records.{recordBytes, recordIn, recordFound}
 use Rattle.flow.specs.declared.Counters.{Counters}
 use Rattle.flow.specs.declared.Entry.{Entry}
 use Rattle.flow.specs.declared.Entry.the-variants.{FromOpen, FromProtected}
+use Rattle.image.specs.declared.Header.{Header}
 use Rattle.lent.specs.Words.{wordAt, lowFirst}
 use Rattle.layout.specs.Bytes.{flagByte}
 use Rattle.session.specs.declared.Session.{Session}
@@ -35,10 +36,10 @@ sessionBytes s = recordBytes (s .header) ++ (singles s ++ (standingBytes (s .pos
 abbrev pub countersIn : List ℕ → Counters
 countersIn bs = record { waits = wordAt bs 25; polls = wordAt bs 29; attempts = wordAt bs 33; kept = wordAt bs 37 }
 
--- the session that bytes hold
-unfoldable pub sessionIn : List ℕ → Session
-sessionIn bs = record {
-  header = recordIn bs;
+-- a session of this record, the rest of it as bytes hold it
+abbrev pub sessionOf : Header → List ℕ → Session
+sessionOf h bs = record {
+  header = h;
   position = record { entry = entryIn (getD bs 17 0); at = wordAt bs 21 };
   counters = countersIn bs;
   transfers = wordAt bs 41;
@@ -46,6 +47,14 @@ sessionIn bs = record {
   number = getD bs 19 0;
   step = getD bs 20 0;
 }
+
+-- the session that bytes hold
+unfoldable pub sessionIn : List ℕ → Session
+sessionIn bs = sessionOf (recordIn bs) bs
+
+-- the same, with no record where the bytes are too few for one
+abbrev pub sessionFound : List ℕ → Session
+sessionFound bs = sessionOf (recordFound bs) bs
 
 -- whether bytes are ones that a session has
 abbrev pub isSession : List ℕ → Bool

@@ -1,9 +1,8 @@
 // Records and sessions found in a caller's bytes.
 ghost use mathlib.Core.Path.{_≡_};
-ghost use Prim.Native.Nat.{_≤_, _<_};
-ghost use lib.ListN.{length};
-ghost use Rattle.encoding.specs.Records.{recordIn};
-ghost use Rattle.encoding.specs.Sessions.{entryIn, countersIn, sessionIn, isSession};
+ghost use Prim.Native.Nat.{_<_};
+ghost use Rattle.encoding.specs.Records.{recordFound};
+ghost use Rattle.encoding.specs.Sessions.{entryIn, countersIn, sessionFound, isSession};
 use flow::Counters;
 use flow::Entry;
 use flow::Position;
@@ -18,9 +17,9 @@ fn wide(b: u8) -> u16
     b as u16
 }
 
-// The record that bytes hold from their start on, and an empty one where they are too few.
+// The record that bytes hold from their start on, and all 0 where they are too few.
 pub fn record_in(bytes: &[u8]) -> Header
-    ensures { λ r. ⌜ (17 ≤ length (now (bytes .entry)) → r ≡ recordIn (now (bytes .entry))) ⌝ }
+    ensures found { λ r. ⌜ r ≡ recordFound (now (bytes .entry)) ⌝ }
 {
     if bytes.len() < 17 {
         return Header {
@@ -57,7 +56,7 @@ pub fn record_in(bytes: &[u8]) -> Header
 
 // Whether bytes are ones that a session has.
 pub fn is_session(bytes: &[u8]) -> bool
-    ensures { λ r. ⌜ r ≡ isSession (now (bytes .entry)) ⌝ }
+    ensures session { λ r. ⌜ r ≡ isSession (now (bytes .entry)) ⌝ }
 {
     if byte_at(bytes, 17) <= 1 {
         return byte_at(bytes, 18) <= 1;
@@ -87,9 +86,9 @@ fn counters_in(bytes: &[u8]) -> Counters
     }
 }
 
-// The session that bytes hold, where they are enough for one.
+// The session that bytes hold; its record is all 0 where they are too few for one.
 pub fn session_in(bytes: &[u8]) -> Session
-    ensures { λ r. ⌜ (45 ≤ length (now (bytes .entry)) → r ≡ sessionIn (now (bytes .entry))) ⌝ }
+    ensures found { λ r. ⌜ r ≡ sessionFound (now (bytes .entry)) ⌝ }
 {
     let h = record_in(bytes);
     let y = entry_in(byte_at(bytes, 17));

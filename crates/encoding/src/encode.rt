@@ -20,7 +20,7 @@ use session::Session;
 
 // Puts a length, the low byte first.
 pub fn put_length(bytes: &mut [u8], n: usize)
-    ensures { λ _. ⌜ now (bytes .exit) ≡ putInto (now (bytes .entry)) (lowFirst 8 n) ⌝ }
+    ensures put { λ _. ⌜ now (bytes .exit) ≡ putInto (now (bytes .entry)) (lowFirst 8 n) ⌝ }
 {
     if bytes.len() < 8 {
         return;
@@ -77,7 +77,7 @@ fn row_of(h: Header) -> [u8; 17]
 
 // Puts a record; `text::fill` leaves bytes that are too few.
 pub fn put_record(bytes: &mut [u8], h: Header)
-    ensures { λ _. ⌜ now (bytes .exit) ≡ putInto (now (bytes .entry)) (recordBytes h) ⌝ }
+    ensures put { λ _. ⌜ now (bytes .exit) ≡ putInto (now (bytes .entry)) (recordBytes h) ⌝ }
 {
     let row = row_of(h);
     text::fill(bytes, 0, &row, 0, 17);
@@ -119,7 +119,7 @@ fn put_standing(bytes: &mut [u8], at: u32, c: Counters)
 
 // Puts a session.
 pub fn put_session(bytes: &mut [u8], s: Session)
-    ensures { λ _. ⌜ now (bytes .exit) ≡ putInto (now (bytes .entry)) (sessionBytes s) ⌝ }
+    ensures put { λ _. ⌜ now (bytes .exit) ≡ putInto (now (bytes .entry)) (sessionBytes s) ⌝ }
 {
     let h = s.header;
     let p = s.position;
@@ -162,7 +162,7 @@ fn put_packet(bytes: &mut [u8], p: Packet)
 
 // Puts an outcome.
 pub fn put_outcome(bytes: &mut [u8], o: Outcome)
-    ensures { λ _. ⌜ now (bytes .exit) ≡ putInto (now (bytes .entry)) (outcomeBytes o) ⌝ }
+    ensures put { λ _. ⌜ now (bytes .exit) ≡ putInto (now (bytes .entry)) (outcomeBytes o) ⌝ }
 {
     match o {
         Outcome::Refused(n) => put_eight(bytes, 0, n, 0, 0),
@@ -173,7 +173,7 @@ pub fn put_outcome(bytes: &mut [u8], o: Outcome)
 
 // The number of a refusal, and 0 of anything else.
 pub fn number_of(o: Outcome) -> u32
-    ensures { λ r. ⌜ r ≡ numberOf o ⌝ }
+    ensures number { λ r. ⌜ r ≡ numberOf o ⌝ }
 {
     match o {
         Outcome::Refused(n) => n as u32,

@@ -165,7 +165,7 @@ fn write_packet(r: Register, w: u32) -> Packet
 
 // What goes out for a request.
 pub fn packet_of(q: Request) -> Packet
-    ensures { λ p. ⌜ p ≡ packetOf q ⌝ }
+    ensures packet { λ p. ⌜ p ≡ packetOf q ⌝ }
 {
     match q {
         Request::Xres => Packet::Xres,
@@ -180,7 +180,7 @@ pub fn packet_of(q: Request) -> Packet
 
 // Whether a request reads a word.
 pub fn is_read(q: Request) -> bool
-    ensures { λ r. ⌜ r ≡ isRead q ⌝ }
+    ensures reads { λ r. ⌜ r ≡ isRead q ⌝ }
 {
     match q {
         Request::Xres => false,

@@ -6,7 +6,7 @@ use crate::Request;
 
 // Whether a request is a reset, which is no transfer.
 pub fn is_reset(q: Request) -> bool
-    ensures { λ r. ⌜ r ≡ isReset q ⌝ }
+    ensures reset { λ r. ⌜ r ≡ isReset q ⌝ }
 {
     match q {
         Request::Xres => true,
@@ -21,7 +21,7 @@ pub fn is_reset(q: Request) -> bool
 
 // Whether a request is an attempt of step 1.
 pub fn is_attempt(q: Request) -> bool
-    ensures { λ r. ⌜ r ≡ isAttempt q ⌝ }
+    ensures attempt { λ r. ⌜ r ≡ isAttempt q ⌝ }
 {
     match q {
         Request::Xres => false,
@@ -36,7 +36,7 @@ pub fn is_attempt(q: Request) -> bool
 
 // Whether an answer is one to this request: resets are answered by 'reset done', transfers by an acknowledgement (14).
 pub fn answer_fits(q: Request, a: Answer) -> bool
-    ensures { λ r. ⌜ r ≡ answers q a ⌝ }
+    ensures fits { λ r. ⌜ r ≡ answers q a ⌝ }
 {
     match a {
         Answer::ResetDone => is_reset(q),

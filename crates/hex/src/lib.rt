@@ -297,8 +297,8 @@ fn read_image(g: Geometry, part: u8, macros: u8, text: &[u8], image: &mut [u8]) 
 
 // Reads a text for a part and its macros into a buffer: 0 and the image's header, or a refusal's number.
 pub fn read(part: u8, macros: u8, text: &[u8], buffer: &mut [u8]) -> ReadAnswer
-    ensures { λ r. ⌜ r ≡ answerOf (hexReading part macros (now (text .entry)) (length (now (buffer .entry)))) ⌝ }
-    ensures { λ _. ⌜ now (buffer .exit) ≡ bufferAfter (hexReading part macros (now (text .entry)) (length (now (buffer .entry)))) (now (buffer .entry)) ⌝ }
+    ensures answer { λ r. ⌜ r ≡ answerOf (hexReading part macros (now (text .entry)) (length (now (buffer .entry)))) ⌝ }
+    ensures buffer { λ _. ⌜ now (buffer .exit) ≡ bufferAfter (hexReading part macros (now (text .entry)) (length (now (buffer .entry)))) (now (buffer .entry)) ⌝ }
 {
     let found = parts::find(part, macros);
     match found {

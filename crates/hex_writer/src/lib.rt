@@ -294,8 +294,8 @@ fn write_found(text: &mut [u8], g: Geometry, h: Header, bytes: &[u8]) -> WriteAn
 
 // Writes an image's text into the buffer: 0 and the text's length, or a refusal and the buffer as it was.
 pub fn write(header: Header, bytes: &[u8], text: &mut [u8]) -> WriteAnswer
-    ensures { λ r. ⌜ r ≡ writeOf header (now (bytes .entry)) (now (text .entry)) ⌝ }
-    ensures { λ _. ⌜ now (text .exit) ≡ textAfter header (now (bytes .entry)) (now (text .entry)) ⌝ }
+    ensures answer { λ r. ⌜ r ≡ writeOf header (now (bytes .entry)) (now (text .entry)) ⌝ }
+    ensures text { λ _. ⌜ now (text .exit) ≡ textAfter header (now (bytes .entry)) (now (text .entry)) ⌝ }
 {
     let found = parts::find(header.part, header.macros);
     match found {

@@ -28,7 +28,7 @@ fn wide(b: u8) -> u32
 
 // Whether the metadata's version is 2.
 pub fn version_fits(h: Header) -> bool
-    ensures { λ r. ⌜ r ≡ versionFits h ⌝ }
+    ensures version { λ r. ⌜ r ≡ versionFits h ⌝ }
 {
     let m = h.metadata;
     256 * wide(m[0]) + wide(m[1]) == 2
@@ -36,7 +36,7 @@ pub fn version_fits(h: Header) -> bool
 
 // Whether the metadata's silicon ID is the part's.
 pub fn id_fits(g: Geometry, h: Header) -> bool
-    ensures { λ r. ⌜ r ≡ imageIdFits g h ⌝ }
+    ensures id { λ r. ⌜ r ≡ imageIdFits g h ⌝ }
 {
     let m = h.metadata;
     let p = g.part;
@@ -45,7 +45,7 @@ pub fn id_fits(g: Geometry, h: Header) -> bool
 
 // Whether a level may be asked for: OPEN, PROTECTED or KILL.
 pub fn level_fits(n: u8) -> bool
-    ensures { λ r. ⌜ r ≡ levelFits n ⌝ }
+    ensures level { λ r. ⌜ r ≡ levelFits n ⌝ }
 {
     let l = parts::read_level(n);
     match l {
@@ -99,7 +99,7 @@ fn content_fault(g: Geometry, h: Header, bytes: &[u8]) -> u8
 
 // Checks 11, 12 and 6 to 10, in that order: 0 or the first number that applies.
 pub fn check(h: Header, bytes: &[u8]) -> u8
-    ensures { λ r. ⌜ r ≡ imageFault h (now (bytes .entry)) ⌝ }
+    ensures fault { λ r. ⌜ r ≡ imageFault h (now (bytes .entry)) ⌝ }
 {
     let found = parts::find(h.part, h.macros);
     match found {

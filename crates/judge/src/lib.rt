@@ -144,7 +144,7 @@ fn reply_in(a: Answer) -> Reply
 
 // Where an answer to a move leads: on by a way, or to a report. After a reset it is the next move, whatever the answer.
 pub fn next(g: Geometry, h: Header, bytes: &[u8], m: Move, a: Answer, c: Counters) -> Next
-    ensures { λ n. ⌜ n ≡ nextOf (imageOf g h (now (bytes .entry))) m a c ⌝ }
+    ensures next { λ n. ⌜ n ≡ nextOf (imageOf g h (now (bytes .entry))) m a c ⌝ }
 {
     let q = m.request;
     if flow::requests::is_reset(q) {

@@ -4,7 +4,7 @@ ghost use Rattle.layout.specs.Bytes.{flagByte, wordPut};
 
 // Puts a word, the low byte first; nothing where there is no room for its four bytes.
 pub fn put_word(bytes: &mut [u8], at: usize, word: u32)
-    ensures { λ _. ⌜ now (bytes .exit) ≡ wordPut (now (bytes .entry)) at word ⌝ }
+    ensures put { λ _. ⌜ now (bytes .exit) ≡ wordPut (now (bytes .entry)) at word ⌝ }
 {
     if bytes.len() < 4 {
         return;
@@ -23,7 +23,7 @@ pub fn put_word(bytes: &mut [u8], at: usize, word: u32)
 
 // 1 for yes, 0 for no.
 pub fn flag_byte(b: bool) -> u8
-    ensures { λ r. ⌜ r ≡ flagByte b ⌝ }
+    ensures flag { λ r. ⌜ r ≡ flagByte b ⌝ }
 {
     if b { 1 } else { 0 }
 }

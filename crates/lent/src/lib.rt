@@ -6,7 +6,7 @@ ghost use Rattle.lent.specs.Words.{total, wordAt, sameWord, partOf};
 
 // The byte at an offset, and 0 past the end.
 pub fn byte_at(bytes: &[u8], at: usize) -> u8
-    ensures { λ r. ⌜ r ≡ getD (now (bytes .entry)) at 0 ⌝ }
+    ensures byte { λ r. ⌜ r ≡ getD (now (bytes .entry)) at 0 ⌝ }
 {
     if at < bytes.len() { bytes[at] } else { 0 }
 }
@@ -42,7 +42,7 @@ fn word_past(bytes: &[u8], at: usize) -> u32
 
 // The word at an offset; bytes past the end count as 0.
 pub fn word_at(bytes: &[u8], at: usize) -> u32
-    ensures { λ r. ⌜ r ≡ wordAt (now (bytes .entry)) at ⌝ }
+    ensures word { λ r. ⌜ r ≡ wordAt (now (bytes .entry)) at ⌝ }
 {
     let n = bytes.len();
     if n < 4 {
@@ -56,14 +56,14 @@ pub fn word_at(bytes: &[u8], at: usize) -> u32
 
 // Whether the word at an offset of a row, or of a macro's locks, is this one.
 pub fn word_is(row: &[u8], at: usize, word: u32) -> bool
-    ensures { λ r. ⌜ r ≡ sameWord (now (row .entry)) at word ⌝ }
+    ensures same { λ r. ⌜ r ≡ sameWord (now (row .entry)) at word ⌝ }
 {
     word == word_at(row, at)
 }
 
 // The same of the part of n bytes that starts at an offset, as far as there are any: it is lent on as a middle part.
 pub fn part_word_is(bytes: &[u8], from: usize, n: usize, at: usize, word: u32) -> bool
-    ensures { λ r. ⌜ r ≡ sameWord (partOf (now (bytes .entry)) from n) at word ⌝ }
+    ensures same { λ r. ⌜ r ≡ sameWord (partOf (now (bytes .entry)) from n) at word ⌝ }
 {
     let len = bytes.len();
     if len <= from {
@@ -78,7 +78,7 @@ pub fn part_word_is(bytes: &[u8], from: usize, n: usize, at: usize, word: u32) -
 
 // The sum of bytes, modulo 65536.
 pub fn sum_of(bytes: &[u8]) -> u16
-    ensures { λ r. ⌜ r ≡ total (now (bytes .entry)) % 65536 ⌝ }
+    ensures sum { λ r. ⌜ r ≡ total (now (bytes .entry)) % 65536 ⌝ }
 {
     let mut sum: u32 = 0;
     let mut place: usize = 0;

@@ -169,7 +169,7 @@ fn addresses_handled(g: Geometry) -> bool
 
 // The move at an index; past the end, and where the geometry is not handled or the image not of exact size, the end move.
 pub fn move_at(g: Geometry, h: Header, bytes: &[u8], entry: Entry, index: u32) -> Move
-    ensures { λ t. ⌜ t ≡ moveOf g h (now (bytes .entry)) entry index ⌝ }
+    ensures found { λ t. ⌜ t ≡ moveOf g h (now (bytes .entry)) entry index ⌝ }
 {
     if !sizes_handled(g) {
         return end_move();
@@ -198,7 +198,7 @@ fn program_moves(g: Geometry) -> usize
 
 // The number of moves of the sequence.
 pub fn move_count(g: Geometry, entry: Entry) -> usize
-    ensures { λ n. ⌜ n ≡ moveCount g entry ⌝ }
+    ensures count { λ n. ⌜ n ≡ moveCount g entry ⌝ }
 {
     let opening = opening_moves(g) as usize;
     let rest = program_moves(g);

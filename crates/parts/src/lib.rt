@@ -141,7 +141,7 @@ fn entry_offers(p: Part, number: u8, macros: u8) -> bool
 
 // The table's entry for a part number, with the macros in use; 11 for what is not in the table.
 pub fn find(number: u8, macros: u8) -> Lookup
-    ensures { λ r. ⌜ r ≡ lookupOf number macros ⌝ }
+    ensures found { λ r. ⌜ r ≡ lookupOf number macros ⌝ }
 {
     let table = PARTS;
     let mut i: usize = 0;
@@ -169,7 +169,7 @@ fn in_range(r: ByteRange, b: u8) -> bool
 
 // Whether a low ID byte fits the part.
 pub fn low_fits(p: Part, low: u8) -> bool
-    ensures { λ r. ⌜ r ≡ lowFits p low ⌝ }
+    ensures fits { λ r. ⌜ r ≡ lowFits p low ⌝ }
 {
     let one = p.id_low;
     if in_range(one, low) {
@@ -181,7 +181,7 @@ pub fn low_fits(p: Part, low: u8) -> bool
 
 // Whether a silicon ID is one of the part's.
 pub fn id_fits(p: Part, high: u8, low: u8, family: u8) -> bool
-    ensures { λ r. ⌜ r ≡ idFits p high low family ⌝ }
+    ensures fits { λ r. ⌜ r ≡ idFits p high low family ⌝ }
 {
     if high == p.id_high {
         if family == p.id_family {
@@ -193,7 +193,7 @@ pub fn id_fits(p: Part, high: u8, low: u8, family: u8) -> bool
 
 // The rows of all macros in use.
 pub fn rows(g: Geometry) -> u32
-    ensures { λ n. ⌜ n ≡ rowsOf g ⌝ }
+    ensures count { λ n. ⌜ n ≡ rowsOf g ⌝ }
 {
     let p = g.part;
     (g.macros as u32) * (p.rows_per_macro as u32)
@@ -201,7 +201,8 @@ pub fn rows(g: Geometry) -> u32
 
 // The bytes of flash.
 pub fn flash_size(g: Geometry) -> usize
-    ensures { λ n. ⌜ n ≡ flashSize g ⌝ ∗ ⌜ n < 2 ^ 48 ⌝ }
+    ensures size { λ n. ⌜ n ≡ flashSize g ⌝ }
+    ensures bounded { λ n. ⌜ n < 2 ^ 48 ⌝ }
 {
     let p = g.part;
     (rows(g) as usize) * (p.row_bytes as usize)
@@ -209,7 +210,8 @@ pub fn flash_size(g: Geometry) -> usize
 
 // The bytes of macro m's locks: a bit for each of its rows.
 pub fn locks_in(g: Geometry, m: u32) -> usize
-    ensures { λ n. ⌜ n ≡ locksIn g m ⌝ ∗ ⌜ n < 8192 ⌝ }
+    ensures size { λ n. ⌜ n ≡ locksIn g m ⌝ }
+    ensures bounded { λ n. ⌜ n < 8192 ⌝ }
 {
     let p = g.part;
     (p.rows_per_macro as usize) / 8
@@ -217,28 +219,31 @@ pub fn locks_in(g: Geometry, m: u32) -> usize
 
 // Where they start among the bytes of locks: past those of the macros below it.
 pub fn lock_start(g: Geometry, m: u32) -> usize
-    ensures { λ n. ⌜ n ≡ lockStart g m ⌝ ∗ ⌜ n < 2 ^ 45 ⌝ }
+    ensures start { λ n. ⌜ n ≡ lockStart g m ⌝ }
+    ensures bounded { λ n. ⌜ n < 2 ^ 45 ⌝ }
 {
     (m as usize) * locks_in(g, 0)
 }
 
 // The bytes of locks: a bit for each row.
 pub fn lock_total(g: Geometry) -> usize
-    ensures { λ n. ⌜ n ≡ lockTotal g ⌝ ∗ ⌜ n < 2 ^ 32 ⌝ }
+    ensures size { λ n. ⌜ n ≡ lockTotal g ⌝ }
+    ensures bounded { λ n. ⌜ n < 2 ^ 32 ⌝ }
 {
     (rows(g) / 8) as usize
 }
 
 // The bytes of an image: flash, then locks.
 pub fn image_size(g: Geometry) -> usize
-    ensures { λ n. ⌜ n ≡ imageSize g ⌝ }
+    ensures size { λ n. ⌜ n ≡ imageSize g ⌝ }
 {
     flash_size(g) + lock_total(g)
 }
 
 // The reading of a level's number.
 pub fn read_level(n: u8) -> Level
-    ensures { λ l. ⌜ l ≡ levelOf n ⌝ ∗ ⌜ isLevel l n ≡ true ⌝ }
+    ensures level { λ l. ⌜ l ≡ levelOf n ⌝ }
+    ensures told { λ l. ⌜ isLevel l n ≡ true ⌝ }
 {
     match n {
         0 => Level::Virgin,

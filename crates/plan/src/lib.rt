@@ -61,7 +61,7 @@ fn loops_of(g: Geometry, y: Entry) -> u64
 
 // The most reads and writes that a session may hand out: those from PROTECTED.
 pub fn most_transfers(g: Geometry) -> u64
-    ensures { λ r. ⌜ r ≡ (mostTraffic g Entry.FromProtected) .transfers ⌝ }
+    ensures most { λ r. ⌜ r ≡ (mostTraffic g Entry.FromProtected) .transfers ⌝ }
 {
     let y = Entry::FromProtected;
     17 * (plan_of(g, y) + 29997 * loops_of(g, y) + 29 * acquisitions_of(y))

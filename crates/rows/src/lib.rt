@@ -13,7 +13,7 @@ pub struct ZeroRow {
 
 // The test whether a row is all zero: it stops at the first byte that isn't (document 02, Three).
 pub fn zero_row(row: &[u8]) -> ZeroRow
-    ensures { λ r. ⌜ r ≡ zeroRow (now (row .entry)) ⌝ }
+    ensures zero { λ r. ⌜ r ≡ zeroRow (now (row .entry)) ⌝ }
 {
     let mut at: usize = 0;
     while at < row.len() {
@@ -48,7 +48,7 @@ fn words_sum(row: &[u8]) -> u32
 
 // Whether a row's words add to 0 modulo 2^32 without all being 0 (number 10). A blank row is settled without its sum.
 pub fn row_cancels(row: &[u8]) -> bool
-    ensures { λ r. ⌜ r ≡ cancels (now (row .entry)) ⌝ }
+    ensures cancelling { λ r. ⌜ r ≡ cancels (now (row .entry)) ⌝ }
 {
     let whole = 4 * (row.len() / 4);
     let z = zero_row(&row[..whole]);
@@ -68,7 +68,7 @@ fn row_end(len: usize, at: usize, size: usize) -> usize
 
 // Whether one of the first n rows cancels; a row that ends past the bytes has those that there are.
 pub fn some_cancels(bytes: &[u8], n: u32, size: usize) -> bool
-    ensures { λ r. ⌜ r ≡ someCancels size n (now (bytes .entry)) ⌝ }
+    ensures cancelling { λ r. ⌜ r ≡ someCancels size n (now (bytes .entry)) ⌝ }
 {
     let mut from: usize = 0;
     let mut left = n;

@@ -53,7 +53,7 @@ fn in_header(address: u32, size: usize, offset: usize) -> Section
 
 // The k-th section of an image's text, and an empty one past the last.
 pub fn section_at(g: Geometry, k: usize) -> Section
-    ensures { λ s. ⌜ s ≡ getD (sectionsOf g) k noSection ⌝ }
+    ensures section { λ s. ⌜ s ≡ getD (sectionsOf g) k noSection ⌝ }
 {
     match k {
         0 => whole_of(Location::InFlash, 0, parts::flash_size(g)),
@@ -90,7 +90,7 @@ fn joined(high: u8, low: u8, m: [u8; 12], level: u8) -> [u8; 15]
 
 // What a text says of a header: sum (high byte first), metadata, level.
 pub fn header_bytes(h: Header) -> [u8; 15]
-    ensures { λ r. ⌜ r ≡ headerBytes h ⌝ }
+    ensures bytes { λ r. ⌜ r ≡ headerBytes h ⌝ }
 {
     let m = h.metadata;
     let sum = h.sum;
@@ -99,7 +99,7 @@ pub fn header_bytes(h: Header) -> [u8; 15]
 
 // The header that such bytes make.
 pub fn header_of(part: u8, macros: u8, b: [u8; 15]) -> Header
-    ensures { λ h. ⌜ h ≡ headerOf part macros b ⌝ }
+    ensures header { λ h. ⌜ h ≡ headerOf part macros b ⌝ }
 {
     let metadata = [
         b[2],

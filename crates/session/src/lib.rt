@@ -104,7 +104,7 @@ fn wants_leave(h: Header, leave: bool) -> bool
 
 // Starts a session on an image: checks 11, 12, 6 to 10, then 15; the first request is XRES.
 pub fn start(h: Header, bytes: &[u8], leave: bool) -> Given
-    ensures { λ r. ⌜ r ≡ startOf h (now (bytes .entry)) leave ⌝ }
+    ensures given { λ r. ⌜ r ≡ startOf h (now (bytes .entry)) leave ⌝ }
 {
     let n = image::check(h, bytes);
     if n != 0 {
@@ -185,7 +185,7 @@ fn step_on(g: Geometry, s: Session, bytes: &[u8], a: Answer) -> Given
 
 // Takes the answer to the standing request: checks 13, 12, 14; gives the next request or the report.
 pub fn step(s: Session, bytes: &[u8], a: Answer) -> Given
-    ensures { λ r. ⌜ r ≡ stepWith s (now (bytes .entry)) a ⌝ }
+    ensures given { λ r. ⌜ r ≡ stepWith s (now (bytes .entry)) a ⌝ }
 {
     let h = s.header;
     let found = parts::find(h.part, h.macros);

@@ -8,8 +8,6 @@ pub mod Placing
 pub mod Pieces
 pub mod Capitals
 pub mod Entries
-pub mod Sizes
-pub mod Telling
 pub mod Laid
 pub mod Lending
 pub mod Scans

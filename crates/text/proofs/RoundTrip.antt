@@ -24,7 +24,7 @@ use Rattle.text.proofs.Capitals.{AllBytes, bytes-all, bytes-append, byt
 use Rattle.text.proofs.Formats.{WritingLaws, Aligned, pieces-fit}
 use Rattle.text.proofs.Laid.{all-filled, header-size, room-at}
 use Rattle.text.proofs.Pieces.{Filled, joined, placed, gathered-joined}
-use Rattle.text.proofs.Sizes as table
+use Rattle.text.proofs.Entries as table
 use Rattle.text.specs.Claims.{Takes, Typed}
 use Rattle.text.specs.Formats.{Format, contentIn, textIn}
 use Rattle.text.specs.Placing.{Stream, pieces, gathered}

@@ -19,7 +19,7 @@ use Rattle.parts.specs.declared.Lookup.{Lookup}
 use Rattle.parts.specs.declared.Lookup.the-variants.{Found, Refused}
 use Rattle.text.proofs.Pieces.{dataOf, placing-data}
 use Rattle.text.proofs.Placing.{placing-length, metadata-at}
-use Rattle.text.proofs.Telling.{idIn, id-tells, size-tells}
+use Rattle.text.proofs.Entries.{idIn, id-tells, size-tells}
 use Rattle.text.specs.Claims.{Takes}
 use Rattle.text.specs.Formats.{Format, contentIn}
 use Rattle.text.specs.Placing.{Event, Content, Refusal, Stream, gathered, overall}
@@ -127,18 +127,8 @@ module _ {F : Format} {part macros part′ macros′ : ℕ} {text : List ℕ} {r
   of-one-part p =
       let m : macros ≡ macros′ = size-tells part macros part′ macros′ (a .g) (b .g) (a .found) (b .found) p same-size in
       let f : Found (a .g) ≡ Found (b .g) = sym (a .found) ∙ ap (λ (x : ℕ). lookupOf x macros) p ∙ ap (lookupOf part′) m ∙ b .found in
-      let g : a .g ≡ b .g = cc f in (
-        sym (a .header)
-            ∙ ap (λ (x : ℕ). headerOf x macros (gathered InHeader (sectionsOf (a .g)) (a .stream))) p
-            ∙ ap (λ (x : ℕ). headerOf part′ x (gathered InHeader (sectionsOf (a .g)) (a .stream))) m
-            ∙ ap (λ (x : Geometry). headerOf part′ macros′ (gathered InHeader (sectionsOf x) (a .stream))) g
-            ∙ ap (λ (x : List ℕ). headerOf part′ macros′ (gathered InHeader (sectionsOf (b .g)) x)) same-stream
-            ∙ b .header,
-        sym (a .image)
-            ∙ ap (λ (x : Geometry). imageIn x (a .stream)) g
-            ∙ ap (imageIn (b .g)) same-stream
-            ∙ b .image,
-      )
+      let g : a .g ≡ b .g = cc f in
+      (sym (a .header) ∙ rw (p, m, g, same-stream) refl ∙ b .header, sym (a .image) ∙ rw (g, same-stream) refl ∙ b .image)
 
   -- and the ID tells the part
   pub one-taken : (h ≡ h′) × (bytes ≡ bytes′)

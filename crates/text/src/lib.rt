@@ -85,8 +85,8 @@ fn spell_pairs(row: &mut [u8], text: &[u8], p: usize, k: usize) -> PairRun
 
 // Spells k pairs from p on into the row, up to the first that is none; nothing where they lie past the text or the row.
 pub fn spell(row: &mut [u8], text: &[u8], p: usize, k: usize) -> PairRun
-    ensures { λ r. ⌜ r ≡ pairRunOf (now (text .entry)) p k (length (now (row .entry))) ⌝ }
-    ensures { λ _. ⌜ now (row .exit) ≡ rowAfter (now (row .entry)) (now (text .entry)) p k ⌝ }
+    ensures run { λ r. ⌜ r ≡ pairRunOf (now (text .entry)) p k (length (now (row .entry))) ⌝ }
+    ensures row { λ _. ⌜ now (row .exit) ≡ rowAfter (now (row .entry)) (now (text .entry)) p k ⌝ }
 {
     if 260 < k {
         return PairRun {
@@ -117,7 +117,7 @@ pub fn spell(row: &mut [u8], text: &[u8], p: usize, k: usize) -> PairRun
 
 // How many characters the line end at a position has: LF 1, CR LF 2, none 0.
 pub fn line_end(text: &[u8], at: usize) -> usize
-    ensures { λ r. ⌜ r ≡ lineEnd (now (text .entry)) at ⌝ }
+    ensures end { λ r. ⌜ r ≡ lineEnd (now (text .entry)) at ⌝ }
 {
     if text.len() <= at {
         return 0;
@@ -154,7 +154,7 @@ fn copy(part: &mut [u8], to: usize, row: &[u8], from: usize, n: usize)
 // The section filler: puts n bytes of the row, from `from` on, at an offset of the part, and nothing where the row or the part is too short.
 // What is lent is just the part of the buffer that the section lies in.
 pub fn fill(part: &mut [u8], to: usize, row: &[u8], from: usize, n: usize)
-    ensures { λ _. ⌜ now (part .exit) ≡ storedAt (now (part .entry)) to (now (row .entry)) from n ⌝ }
+    ensures part { λ _. ⌜ now (part .exit) ≡ storedAt (now (part .entry)) to (now (row .entry)) from n ⌝ }
 {
     if row.len() < n {
         return;
@@ -173,7 +173,7 @@ pub fn fill(part: &mut [u8], to: usize, row: &[u8], from: usize, n: usize)
 
 // Zeroes the first n bytes, where there are so many.
 pub fn clear(bytes: &mut [u8], n: usize)
-    ensures { λ _. ⌜ now (bytes .exit) ≡ cleared n (now (bytes .entry)) ⌝ }
+    ensures cleared { λ _. ⌜ now (bytes .exit) ≡ cleared n (now (bytes .entry)) ⌝ }
 {
     if bytes.len() < n {
         return;
@@ -187,7 +187,7 @@ pub fn clear(bytes: &mut [u8], n: usize)
 
 // A refusal: its number, and a header of zeros.
 pub fn refusal(number: u8) -> ReadAnswer
-    ensures { λ r. ⌜ r ≡ record { number = number; header = noHeader } ⌝ }
+    ensures answer { λ r. ⌜ r ≡ record { number = number; header = noHeader } ⌝ }
 {
     ReadAnswer {
         number,
@@ -203,8 +203,8 @@ pub fn refusal(number: u8) -> ReadAnswer
 
 // Checks an image that was read: its header, or the number of what is wrong with it and zeros in its place.
 pub fn settle(part: u8, macros: u8, header: [u8; 15], image: &mut [u8]) -> ReadAnswer
-    ensures { λ r. ⌜ r ≡ answerOf (settled part macros header (now (image .entry))) ⌝ }
-    ensures { λ _. ⌜ now (image .exit) ≡ bufferAfter (settled part macros header (now (image .entry))) (now (image .entry)) ⌝ }
+    ensures answer { λ r. ⌜ r ≡ answerOf (settled part macros header (now (image .entry))) ⌝ }
+    ensures image { λ _. ⌜ now (image .exit) ≡ bufferAfter (settled part macros header (now (image .entry))) (now (image .entry)) ⌝ }
 {
     let h = sections::header_of(part, macros, header);
     let number = image::check(h, image);

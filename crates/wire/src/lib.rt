@@ -33,7 +33,7 @@ pub enum Ack {
 
 // The parity bit of a word: 1 when the word has an odd number of ones.
 pub fn parity_of(word: u32) -> u8
-    ensures { λ r. ⌜ r ≡ parity word ⌝ }
+    ensures parity { λ r. ⌜ r ≡ parity word ⌝ }
 {
     (u32::count_ones(word) % 2) as u8
 }
@@ -66,7 +66,7 @@ fn four_bits(r: Register, a: Access) -> u32
 
 // The request byte of a transfer.
 pub fn request_byte(r: Register, a: Access) -> u8
-    ensures { λ b. ⌜ b ≡ requestByte r a ⌝ }
+    ensures request { λ b. ⌜ b ≡ requestByte r a ⌝ }
 {
     let bits = four_bits(r, a);
     let parity = parity_of(bits);
@@ -75,7 +75,8 @@ pub fn request_byte(r: Register, a: Access) -> u8
 
 // The reading of an acknowledgement.
 pub fn read_ack(n: u8) -> Ack
-    ensures { λ a. ⌜ a ≡ ackOf n ⌝ ∗ ⌜ isAck a n ≡ true ⌝ }
+    ensures ack { λ a. ⌜ a ≡ ackOf n ⌝ }
+    ensures told { λ a. ⌜ isAck a n ≡ true ⌝ }
 {
     match n {
         1 => Ack::Okay,

@@ -5,6 +5,7 @@ use lib.ListN.{take}
 use lib.Seq.{length-take-le}
 use borrow.Author.Tests.{not-true, not-false}
 use Rattle.calls.proofs.Called.{leaves-as, step-other, step-refused, step-went}
+use Rattle.encoding.proofs.Spelled.{session-found}
 use borrow.Author.Needs.{needs}
 use Rattle.core_c.proofs.step_on.Statement.{statement}
 use Rattle.core_c.proofs.step_on.Tie as tie
@@ -31,7 +32,7 @@ returns-2 c =
     let start = tested .before .before .before .before .before .before in
     let a = start .args in
     let is = tested .before .is-session in
-    step-refused (a .bytes .now) (a .image .now) (a .a) (a .outcome .now) (start .pre) _ _ _ _ (sym (is .ensures) ∙ not-false (is .result) (tested .if1 .left)) (lending .before .session-in .ensures (start .pre)) (ap (λ (k : ℕ). take k (a .image .now)) (lending .lent-with .ensures .0)) (stepping .step .ensures) (c .before .number-of .ensures) _ (c .if2 .taken) (c .before .before .before .before .put-outcome2 .ensures)
+    step-refused (a .bytes .now) (a .image .now) (a .a) (a .outcome .now) (start .pre) _ _ _ _ (sym (is .ensures) ∙ not-false (is .result) (tested .if1 .left)) (lending .before .session-in .ensures ∙ session-found (a .bytes .now) (start .pre)) (ap (λ (k : ℕ). take k (a .image .now)) (lending .lent-with .ensures .0)) (stepping .step .ensures) (c .before .number-of .ensures) _ (c .if2 .taken) (c .before .before .before .before .put-outcome2 .ensures)
 
 returns-3 : tie.Need-returns-3
 returns-3 c =
@@ -42,7 +43,7 @@ returns-3 c =
     let start = tested .before .before .before .before .before .before in
     let a = start .args in
     let is = tested .before .is-session in
-    step-went (a .bytes .now) (a .image .now) (a .a) (a .outcome .now) (start .pre) _ _ _ _ (sym (is .ensures) ∙ not-false (is .result) (tested .if1 .left)) (lending .before .session-in .ensures (start .pre)) (ap (λ (k : ℕ). take k (a .image .now)) (lending .lent-with .ensures .0)) (stepping .step .ensures) (counted .number-of .ensures) _ _ (c .before .before .before .before .before .if2 .left) (c .before .before .put-session .ensures) (counted .before .before .before .put-outcome2 .ensures)
+    step-went (a .bytes .now) (a .image .now) (a .a) (a .outcome .now) (start .pre) _ _ _ _ (sym (is .ensures) ∙ not-false (is .result) (tested .if1 .left)) (lending .before .session-in .ensures ∙ session-found (a .bytes .now) (start .pre)) (ap (λ (k : ℕ). take k (a .image .now)) (lending .lent-with .ensures .0)) (stepping .step .ensures) (counted .number-of .ensures) _ _ (c .before .before .before .before .before .if2 .left) (c .before .before .put-session .ensures) (counted .before .before .before .put-outcome2 .ensures)
 
 pub step-on-spec : {M : Type 1} → statement M
 step-on-spec =

@@ -2,7 +2,7 @@
 use mathlib.Core.Path.{refl}
 use Rattle.hex.specs.HexFormat.{hexFormat}
 use Rattle.text.proofs.Readings.{refused, whole}
-use Rattle.text.proofs.Sizes.{sized}
+use Rattle.text.proofs.Entries.{sized}
 use borrow.Author.Needs.{needs}
 use Rattle.hex.proofs.read_image.Statement.{statement}
 use Rattle.hex.proofs.read_image.Tie as tie

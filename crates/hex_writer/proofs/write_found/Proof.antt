@@ -6,7 +6,7 @@ use borrow.Author.Needs.{needs, length-unmapped}
 use Rattle.hex.specs.HexFormat.{hexFormat}
 use Rattle.hex_writer.proofs.Lengths.{text-length}
 use Rattle.text.proofs.Answers.{wrong-size, no-room, faulty, done}
-use Rattle.text.proofs.Sizes.{sized}
+use Rattle.text.proofs.Entries.{sized}
 use Rattle.text.specs.Sized.{Sized}
 use Rattle.hex_writer.proofs.write_found.Statement.{statement}
 use Rattle.hex_writer.proofs.write_found.Tie as tie

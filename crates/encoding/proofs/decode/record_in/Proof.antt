@@ -3,7 +3,8 @@ use mathlib.Core.List.{List}
 use mathlib.Core.Path.{ap}
 use Prim.Native.Nat.{ℕ, _+_, _*_}
 use native.Mathlib.Omega.{arith}
-use lib.ListN.{getD}
+use borrow.Author.Tests.{le-leb, lt-leb}
+use lib.ListN.{length, getD}
 use Rattle.sections.proofs.Sections.{spread-part, headerWith}
 use Rattle.encoding.specs.Records.{recordIn}
 use borrow.Author.Needs.{needs}
@@ -14,16 +15,16 @@ returns-2 : tie.Need-returns-2
 unfolding recordIn
 returns-2 c =
     let sums = c .before .before .before in
-    let b = sums .before .before .before .before .before .before .before .before .before .before .before .before .before .before .before .before .before .before .args .bytes .now in
-    λ enough.
-    rw (sums .wide2 .ensures .0, sums .before .before .wide .ensures .0)
-    (ap (λ (m : List ℕ). headerWith (getD b 0 0) (getD b 1 0) (getD b 2 0 + 256 * getD b 3 0) m (getD b 16 0)) (spread-part 4 12 b (omega (arith, enough))))
+    let tested = sums .before .before .before .before .before .before .before .before .before .before .before .before .before .before .before .before in
+    let b = tested .before .before .args .bytes .now in
+    rw (le-leb 17 (length b) (tested .if1 .left), sums .wide2 .ensures .0, sums .before .before .wide .ensures .0)
+    (ap (λ (m : List ℕ). headerWith (getD b 0 0) (getD b 1 0) (getD b 2 0 + 256 * getD b 3 0) m (getD b 16 0)) (spread-part 4 12 b (omega arith)))
 
 pub record-in-spec : {M : Type 1} → statement M
 record-in-spec =
     tie.close
     (tie.spec
-    (λ c enough. absurd (omega (arith, enough, c .if1 .taken)))
+    (λ c. rw (lt-leb 17 _ (c .if1 .taken)))
     (λ c. search needs)
     (λ c. search needs)
     (λ c. search needs)

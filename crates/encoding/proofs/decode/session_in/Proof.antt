@@ -1,17 +1,13 @@
 -- Field by field. Assumes nothing.
-use native.Mathlib.Omega.{arith}
-use Rattle.encoding.specs.Sessions.{sessionIn}
 use borrow.Author.Needs.{needs}
 use Rattle.encoding.proofs.decode.session_in.Statement.{statement}
 use Rattle.encoding.proofs.decode.session_in.Tie as tie
 
 returns : tie.Need-returns
-unfolding sessionIn
 returns c =
     let word = c .before .before .before in
     let entry = word .before .before .before in
     let header = entry .before .before in
-    λ enough.
     simp (
       c .byte-at4 .ensures,
       c .before .byte-at3 .ensures,
@@ -21,7 +17,7 @@ returns c =
       word .before .before .word-at .ensures,
       entry .entry-in .ensures,
       entry .before .byte-at .ensures,
-      header .record-in .ensures (omega (arith, enough)),
+      header .record-in .ensures,
     )
 
 pub session-in-spec : {M : Type 1} → statement M
