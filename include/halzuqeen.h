@@ -17,7 +17,7 @@
  * refusal. An output that is under size stays as it was, since there is no room in it. A refused step leaves the session as it got it.
  *
  * What is proved, for every content and length of the buffers: the number returned and every byte of every buffer after the call equal
- * the definitions of crates/core_c/specs/Calls.antt. What a caller owes: each pointer is good for its length (with length 0 it is not
+ * the definitions of crates/calls/specs/Calls.antt. What a caller owes: each pointer is good for its length (with length 0 it is not
  * looked at), and during a call no buffer that the call may write overlaps another and no other thread uses it. */
 #ifndef HALZUQEEN_H
 #define HALZUQEEN_H
