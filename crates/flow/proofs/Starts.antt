@@ -24,7 +24,7 @@ calm-calls (o ∷ os) h = calmCall (h 0 .0) (h 0 .1) (calm-calls os (λ j. h (su
 pub free-starts : FreeStarts
 free-starts = record {
   board =
-      λ g x m ps e a q t p w ids sizes level. record {
+      λ g b ids sizes level quiet. record {
         flash = sizes .flash;
         locks = sizes .locks;
         latch = sizes .latch;
@@ -34,7 +34,7 @@ free-starts = record {
         revision = ids .revision;
         family = ids .family;
         level = level;
-        quiet = refl;
+        quiet = quiet;
       };
   image = λ g h bytes found checked small. record { found = found; checked = checked; small = small };
   calm = λ l line calls. record { line = calm-line (l .line) line; calls = calm-calls (l .calls) calls };

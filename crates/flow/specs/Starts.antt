@@ -19,21 +19,6 @@ use Rattle.parts.specs.Sizes.{rowBytes, flashSize, lockTotal}
 use Rattle.parts.specs.declared.Geometry.{Geometry}
 use Rattle.parts.specs.declared.Lookup.the-variants.{Found}
 
--- a board on which no call runs; level in effect, PARAMS, registers and the posted word are given
-abbrev pub boardOf : Silicon → Memory → (params : List ℕ) → (effect sysarg sysreq testMode tar posted : ℕ) → Target
-boardOf x m ps e a q t p w = record {
-  silicon = x;
-  memory = m;
-  effect = e;
-  params = ps;
-  sysarg = a;
-  sysreq = q;
-  testMode = t;
-  tar = p;
-  posted = w;
-  running = idle;
-}
-
 pub record ByteIDs (x : Silicon) : Type 0 where
   pub high : x .high < 256
   pub low : x .low < 256
@@ -47,10 +32,10 @@ pub record SizesOf (g : Geometry) (m : Memory) (words : List ℕ) : Type 0 where
   pub params : 2 + rowBytes g / 4 ≤ length words
 
 pub record FreeStarts : Type 0 where
-  -- 'Sizes and addresses are those of the image's part and M; the IDs .. are free', and so is all else but the stored level
-  pub board : (g : Geometry) (x : Silicon) (m : Memory) (params : List ℕ) (effect sysarg sysreq testMode tar posted : ℕ) → ByteIDs x → SizesOf g m params
-      → (m .stored ≡ 1) ⊎ (m .stored ≡ 2)
-      → Startable g (boardOf x m params effect sysarg sysreq testMode tar posted)
+  -- 'Sizes and addresses are those of the image's part and M; the IDs .. are free', and so is all else but the stored level and that no call runs
+  pub board : (g : Geometry) (b : Target) → ByteIDs (b .silicon) → SizesOf g (b .memory) (b .params) → (b .memory .stored ≡ 1) ⊎ (b .memory .stored ≡ 2)
+      → b .running ≡ idle
+      → Startable g b
   -- 'an image that document 01's checks let pass'
   pub image : (g : Geometry) (h : Header) (bytes : List ℕ) → lookupOf (h .part) (h .macros) ≡ Found g → imageFault h bytes ≡ 0
       → ((j : ℕ) → getD bytes j 0 < 256)
