@@ -3,11 +3,8 @@ use borrow.Author.Needs.{needs}
 use Rattle.session.proofs.give.Statement.{statement}
 use Rattle.session.proofs.give.Tie as tie
 
-outcome-of-requires : tie.Need-outcome-of-requires
-outcome-of-requires c κs = search needs
-
 returns : tie.Need-returns
 returns c = simp (c .outcome-of .ensures)
 
 pub give-spec : {M : Type 1} → statement M
-give-spec = tie.close (tie.spec outcome-of-requires returns)
+give-spec = tie.close (tie.spec (λ c κs. search needs) returns)

@@ -10,12 +10,6 @@ use Rattle.session.proofs.outcome_of.Tie as tie
 returns : tie.Need-returns
 returns c = simp (c .if1 .taken)
 
-move-at-requires : tie.Need-move-at-requires
-move-at-requires c κs = search needs
-
-packet-of-requires : tie.Need-packet-of-requires
-packet-of-requires c κs = search needs
-
 returns-2 : tie.Need-returns-2
 returns-2 c =
     let a = c .before .before .before .before .before .before .args in
@@ -25,4 +19,4 @@ returns-2 c =
     simp (c .before .before .before .before .if1 .left, c .packet-of .ensures, is)
 
 pub outcome-of-spec : {M : Type 1} → statement M
-outcome-of-spec = tie.close (tie.spec returns move-at-requires packet-of-requires returns-2)
+outcome-of-spec = tie.close (tie.spec returns (λ c κs. search needs) (λ c κs. search needs) returns-2)

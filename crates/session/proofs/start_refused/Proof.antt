@@ -3,11 +3,8 @@ use borrow.Author.Needs.{needs}
 use Rattle.session.proofs.start_refused.Statement.{statement}
 use Rattle.session.proofs.start_refused.Tie as tie
 
-first-session-requires : tie.Need-first-session-requires
-first-session-requires c κs = search needs
-
 returns : tie.Need-returns
 returns c = simp (c .first-session .ensures)
 
 pub start-refused-spec : {M : Type 1} → statement M
-start-refused-spec = tie.close (tie.spec first-session-requires returns)
+start-refused-spec = tie.close (tie.spec (λ c κs. search needs) returns)

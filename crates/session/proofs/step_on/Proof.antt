@@ -27,17 +27,8 @@ the-move c =
     c .move-at .ensures
     ∙ move-found (a .g) (a .s .header) (a .bytes .now) (a .s .position .entry) (a .s .position .at) (a .s .header .part) (a .s .header .macros) (pre .found) (pre .size)
 
-give-requires : tie.Need-give-requires
-give-requires c κs = search needs
-
 returns : tie.Need-returns
 returns c = simp (c .give .ensures, c .before .if1 .taken)
-
-move-at-requires : tie.Need-move-at-requires
-move-at-requires c κs = search needs
-
-answer-fits-requires : tie.Need-answer-fits-requires
-answer-fits-requires c κs = search needs
 
 advanced-requires : tie.Need-advanced-requires
 advanced-requires c κs =
@@ -70,9 +61,6 @@ returns-2 c =
     ∙ ap (λ (h : Header). giving (imageOf (a .g) h (a .bytes .now)) (resumed (a .g) (a .s) (stepOf i (standOf (a .s)) (a .a)))) (header-kept (a .g) (a .s) _)
     ∙ sym (on-fit (a .g) (a .s) (a .bytes .now) (a .a) goes fit)
 
-refuse-requires : tie.Need-refuse-requires
-refuse-requires c κs = search needs
-
 returns-3 : tie.Need-returns-3
 returns-3 c =
     let a = c .before .before .before .before .before .before .before .before .args in
@@ -84,12 +72,12 @@ pub step-on-spec : {M : Type 1} → statement M
 step-on-spec =
     tie.close
     (tie.spec
-    give-requires
+    (λ c κs. search needs)
     returns
-    move-at-requires
-    answer-fits-requires
+    (λ c κs. search needs)
+    (λ c κs. search needs)
     advanced-requires
     give-requires-2
     returns-2
-    refuse-requires
+    (λ c κs. search needs)
     returns-3)

@@ -5,24 +5,6 @@ use borrow.Author.Needs.{needs}
 use Rattle.words.proofs.ids_fit.Statement.{statement}
 use Rattle.words.proofs.ids_fit.Tie as tie
 
-cast-if1 : tie.Need-cast-if1
-cast-if1 c = search needs
-
-array-read-if1 : tie.Need-array-read-if1
-array-read-if1 c = search needs
-
-cast-if2 : tie.Need-cast-if2
-cast-if2 c = search needs
-
-array-read-if2 : tie.Need-array-read-if2
-array-read-if2 c = search needs
-
-cast-low-fits : tie.Need-cast-low-fits
-cast-low-fits c = search needs
-
-low-fits-requires : tie.Need-low-fits-requires
-low-fits-requires c κs = search needs
-
 returns : tie.Need-returns
 unfolding idsFit
 returns c = simp (eq-eqb _ _ (c .before .before .if1 .taken), eq-eqb _ _ (c .before .if2 .taken), ← c .low-fits .ensures)
@@ -39,12 +21,12 @@ pub ids-fit-spec : {M : Type 1} → statement M
 ids-fit-spec =
     tie.close
     (tie.spec
-    cast-if1
-    array-read-if1
-    cast-if2
-    array-read-if2
-    cast-low-fits
-    low-fits-requires
+    (λ c. search needs)
+    (λ c. search needs)
+    (λ c. search needs)
+    (λ c. search needs)
+    (λ c. search needs)
+    (λ c κs. search needs)
     returns
     returns-2
     returns-3)

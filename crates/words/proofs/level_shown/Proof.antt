@@ -6,9 +6,6 @@ use borrow.Author.Needs.{needs}
 use Rattle.words.proofs.level_shown.Statement.{statement}
 use Rattle.words.proofs.level_shown.Tie as tie
 
-cast-n : tie.Need-cast-n
-cast-n c = search needs
-
 returns : tie.Need-returns
 unfolding levelShown
 returns c = simp (eq-eqb (c .before .args .w / 0x1000000 % 16) 0 (c .match .keys1))
@@ -22,4 +19,4 @@ unfolding levelShown
 returns-3 c = simp (ne-eqb _ _ (c .match .rest .0 .1), ne-eqb _ _ (c .match .rest .1))
 
 pub level-shown-spec : {M : Type 1} → statement M
-level-shown-spec = tie.close (tie.spec cast-n returns returns-2 returns-3)
+level-shown-spec = tie.close (tie.spec (λ c. search needs) returns returns-2 returns-3)

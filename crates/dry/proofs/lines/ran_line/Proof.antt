@@ -2,30 +2,6 @@ use borrow.Author.Needs.{needs}
 use Rattle.dry.proofs.lines.ran_line.Statement.{statement}
 use Rattle.dry.proofs.lines.ran_line.Tie as tie
 
-enum-known-ran : tie.Need-enum-known-ran
-enum-known-ran c = search needs
-
-slice-aggregate-spell-line : tie.Need-slice-aggregate-spell-line
-slice-aggregate-spell-line c = search needs
-
-cast-spell-line : tie.Need-cast-spell-line
-cast-spell-line c = search needs
-
-spell-line-requires : tie.Need-spell-line-requires
-spell-line-requires c κs = search needs
-
-enum-known-ran-2 : tie.Need-enum-known-ran-2
-enum-known-ran-2 c = search needs
-
-slice-aggregate-spell-line-2 : tie.Need-slice-aggregate-spell-line-2
-slice-aggregate-spell-line-2 c = search needs
-
-cast-spell-line-2 : tie.Need-cast-spell-line-2
-cast-spell-line-2 c = search needs
-
-spell-line-requires-2 : tie.Need-spell-line-requires-2
-spell-line-requires-2 c κs = search needs
-
 returns : tie.Need-returns
 returns c =
     let e = c .spell-line .ensures in
@@ -40,13 +16,13 @@ pub ran-line-spec : {M : Type 1} → statement M
 ran-line-spec =
     tie.close
     (tie.spec
-    enum-known-ran
-    slice-aggregate-spell-line
-    cast-spell-line
-    spell-line-requires
-    enum-known-ran-2
-    slice-aggregate-spell-line-2
-    cast-spell-line-2
-    spell-line-requires-2
+    (λ c. search needs)
+    (λ c. search needs)
+    (λ c. search needs)
+    (λ c κs. search needs)
+    (λ c. search needs)
+    (λ c. search needs)
+    (λ c. search needs)
+    (λ c κs. search needs)
     returns
     returns-2)

@@ -8,35 +8,17 @@ use borrow.Author.Needs.{needs}
 use Rattle.dry.proofs.lines.spell_line.Statement.{statement}
 use Rattle.dry.proofs.lines.spell_line.Tie as tie
 
-decimal-requires : tie.Need-decimal-requires
-decimal-requires c κs = search needs
-
-put-requires : tie.Need-put-requires
-put-requires c κs = search needs
-
-array-share-prefix-number : tie.Need-array-share-prefix-number
-array-share-prefix-number c = search needs
-
-slice-aggregate-put : tie.Need-slice-aggregate-put
-slice-aggregate-put c = search needs
-
 put-requires-2 : tie.Need-put-requires-2
 put-requires-2 c κs = (
   omega (arith, few-places (c .before .before .before .before .before .before .before .before .before .before .args .n) (c .before .before .before .before .before .before .decimal .result) (c .before .before .before .before .before .before .before .before .before .before .fits .n .fits) (c .before .before .before .before .before .before .decimal .ensures .1 .0), c .before .before .before .before .before .before .decimal .ensures .0 .1, c .before .before .before .before .before .before .before .before .before .before .pre .0, c .before .before .before .before .before .before .before .before .before .before .pre .1, c .before .before .before .before .put .ensures .0, c .before .before .before .before .put .kept .0),
   omega (arith, few-places (c .before .before .before .before .before .before .before .before .before .before .args .n) (c .before .before .before .before .before .before .decimal .result) (c .before .before .before .before .before .before .before .before .before .before .fits .n .fits) (c .before .before .before .before .before .before .decimal .ensures .1 .0), c .before .before .before .before .before .before .decimal .ensures .0 .1, c .before .before .before .before .before .before .before .before .before .before .pre .0, c .before .before .before .before .before .before .before .before .before .before .pre .1, c .before .before .before .before .put .ensures .0, c .before .before .before .before .put .kept .0),
 )
 
-slice-aggregate-put-2 : tie.Need-slice-aggregate-put-2
-slice-aggregate-put-2 c = search needs
-
 put-requires-3 : tie.Need-put-requires-3
 put-requires-3 c κs = (
   omega (arith, few-places (c .before .before .before .before .before .before .before .before .before .before .before .before .before .before .before .args .n) (c .before .before .before .before .before .before .before .before .before .before .before .decimal .result) (c .before .before .before .before .before .before .before .before .before .before .before .before .before .before .before .fits .n .fits) (c .before .before .before .before .before .before .before .before .before .before .before .decimal .ensures .1 .0), c .before .before .before .before .before .before .before .before .before .before .before .decimal .ensures .0 .1, c .before .before .before .before .before .before .before .before .before .before .before .before .before .before .before .pre .0, c .before .before .before .before .before .before .before .before .before .before .before .before .before .before .before .pre .1, c .before .before .before .before .before .before .before .before .before .put .ensures .0, c .before .before .before .before .before .before .before .before .before .put .kept .0, c .before .before .before .before .put2 .ensures .0, c .before .before .before .before .put2 .kept .0),
   omega (arith, few-places (c .before .before .before .before .before .before .before .before .before .before .before .before .before .before .before .args .n) (c .before .before .before .before .before .before .before .before .before .before .before .decimal .result) (c .before .before .before .before .before .before .before .before .before .before .before .before .before .before .before .fits .n .fits) (c .before .before .before .before .before .before .before .before .before .before .before .decimal .ensures .1 .0), c .before .before .before .before .before .before .before .before .before .before .before .decimal .ensures .0 .1, c .before .before .before .before .before .before .before .before .before .before .before .before .before .before .before .pre .0, c .before .before .before .before .before .before .before .before .before .before .before .before .before .before .before .pre .1, c .before .before .before .before .before .before .before .before .before .put .ensures .0, c .before .before .before .before .before .before .before .before .before .put .kept .0, c .before .before .before .before .put2 .ensures .0, c .before .before .before .before .put2 .kept .0),
 )
-
-same-length : tie.Need-same-length
-same-length c = search needs
 
 returns : tie.Need-returns
 returns c =
@@ -57,12 +39,12 @@ pub spell-line-spec : {M : Type 1} → statement M
 spell-line-spec =
     tie.close
     (tie.spec
-    decimal-requires
-    put-requires
-    array-share-prefix-number
-    slice-aggregate-put
+    (λ c κs. search needs)
+    (λ c κs. search needs)
+    (λ c. search needs)
+    (λ c. search needs)
     put-requires-2
-    slice-aggregate-put-2
+    (λ c. search needs)
     put-requires-3
-    same-length
+    (λ c. search needs)
     returns)

@@ -3,15 +3,6 @@ use borrow.Author.Needs.{needs}
 use Rattle.session.proofs.bounds.header_fits.Statement.{statement}
 use Rattle.session.proofs.bounds.header_fits.Tie as tie
 
-version-fits-requires : tie.Need-version-fits-requires
-version-fits-requires c κs = search needs
-
-id-fits-requires : tie.Need-id-fits-requires
-id-fits-requires c κs = search needs
-
-level-fits-requires : tie.Need-level-fits-requires
-level-fits-requires c κs = search needs
-
 returns : tie.Need-returns
 returns c = simp (← c .level-fits .ensures, ← c .before .before .id-fits .ensures, ← c .before .before .before .before .version-fits .ensures, c .before .if2 .taken, c .before .before .before .if1 .taken)
 
@@ -25,9 +16,9 @@ pub header-fits-spec : {M : Type 1} → statement M
 header-fits-spec =
     tie.close
     (tie.spec
-    version-fits-requires
-    id-fits-requires
-    level-fits-requires
+    (λ c κs. search needs)
+    (λ c κs. search needs)
+    (λ c κs. search needs)
     returns
     returns-2
     returns-3)

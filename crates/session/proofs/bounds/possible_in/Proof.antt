@@ -5,32 +5,17 @@ use borrow.Author.Needs.{needs}
 use Rattle.session.proofs.bounds.possible_in.Statement.{statement}
 use Rattle.session.proofs.bounds.possible_in.Tie as tie
 
-header-fits-requires : tie.Need-header-fits-requires
-header-fits-requires c κs = search needs
-
 returns : tie.Need-returns
 unfolding possibleIn
 returns c = simp (← c .before .header-fits .ensures, not-true (c .before .header-fits .result) (c .if1 .taken))
-
-most-transfers-requires : tie.Need-most-transfers-requires
-most-transfers-requires c κs = search needs
-
-cast-if2 : tie.Need-cast-if2
-cast-if2 c = search needs
 
 returns-2 : tie.Need-returns-2
 unfolding possibleIn
 returns-2 c = simp (← c .before .before .before .before .header-fits .ensures, not-false (c .before .before .before .before .header-fits .result) (c .before .before .before .if1 .left), ← c .before .before .most-transfers .ensures, lt-leb _ _ (c .if2 .taken))
 
-report-fits-requires : tie.Need-report-fits-requires
-report-fits-requires c κs = search needs
-
 returns-3 : tie.Need-returns-3
 unfolding possibleIn
 returns-3 c = simp (← c .before .before .before .before .before .before .header-fits .ensures, not-false (c .before .before .before .before .before .before .header-fits .result) (c .before .before .before .before .before .if1 .left), ← c .before .before .before .before .most-transfers .ensures, le-leb _ _ (c .before .before .if2 .left), c .before .if3 .taken, ← c .report-fits .ensures)
-
-running-fits-requires : tie.Need-running-fits-requires
-running-fits-requires c κs = search needs
 
 returns-4 : tie.Need-returns-4
 unfolding possibleIn
@@ -40,12 +25,12 @@ pub possible-in-spec : {M : Type 1} → statement M
 possible-in-spec =
     tie.close
     (tie.spec
-    header-fits-requires
+    (λ c κs. search needs)
     returns
-    most-transfers-requires
-    cast-if2
+    (λ c κs. search needs)
+    (λ c. search needs)
     returns-2
-    report-fits-requires
+    (λ c κs. search needs)
     returns-3
-    running-fits-requires
+    (λ c κs. search needs)
     returns-4)

@@ -15,9 +15,6 @@ or-false false = refl
 returns : tie.Need-returns
 returns c = simp (c .if1 .taken) (or-false (eqb (c .before .args .step) 9))
 
-is-failure-requires : tie.Need-is-failure-requires
-is-failure-requires c κs = search needs
-
 returns-2 : tie.Need-returns-2
 returns-2 c =
     let a = c .before .before .before .before .args in
@@ -34,4 +31,4 @@ returns-4 c =
     simp (ne-eqb (a .number) 0 (c .before .before .if1 .left), ← c .before .is-failure .ensures, c .if2 .left)
 
 pub report-fits-spec : {M : Type 1} → statement M
-report-fits-spec = tie.close (tie.spec returns is-failure-requires returns-2 returns-3 returns-4)
+report-fits-spec = tie.close (tie.spec returns (λ c κs. search needs) returns-2 returns-3 returns-4)

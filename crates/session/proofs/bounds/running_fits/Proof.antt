@@ -4,12 +4,6 @@ use borrow.Author.Needs.{needs}
 use Rattle.session.proofs.bounds.running_fits.Statement.{statement}
 use Rattle.session.proofs.bounds.running_fits.Tie as tie
 
-cast-if1 : tie.Need-cast-if1
-cast-if1 c = search needs
-
-move-count-requires : tie.Need-move-count-requires
-move-count-requires c κs = search needs
-
 returns : tie.Need-returns
 returns c = simp (← c .before .before .before .before .before .before .move-count .ensures, lt-ltb _ _ (c .before .before .before .before .before .if1 .taken), le-leb _ _ (c .before .before .before .if2 .taken), lt-ltb _ _ (c .before .if3 .taken))
 
@@ -24,4 +18,4 @@ returns-4 c = simp (← c .before .move-count .ensures, le-ltb _ _ (c .if1 .left
 
 pub running-fits-spec : {M : Type 1} → statement M
 running-fits-spec =
-    tie.close (tie.spec cast-if1 move-count-requires returns returns-2 returns-3 returns-4)
+    tie.close (tie.spec (λ c. search needs) (λ c κs. search needs) returns returns-2 returns-3 returns-4)
