@@ -4,13 +4,16 @@ use borrow.Author.Needs.{needs}
 use Rattle.session.proofs.moving.resume.Statement.{statement}
 use Rattle.session.proofs.moving.resume.Tie as tie
 
+told : tie.Need-enum-known-next
+told c = search needs
+
 pub resume-spec : {M : Type 1} → statement M
 unfolding resumed
 resume-spec =
     tie.close
     (tie.spec
     (λ c κs. search needs)
-    (λ c. search needs)
+    told
     (λ c κs. search needs)
     (λ c κs. search needs)
     (λ c. search needs)
