@@ -1,6 +1,6 @@
 -- By whether 0x0D opens a PROTECTED board. Assumes nothing.
 use mathlib.Core.Path.{sym, ap, _∙_}
-use Prim.Native.Nat.{ℕ, _%_}
+use Prim.Native.Nat.{_%_}
 use native.Mathlib.Omega.{arith}
 use Rattle.bench_memory.proofs.Effecting.{reopened, protected, either-small}
 use borrow.Author.Needs.{needs}
