@@ -92,7 +92,13 @@ fn answer(r: Registers, q: Request, e: LineEvent, barred: bool) -> Reply
     if r.effect == 4 {
         return bench_lines::silent_reply(filler);
     }
-    bench_lines::reply_to(outcome, barred, flow::is_read(q), given_word(r, q), filler)
+    bench_lines::reply_to(
+        outcome,
+        barred,
+        requests::is_read(q),
+        given_word(r, q),
+        filler,
+    )
 }
 
 // Whether a transfer is carried out: the board is not KILLed, the place not shut, and the line lets it through.

@@ -7,7 +7,7 @@ use Rattle.flow.specs.Judgements.{JudgeExamples}
 use Rattle.flow.specs.Mishaps.{WordMishaps, LineMishaps}
 use Rattle.flow.specs.OrderExamples.{OrderExamples}
 use Rattle.flow.specs.SealingExamples.{SealingExamples}
-use Rattle.flow.specs.SessionExamples.{MoveExamples, SessionExamples}
+use Rattle.flow.specs.SessionExamples.{MoveExamples, AnswerExamples, SessionExamples}
 use Rattle.flow.specs.Starts.{FreeStarts, MostExamples}
 use Rattle.flow.proofs.BoardExamples.{transfer-examples, noise-examples, packet-examples, reset-examples, call-examples}
 use Rattle.flow.proofs.Examples.{key-examples}
@@ -15,7 +15,7 @@ use Rattle.flow.proofs.Judgements.{judge-examples}
 use Rattle.flow.proofs.Mishaps.{word-mishaps, line-mishaps}
 use Rattle.flow.proofs.OrderExamples.{order-examples}
 use Rattle.flow.proofs.SealingExamples.{sealing-examples}
-use Rattle.flow.proofs.SessionExamples.{move-examples, session-examples}
+use Rattle.flow.proofs.SessionExamples.{move-examples, answer-examples, session-examples}
 use Rattle.flow.proofs.Starts.{free-starts, most-examples}
 use Rattle.wire.specs.Examples.{Each}
 
@@ -23,6 +23,7 @@ pub record Accepted : Type 0 where
   pub keys : Each (p5 ∷ p6 ∷ p7 ∷ [])
   pub moves : MoveExamples
   pub judgements : JudgeExamples
+  pub answers : AnswerExamples
   pub steps : SessionExamples
   pub words : WordMishaps
   pub line : LineMishaps
@@ -41,6 +42,7 @@ accepted = record {
   keys = key-examples;
   moves = move-examples;
   judgements = judge-examples;
+  answers = answer-examples;
   steps = session-examples;
   words = word-mishaps;
   line = line-mishaps;

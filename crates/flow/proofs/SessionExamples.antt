@@ -7,7 +7,7 @@ use Rattle.flow.specs.Judge.{judge}
 use Rattle.flow.specs.Packets.{verdict, heard, broken}
 use Rattle.flow.specs.Sequence.{sequence, opening, acquire, silicon, call, write, read, writes, listed, inTurn, imoCall, privileged, programRow, program, lockMacro, verifyMacro, afterwards}
 use Rattle.flow.specs.Session.{stepOf}
-use Rattle.flow.specs.SessionExamples.{MoveExamples, Ends, SessionExamples}
+use Rattle.flow.specs.SessionExamples.{MoveExamples, AnswerExamples, Ends, SessionExamples}
 use Rattle.flow.proofs.Mishaps.{right, right-idcode}
 use Rattle.lent.specs.Words.{wordAt, wordsAt}
 use Rattle.parts.specs.Sizes.{rowsOf, locksIn, lockStart}
@@ -32,6 +32,9 @@ move-examples = record {
   lock = refl;
   locks = refl;
 }
+
+pub answer-examples : AnswerExamples
+answer-examples = record { xres = refl; lineReset = refl; acknowledged = refl; read = refl; attempt = refl; written = refl; resetDone = refl }
 
 ends : (ack number : ℕ) → ((r : Bool) → heard r (ackOf ack) 0 0 ≡ broken number) → Ends ack number
 unfolding stepOf verdict

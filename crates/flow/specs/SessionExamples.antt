@@ -1,10 +1,12 @@
 -- How an answer moves a session on, by example: on each limit the answer that just goes on beside the one that ends it. Assumes nothing.
+use mathlib.Core.Bool.{true, false}
 use mathlib.Core.Path.{_≡_}
 use Prim.Native.Nat.{ℕ}
 use lib.ListN.{getD}
 use Rattle.flow.specs.Examples.{twoMacros}
 use Rattle.flow.specs.Judgements.{openImage}
 use Rattle.flow.specs.Mishaps.{answer, okayWith, wait}
+use Rattle.flow.specs.Packets.{answers}
 use Rattle.flow.specs.Sequence.{move, lockMacro, verifyMacro, afterwards, endMove}
 use Rattle.flow.specs.Session.{SessionState, running, reported, position, moveAt, stepOf}
 use Rattle.flow.specs.declared.Answer.{Answer}
@@ -13,7 +15,7 @@ use Rattle.flow.specs.declared.Counters.{Counters}
 use Rattle.flow.specs.declared.Entry.the-variants.{FromOpen, FromProtected}
 use Rattle.flow.specs.declared.Position.{Position}
 use Rattle.flow.specs.declared.Purpose.the-variants.{Sent, Idcode, Poll, Status}
-use Rattle.flow.specs.declared.Request.the-variants.{Xres, ReadIdcode, ReadDrw, WriteTar, WriteDrw, WriteSetup}
+use Rattle.flow.specs.declared.Request.the-variants.{Xres, LineReset, ReadIdcode, ReadDrw, WriteTar, WriteDrw, WriteSetup}
 use Rattle.wire.specs.declared.Register.the-variants.{CtrlStat}
 
 abbrev pub fromOpen : (at : ℕ) → Position
@@ -52,6 +54,16 @@ pub record MoveExamples : Type 0 where
   -- step 7 sends the image's level, here OPEN, for macro 0; step 8 reads macro 1's locks at their own address
   pub lock : getD (lockMacro openImage 0) 31 endMove ≡ move 7 (WriteDrw 0x0001E0B6) Sent
   pub locks : getD (verifyMacro twoMacros 1) 0 endMove ≡ move 8 (WriteTar 0x0FFFF400) Sent
+
+-- which answers are ones to a request (14): 'reset done' to a reset alone, and to a transfer every acknowledgement, silence too
+pub record AnswerExamples : Type 0 where
+  pub xres : answers Xres ResetDone ≡ true
+  pub lineReset : answers LineReset ResetDone ≡ true
+  pub acknowledged : answers Xres (answer 1 0 0) ≡ false
+  pub read : answers ReadDrw (answer 7 0 0) ≡ true
+  pub attempt : answers ReadIdcode (answer 0 0 0) ≡ true
+  pub written : answers (WriteTar 5) (answer 2 0 0) ≡ true
+  pub resetDone : answers (WriteDrw 5) ResetDone ≡ false
 
 -- an acknowledgement that ends the session with this number: at a stale read, at one whose word counts, at a write; not in an attempt
 pub record Ends (ack number : ℕ) : Type 0 where

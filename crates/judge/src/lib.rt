@@ -62,7 +62,7 @@ fn wait_again(c: Counters) -> Next
 fn on_broken(q: Request, c: Counters, number: u8) -> Next
     ensures { λ r. ⌜ r ≡ cond (isAttempt q) (tryAgain (ltb (suc (c .attempts)) 30) c) (Next.Stop number) ⌝ }
 {
-    if flow::requests::is_attempt(q) {
+    if requests::kinds::is_attempt(q) {
         try_again(c)
     } else {
         Next::Stop(number)
@@ -73,7 +73,7 @@ fn on_broken(q: Request, c: Counters, number: u8) -> Next
 fn on_wait(q: Request, c: Counters) -> Next
     ensures { λ r. ⌜ r ≡ cond (isAttempt q) (tryAgain (ltb (suc (c .attempts)) 30) c) (waitAgain (ltb (c .waits) 16) c) ⌝ }
 {
-    if flow::requests::is_attempt(q) {
+    if requests::kinds::is_attempt(q) {
         try_again(c)
     } else {
         wait_again(c)
@@ -84,7 +84,7 @@ fn on_wait(q: Request, c: Counters) -> Next
 fn settle(q: Request, c: Counters) -> Counters
     ensures { λ r. ⌜ r ≡ settled (isAttempt q) c ⌝ }
 {
-    let attempts = if flow::requests::is_attempt(q) {
+    let attempts = if requests::kinds::is_attempt(q) {
         0
     } else {
         c.attempts
@@ -104,7 +104,7 @@ fn on_okay(g: Geometry, h: Header, bytes: &[u8], m: Move, r: Reply, c: Counters)
     let q = m.request;
     let u = m.purpose;
     let s = settle(q, c);
-    if flow::is_read(q) {
+    if requests::is_read(q) {
         if r.parity == wire::parity_of(r.word) {
             return on_word(g, h, bytes, u, s, r.word);
         }
@@ -147,7 +147,7 @@ pub fn next(g: Geometry, h: Header, bytes: &[u8], m: Move, a: Answer, c: Counter
     ensures next { λ n. ⌜ n ≡ nextOf (imageOf g h (now (bytes .entry))) m a c ⌝ }
 {
     let q = m.request;
-    if flow::requests::is_reset(q) {
+    if requests::kinds::is_reset(q) {
         return Next::Go(Way::Onward, c);
     }
     let r = reply_in(a);

@@ -137,7 +137,7 @@ fn outcome_of(g: Geometry, s: Session, bytes: &[u8]) -> Outcome
     let y = p.entry;
     let m = moves::move_at(g, h, bytes, y, p.at);
     let q = m.request;
-    Outcome::Ask(flow::packet_of(q))
+    Outcome::Ask(requests::packet_of(q))
 }
 
 // A session with what stands in it.
@@ -176,7 +176,7 @@ fn step_on(g: Geometry, s: Session, bytes: &[u8], a: Answer) -> Given
     let y = p.entry;
     let m = moves::move_at(g, h, bytes, y, p.at);
     let q = m.request;
-    if flow::requests::answer_fits(q, a) {
+    if requests::kinds::answer_fits(q, a) {
         let t = advanced(g, s, bytes, m, a);
         return give(g, t, bytes);
     }

@@ -120,7 +120,7 @@ fn resume(g: Geometry, s: Session, next: Next, step: u8, count: u64) -> Session
 fn counted_by(q: Request, transfers: u32) -> u64
     ensures { λ r. ⌜ r ≡ counted q transfers ⌝ }
 {
-    if flow::requests::is_reset(q) {
+    if requests::kinds::is_reset(q) {
         return transfers as u64;
     }
     (transfers as u64) + 1

@@ -1,7 +1,7 @@
 -- Each arm's request decides `packetOf`. Assumes nothing.
 use borrow.Author.Needs.{needs}
-use Rattle.flow.proofs.packet_of.Statement.{statement}
-use Rattle.flow.proofs.packet_of.Tie as tie
+use Rattle.requests.proofs.packet_of.Statement.{statement}
+use Rattle.requests.proofs.packet_of.Tie as tie
 
 pub packet-of-spec : {M : Type 1} → statement M
 packet-of-spec =

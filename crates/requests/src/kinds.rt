@@ -1,8 +1,8 @@
 // What kind a request is, and which answers are ones to it.
 ghost use mathlib.Core.Path.{_≡_};
 ghost use Rattle.flow.specs.Packets.{isReset, isAttempt, answers};
-use crate::Answer;
-use crate::Request;
+use flow::Answer;
+use flow::Request;
 
 // Whether a request is a reset, which is no transfer.
 pub fn is_reset(q: Request) -> bool
