@@ -10,6 +10,7 @@ use lib.Dec.{eqb, ltb}
 use lib.ListN.{length, getD, replicate, length-replicate}
 use borrow.Author.Tests.{eq-eqb, ltb-true}
 use Rattle.flow.specs.Claim.{RunDemand3, OtherPartWitness, EarlyWitness, Achieved}
+use Rattle.flow.specs.Examples.{twoMacros}
 use Rattle.flow.specs.Monitor.{linkError}
 use Rattle.flow.specs.Terms.{Passes, Startable, RightPart, calmEnd, callsEnd, entryOf}
 use Rattle.flow.specs.Plan.{mostTraffic}
@@ -24,7 +25,7 @@ use Rattle.image.specs.Image.{imageOf, flashIn}
 use Rattle.image.specs.Refusals.{firstRefusal}
 use Rattle.image.specs.declared.Header.{Header}
 use Rattle.parts.proofs.Table.{both, everywhere, entry}
-use Rattle.parts.specs.Parts.{partTable, lookupOf, lowFits}
+use Rattle.parts.specs.Parts.{partTable, lookIn, lookupOf, lowFits}
 use Rattle.parts.specs.Sizes.{rowBytes, rowsOf, flashSize, lockTotal, imageSize}
 use Rattle.parts.specs.declared.Geometry.{Geometry}
 use Rattle.parts.specs.declared.Lookup.{Lookup}
@@ -255,3 +256,8 @@ module _ (part macros : ℕ) (g : Geometry) (e : lookupOf part macros ≡ Found 
 
   pub early-witness : EarlyWitness g
   early-witness = early g (looked-up part macros g e) 1 (inl refl)
+
+-- the table has entries: of part 3 with both macros
+pub witness-both-macros : Both twoMacros
+unfolding lookIn
+witness-both-macros = witness 3 2 twoMacros refl

@@ -9,7 +9,8 @@ use Rattle.flow.specs.declared.Move.{Move}
 use Rattle.flow.specs.declared.Request.{Request}
 use Rattle.flow.specs.declared.Request.the-variants.{Xres, LineReset, ReadIdcode, ReadDrw, WriteTar, WriteDrw, WriteSetup}
 use Rattle.image.specs.Image.{Image}
-use Rattle.parts.specs.Parts.{part3, resized}
+use Rattle.parts.specs.LockExamples.{resized}
+use Rattle.parts.specs.Parts.{part3}
 use Rattle.parts.specs.declared.Geometry.{Geometry}
 
 -- part 3 with smaller rows and so many smaller macros

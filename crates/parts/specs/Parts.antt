@@ -71,24 +71,6 @@ part3 = record {
   «level_word» = LOCKS + 128 - 4;
 }
 
--- a part with rows of l bytes, r of them in a macro, and at most n macros, all else as it is: for examples
-abbrev pub resized : (l r n : ℕ) → Part → Part
-resized l r n p = record {
-  number = p .number;
-  «row_bytes» = l;
-  «rows_per_macro» = r;
-  «most_macros» = n;
-  sysreq = p .sysreq;
-  imo = p .imo;
-  «id_high» = p .«id_high»;
-  «id_family» = p .«id_family»;
-  «id_low» = p .«id_low»;
-  «id_low_or» = p .«id_low_or»;
-  locks = p .locks;
-  «locks_step» = p .«locks_step»;
-  «level_word» = p .«level_word»;
-}
-
 abbrev pub partTable : List Part
 partTable = part1 ∷ part2 ∷ part3 ∷ []
 
