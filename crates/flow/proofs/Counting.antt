@@ -8,7 +8,7 @@ use lib.ListN.{length}
 use Rattle.flow.specs.Plan.{Traffic, counting, trafficIn, isPoll, pollsIn, fromProtected, lockPlan, plan, loops, acquisitions}
 use Rattle.flow.specs.Sequence.{write, read, call, writes, listed, inTurn, imoCall, acquire, silicon, privileged, programRow, compareWords, verifyRow, lockMacro, verifyMacro, macroDown, lockAndVerify, program, opening, afterwards, sequence, key}
 use Rattle.flow.specs.Session.{bare, moveCount}
-use Rattle.flow.specs.Totals.{SequenceCounts}
+use Rattle.flow.specs.Totals.{PlanMultiplied, SequenceCounts}
 use Rattle.flow.specs.declared.Entry.{Entry}
 use Rattle.flow.specs.declared.Entry.the-variants.{FromOpen, FromProtected}
 use Rattle.flow.specs.declared.Move.{Move}
@@ -246,7 +246,6 @@ unfolding lockPlan
 alike g zero = omega arith
 alike g (suc n) = rw (locks-alike g n) (omega (arith, alike g n, suc-mul n (24 + 5 * locksIn g 0 / 4)))
 
-pub plan-multiplied : (g : Geometry) (y : Entry) → plan g y
-    ≡ 69 + 10 * imoOf g + rowsOf g * (26 + 5 * rowBytes g / 4) + macrosOf g * (24 + 5 * locksIn g 0 / 4) + fromProtected y (26 + 10 * imoOf g)
+pub plan-multiplied : PlanMultiplied
 unfolding plan
 plan-multiplied g y = rw (alike g (macrosOf g))

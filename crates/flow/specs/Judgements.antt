@@ -69,7 +69,7 @@ pub record JudgeExamples : Type 0 where
   pub otherRow : judge openImage (FlashWord 1 4) (having 0 7) 0x08070605 ≡ Stop 22
   pub locks : judge openImage (LockWord 0 0) (having 0 7) 0x14131211 ≡ Go Onward (having 0 7)
   pub otherLocks : judge openImage (LockWord 0 0) (having 0 7) 0x14131210 ≡ Stop 23
-  -- 'top byte of the word .., its low four bits, having 0 and 1 exchanged' (24)
+  -- 'top byte of the word .., its low four bits, with 0 and 1 exchanged' (24)
   pub stored : judge openImage StoredLevel (having 0 7) 0xF0FFFFFF ≡ Go Onward (having 0 7)
   pub storedVirgin : judge openImage StoredLevel (having 0 7) 0x01000000 ≡ Stop 24
   pub storedEight : judge openImage StoredLevel (having 0 7) 0x08000000 ≡ Stop 24

@@ -3,12 +3,12 @@ use mathlib.Core.Bool.{Bool, true, false}
 use mathlib.Core.Path.{_≡_}
 use Prim.Native.Nat.{ℕ}
 use Rattle.flow.specs.Examples.{partOne}
-use Rattle.flow.specs.Monitor.{Delays, noDelays, Watch, noWaits, waitsOn, Seen, noneWaits, Monitor, watching, linkError, watch}
+use Rattle.flow.specs.Monitor.{Delays, noDelays, Watch, noWaits, waitsOn, Seen, Monitor, watching, linkError, watch}
 use Rattle.flow.specs.declared.Answer.{Answer}
 use Rattle.flow.specs.declared.Answer.the-variants.{ResetDone, Transferred}
 use Rattle.flow.specs.declared.Request.{Request}
 use Rattle.flow.specs.declared.Request.the-variants.{Xres, LineReset, ReadIdcode, ReadDrw, WriteTar, WriteDrw}
-use Rattle.parts.specs.Sizes.{sysreqOf, sysargOf, PARAMS, TEST-MODE}
+use Rattle.parts.specs.Sizes.{sysreqOf, sysargOf, PARAMS, TEST-MODE, locksAt, levelAt}
 use Rattle.wire.specs.Wire.{parity}
 
 -- ---- answers
@@ -53,6 +53,10 @@ abbrev pub waited : Request → (times all : ℕ) → Monitor
 waited q n k =
     watching (record { waits = waitsOn q n; polls = 0; attempts = 0; watch = readAt 0 false false; delays = record { waits = k; busyPolls = 0; missed = 0 } })
 
+-- all that was seen but for the transfer that waits
+abbrev pub unwaiting : Seen → Seen
+unwaiting x = record { waits = noWaits; polls = x .polls; attempts = x .attempts; watch = x .watch; delays = x .delays }
+
 -- a DRW read, and an attempt's read of IDCODE
 abbrev pub afterRead : Answer → Monitor → Monitor
 afterRead r m = watch partOne ReadDrw r m
@@ -65,6 +69,12 @@ SYSREQ = sysreqOf partOne
 
 abbrev pub SYSARG : ℕ
 SYSARG = sysargOf partOne
+
+abbrev pub LOCKS : ℕ
+LOCKS = locksAt partOne 0
+
+abbrev pub LEVEL : ℕ
+LEVEL = levelAt partOne
 
 -- 17 to 19: what the words say
 pub record WordMishaps : Type 0 where
@@ -81,6 +91,10 @@ pub record WordMishaps : Type 0 where
   -- a Read of SYSREQ after the loop's end is no poll, and a Read of another place ends a loop
   pub noPoll : afterRead (okayWith 0x80000000) (seen 9999 0 (countingAt SYSREQ false false)) ≡ seen 9999 0 (readAt SYSREQ false false)
   pub loopLeft : afterRead (okayWith 0) (seen 9999 0 (countingAt 0 true true)) ≡ seen 0 0 (readAt 0 false true)
+  pub loopLeftLocks : afterRead (okayWith 0) (seen 9999 0 (countingAt LOCKS true true)) ≡ seen 0 0 (readAt LOCKS false true)
+  pub loopLeftParams : afterRead (okayWith 0) (seen 9999 0 (countingAt PARAMS true true)) ≡ seen 0 0 (readAt PARAMS false true)
+  pub loopLeftLevel : afterRead (okayWith 0) (seen 9999 0 (countingAt LEVEL true true)) ≡ seen 0 0 (readAt LEVEL false true)
+  pub loopLeftElsewhere : afterRead (okayWith 0) (seen 9999 0 (countingAt 0x30000000 true true)) ≡ seen 0 0 (readAt 0x30000000 false true)
   -- 'a call after which the Read of SYSARG gives a top digit other than 0xA (19)': the first Read after the call alone
   pub digitB : afterRead (okayWith 0xB0000000) (seen 0 0 (countingAt SYSARG false true)) ≡ linkError 19
   pub digit2 : afterRead (okayWith 0x2A000000) (seen 0 0 (countingAt SYSARG false true)) ≡ linkError 19
@@ -129,5 +143,5 @@ pub record LineMishaps : Type 0 where
   pub noise255 : Breaks 255 33
   -- the first mishap stays; a reset is none, and changes nothing else of what has been seen
   pub first : (q : Request) (r : Answer) (number : ℕ) → watch partOne q r (linkError number) ≡ linkError number
-  pub xres : (x : Seen) → watch partOne Xres ResetDone (watching x) ≡ watching (noneWaits x)
-  pub lineReset : (x : Seen) → watch partOne LineReset ResetDone (watching x) ≡ watching (noneWaits x)
+  pub xres : (x : Seen) → watch partOne Xres ResetDone (watching x) ≡ watching (unwaiting x)
+  pub lineReset : (x : Seen) → watch partOne LineReset ResetDone (watching x) ≡ watching (unwaiting x)

@@ -65,7 +65,7 @@ lockPlan g zero = 0
 lockPlan g (suc m) = 24 + 5 * locksIn g m / 4 + lockPlan g m
 
 -- 'plan = 69 + 10 × IMO + N × (26 + 5L / 4) + M × (24 + 5PB / 4), and from PROTECTED 26 + 10 × IMO more'; the locks
--- are summed over the macros, which is the paper's product (`plan-multiplied`, proofs/Counting)
+-- are summed over the macros, which is the paper's product (`PlanMultiplied`, Totals.antt)
 unfoldable pub plan : Geometry → Entry → ℕ
 plan g y =
     69 + 10 * imoOf g + rowsOf g * (26 + 5 * rowBytes g / 4) + lockPlan g (macrosOf g) + fromProtected y (26 + 10 * imoOf g)

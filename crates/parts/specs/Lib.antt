@@ -1,4 +1,5 @@
 pub mod Parts
 pub mod Sizes
 pub mod LockExamples
+pub mod LookupExamples
 pub mod Levels
