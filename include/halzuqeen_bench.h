@@ -72,7 +72,7 @@ extern "C" {
  * request, request_length: HALZUQEEN_OUTCOME_SIZE bytes, an outcome of kind 1 to 4 as starting or a step wrote it.
  * answer, answer_length: HALZUQEEN_BENCH_ANSWER_SIZE bytes, which become the answer.
  * Refused is, with nothing written: 12 a board, event, call, request or answer of another length; 11 part or macros; 13 a running,
- * succeeds or new level over 1, an outcome over 5, a kind that is not 1 to 4. */
+ * succeeds or new level over 1, an outcome over 7, a kind that is not 1 to 4. */
 uint32_t halzuqeen_bench_meet(uint8_t part, uint8_t macros, uint8_t *board, size_t board_length, uint8_t *flash, size_t flash_length,
     uint8_t *locks, size_t locks_length, uint8_t *latch, size_t latch_length, uint32_t *params, size_t params_length,
     const uint8_t *left_flash, size_t left_flash_length, const uint8_t *left_locks, size_t left_locks_length,

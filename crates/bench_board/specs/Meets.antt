@@ -23,7 +23,7 @@ use Rattle.flow.specs.declared.Reply.{Reply}
 use Rattle.flow.specs.declared.Request.{Request}
 use Rattle.parts.specs.declared.Geometry.{Geometry}
 
--- ---- what `meet` promises: result and buffers left are what flow's `meet` makes of `targetOf` (Board) with one event and one outcome
+-- ---- what `meet` promises: result and buffers left are what flow's `meet` makes of `targetOf` (bench_calls' Board) with one event and one outcome
 
 -- the lists that a call of `meet` is given
 abbrev pub listsOf : Left → LineEvent → CallOutcome → Lists

@@ -1,4 +1,4 @@
-// Reads the cases of tests/vectors/session on standard input, plays each session against a board and prints its report (tests/vectors/README.md).
+// Reads the cases on standard input (crates/cases_session/stdin), plays each session against a board and prints its report (tests/vectors/README.md).
 mod answering;
 mod digest;
 mod filling;

@@ -1,4 +1,4 @@
--- The session as numbers: a position in the sequence, and counters; how one answer moves it on. Assumes nothing.
+-- The session as an index into the sequence, and counters; how one answer moves it on. Assumes nothing.
 use mathlib.Core.Bool.{Bool, true, false, cond}
 use mathlib.Core.List.{[]}
 use Prim.Native.Nat.{ℕ, suc, _-_}
@@ -69,7 +69,7 @@ nextOf i m r c = cond (isReset (m .request)) (Go Onward c) (heardBy (isAttempt (
 
 -- ---- the position that it leads to
 
--- every new position is made here
+-- every position that an answer leads on to is made here
 abbrev pub arrive : Way → Position → Position
 arrive Onward p = position (p .entry) (suc (p .at))
 arrive Stay p = p

@@ -1,4 +1,5 @@
-// The programming sequence as moves, and what goes over the wire for each (document 01, 'Flow' and 'Wire').
+// The types of the flow, which definitions and code share: requests and moves, where a session stands, packets and answers, and what the
+// target is made of (document 01, 'Flow' and 'Wire').
 
 use wire::Register;
 

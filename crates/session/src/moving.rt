@@ -35,7 +35,7 @@ fn back(at: u32, moves: u32) -> u32
     if moves <= at { at - moves } else { 0 }
 }
 
-// The position that a way leads to: every new one is made here.
+// The position that a way leads to.
 fn arrive(w: Way, p: Position) -> Position
     requires { ⌜ p .at < 2 ^ 31 ⌝ }
     ensures { λ r. ⌜ r ≡ Flow.arrive w p ⌝ }
