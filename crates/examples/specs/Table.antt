@@ -8,7 +8,8 @@ use Rattle.flow.specs.Plan.{plan}
 use Rattle.flow.specs.Sequence.{privileged, programRow}
 use Rattle.flow.specs.declared.Entry.the-variants.{FromOpen}
 use Rattle.flow.specs.declared.Purpose.the-variants.{Keep}
-use Rattle.hex.specs.Records.{Record, BadRecord, DataRecord, ExtendedAddress, EndRecord, lineRecord}
+use Rattle.hex.specs.HexFormat.{payloadOf}
+use Rattle.hex.specs.Records.{lineRecord}
 use Rattle.hex.specs.Texts.{upperAfter}
 use Rattle.lent.specs.Words.{total}
 use Rattle.parts.specs.Levels.{isLevel}
@@ -18,13 +19,6 @@ use Rattle.wire.specs.Examples.{Example, _gives_}
 use Rattle.wire.specs.Wire.{parity, requestByte}
 use Rattle.wire.specs.declared.Access.the-variants.{Read, Write}
 use Rattle.wire.specs.declared.Register.the-variants.{Idcode, Tar, Drw}
-
--- the data bytes of a record
-unfoldable pub payloadOf : Record → List ℕ
-payloadOf (BadRecord n) = []
-payloadOf (DataRecord low bs) = bs
-payloadOf (ExtendedAddress upper) = []
-payloadOf EndRecord = []
 
 -- :0200000490303A
 abbrev pub p8-line : List ℕ

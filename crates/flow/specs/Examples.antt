@@ -8,16 +8,8 @@ use Rattle.flow.specs.declared.Purpose.the-variants.{Keep}
 use Rattle.flow.specs.declared.Request.{Request}
 use Rattle.flow.specs.declared.Request.the-variants.{Xres, LineReset, ReadIdcode, ReadDrw, WriteTar, WriteDrw, WriteSetup}
 use Rattle.image.specs.Image.{Image}
-use Rattle.parts.specs.Parts.{part1, part3}
-use Rattle.parts.specs.declared.Geometry.{Geometry}
+pub use Rattle.parts.specs.LockExamples.{partOne, twoMacros}
 use Rattle.wire.specs.Examples.{Example, _gives_}
-
--- part 1 and M 1, as P11 and the dry run have them
-abbrev pub partOne : Geometry
-partOne = record { part = part1; macros = 1 }
-
-abbrev pub twoMacros : Geometry
-twoMacros = record { part = part3; macros = 2 }
 
 -- any image of part 3 and M 2 will do
 abbrev pub anImage : Image

@@ -24,14 +24,15 @@ resized l r n p = record {
   «level_word» = p .«level_word»;
 }
 
-abbrev pub oneMacro : Geometry
-oneMacro = record { part = part1; macros = 1 }
+-- part 1 and M 1, as P11 and the dry run have them; part 3 with both macros
+abbrev pub partOne : Geometry
+partOne = record { part = part1; macros = 1 }
 
 abbrev pub twoMacros : Geometry
 twoMacros = record { part = part3; macros = 2 }
 
 pub record LockExamples : Type 0 where
-  pub small : locksIn oneMacro 0 ≡ 32
+  pub small : locksIn partOne 0 ≡ 32
   pub large : locksIn twoMacros 1 ≡ 64
   pub first : lockStart twoMacros 0 ≡ 0
   pub second : lockStart twoMacros 1 ≡ 64

@@ -1,4 +1,4 @@
-// What the text formats share: digit pairs, line ends, the sections that are due, and the answer of reading (document 01, 'Hex text').
+// What the text formats share: digit pairs, line ends, the sections that are due, and the answers of reading and writing (document 01, 'Hex text').
 ghost use mathlib.Core.Path.{_≡_};
 ghost use Prim.Native.Nat.{_+_, _*_, _≤_};
 ghost use lib.ListN.{length, take, drop};
