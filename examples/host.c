@@ -12,7 +12,7 @@
 #include "halzuqeen.h"
 #include "wire.h"
 
-enum { RECORD = HALZUQEEN_RECORD_SIZE, SESSION = HALZUQEEN_SESSION_SIZE, OUTCOME = HALZUQEEN_OUTCOME_SIZE };
+enum { HEADER = HALZUQEEN_HEADER_SIZE, SESSION = HALZUQEEN_SESSION_SIZE, OUTCOME = HALZUQEEN_OUTCOME_SIZE };
 enum { MOST_TEXT = 1 << 21, MOST_IMAGE = 131200 }; /* part 3 with two macros; its text with a record for each byte */
 
 static uint8_t text[MOST_TEXT], image[MOST_IMAGE];
@@ -69,10 +69,10 @@ static int reported(const uint8_t *outcome)
 }
 
 /* One request out, one answer in, until the report. */
-static int program(const uint8_t *record, size_t size, int leave)
+static int program(const uint8_t *header, size_t size, int leave)
 {
     uint8_t session[SESSION], outcome[OUTCOME];
-    uint32_t number = halzuqeen_start(record, RECORD, image, size, leave != 0, session, SESSION, outcome, OUTCOME);
+    uint32_t number = halzuqeen_start(header, HEADER, image, size, leave != 0, session, SESSION, outcome, OUTCOME);
     while (number == 0 && outcome[HALZUQEEN_OUTCOME_KIND] != HALZUQEEN_REPORT) {
         struct answer answer = exchange(outcome);
         number = halzuqeen_step(session, SESSION, image, size, answer.reset_done, answer.ack, answer.word,
@@ -83,7 +83,7 @@ static int program(const uint8_t *record, size_t size, int leave)
 
 int main(int count, char **words)
 {
-    uint8_t record[RECORD];
+    uint8_t header[HEADER];
     unsigned part, macros;
     size_t length, size;
     uint32_t number;
@@ -97,8 +97,8 @@ int main(int count, char **words)
     size = image_bytes(part, macros);
     if (size > MOST_IMAGE)
         return refused(11);
-    number = halzuqeen_read((uint8_t)part, (uint8_t)macros, text, length, image, size, record, RECORD);
+    number = halzuqeen_read((uint8_t)part, (uint8_t)macros, text, length, image, size, header, HEADER);
     if (number != 0)
         return refused(number);
-    return program(record, size, count > 4 && strcmp(words[4], "kill") == 0);
+    return program(header, size, count > 4 && strcmp(words[4], "kill") == 0);
 }

@@ -1,7 +1,7 @@
 /* Halzuqeen's calls for C and for whatever links C: crates/core_c, built by `rt staticlib core_c` to target/staticlib/libcore_c.a.
  *
  * Every lent buffer is a pointer and a length in bytes. The core keeps nothing between calls and takes nothing from a heap: the image,
- * its record and the session stand in the caller's bytes. Numbers of several bytes have the low byte first.
+ * its header and the session stand in the caller's bytes. Numbers of several bytes have the low byte first.
  *
  * Every call returns 0, or the number of a refusal (document 01, 'Who brings a number about'):
  *    1 to 10  the text or the image: line form, record sum, record type, data not next due, end record, version, image ID, level, sum, row
@@ -11,9 +11,9 @@
  *    14       a reset answered by an acknowledgement, or the reverse
  *    15       KILL without leave
  *
- * What is lent for a record, a session, an outcome or a length may be longer than its size below: bytes past the size are not looked at
+ * What is lent for a header, a session, an outcome or a length may be longer than its size below: bytes past the size are not looked at
  * and stay. Under size it is 12, in the order that each call says.
- * With a refusal every output that fits is written: a record, a session that starting gives and a length are all 0, an outcome has the
+ * With a refusal every output that fits is written: a header, a session that starting gives and a length are all 0, an outcome has the
  * refusal. An output that is under size stays as it was, since there is no room in it. A refused step leaves the session as it got it.
  *
  * What is proved, for every content and length of the buffers: the number returned and every byte of every buffer after the call equal
@@ -30,21 +30,21 @@ extern "C" {
 #endif
 
 /* Sizes in bytes. */
-#define HALZUQEEN_RECORD_SIZE 17
+#define HALZUQEEN_HEADER_SIZE 17
 #define HALZUQEEN_SESSION_SIZE 45
 #define HALZUQEEN_OUTCOME_SIZE 8
 #define HALZUQEEN_LENGTH_SIZE 8
 
-/* Offsets in a record. */
-#define HALZUQEEN_RECORD_PART 0
-#define HALZUQEEN_RECORD_MACROS 1
-#define HALZUQEEN_RECORD_SUM 2       /* 2 bytes */
-#define HALZUQEEN_RECORD_METADATA 4  /* 12 bytes, as the text has them */
-#define HALZUQEEN_RECORD_LEVEL 16
+/* Offsets in a header. */
+#define HALZUQEEN_HEADER_PART 0
+#define HALZUQEEN_HEADER_MACROS 1
+#define HALZUQEEN_HEADER_SUM 2       /* 2 bytes */
+#define HALZUQEEN_HEADER_METADATA 4  /* 12 bytes, as the text has them */
+#define HALZUQEEN_HEADER_LEVEL 16
 
 /* Offsets in a session. Its fields are the core's: a caller keeps them, and may look at them to show how far a session is. All zeros is
  * the session of zeros that a refused start gives, and a step refuses it with 13. */
-#define HALZUQEEN_SESSION_RECORD 0     /* 17 bytes */
+#define HALZUQEEN_SESSION_HEADER 0     /* 17 bytes */
 #define HALZUQEEN_SESSION_ENTRY 17     /* 0 OPEN, 1 PROTECTED; over 1: no session */
 #define HALZUQEEN_SESSION_FINISHED 18  /* 0 or 1; over 1: no session */
 #define HALZUQEEN_SESSION_NUMBER 19    /* of the report, once finished */
@@ -73,22 +73,22 @@ extern "C" {
 #define HALZUQEEN_WRITE 4       /* the request byte, the word and its parity bit */
 #define HALZUQEEN_REPORT 5      /* the number, the flow step, the transfers */
 
-/* Reads an Intel hex text of this part with so many macros into an image and its record.
+/* Reads an Intel hex text of this part with so many macros into an image and its header.
  * part, macros: as in document 01's table of parts.
  * text, text_length: the text.
  * image, image_length: at least the image's size: flash, then row locks. With 0 its bytes are the image's; with 1 to 10 they are zeroed;
  *     bytes past the image's size stay, and with 11 or 12 all of them do.
- * header, header_length: at least HALZUQEEN_RECORD_SIZE bytes, which become the image's record, zeros with a refusal.
- * Checks 11, whatever the lengths are; 12, of the record and the image; then the text, 1 to 5 record by record, and 6 to 10. */
+ * header, header_length: at least HALZUQEEN_HEADER_SIZE bytes, which become the image's header, zeros with a refusal.
+ * Checks 11, whatever the lengths are; 12, of the header and the image; then the text, 1 to 5 record by record, and 6 to 10. */
 uint32_t halzuqeen_read(uint8_t part, uint8_t macros, const uint8_t *text, size_t text_length, uint8_t *image, size_t image_length,
     uint8_t *header, size_t header_length);
 
 /* Writes the Intel hex text of an image.
- * header, header_length: the image's record, at least HALZUQEEN_RECORD_SIZE bytes.
+ * header, header_length: the image's header, at least HALZUQEEN_HEADER_SIZE bytes.
  * image, image_length: the image's bytes, exactly of its size.
  * text, text_length: at least as long as the text; bytes past the text stay, and with a refusal all of them do.
  * size, size_length: at least HALZUQEEN_LENGTH_SIZE bytes, which become the text's length, 0 with a refusal.
- * A record under size is 12, since no part can be read from it. Then checks 11; 12, of size, image and text; 6 to 10. */
+ * A header under size is 12, since no part can be read from it. Then checks 11; 12, of size, image and text; 6 to 10. */
 uint32_t halzuqeen_write(const uint8_t *header, size_t header_length, const uint8_t *image, size_t image_length, uint8_t *text,
     size_t text_length, uint8_t *size, size_t size_length);
 
@@ -98,7 +98,7 @@ uint32_t halzuqeen_write(const uint8_t *header, size_t header_length, const uint
  * session, session_length: at least HALZUQEEN_SESSION_SIZE bytes, which become the session, zeros with a refusal: a session that stood
  *     there is gone, and a step refuses the zeros with 13.
  * outcome, outcome_length: at least HALZUQEEN_OUTCOME_SIZE bytes, which become XRES or the refusal.
- * A record under size is 12, since no part can be read from it. Then checks 11; 12, of session, outcome and image; 6 to 10; 15. */
+ * A header under size is 12, since no part can be read from it. Then checks 11; 12, of session, outcome and image; 6 to 10; 15. */
 uint32_t halzuqeen_start(const uint8_t *header, size_t header_length, const uint8_t *image, size_t image_length, uint8_t leave,
     uint8_t *session, size_t session_length, uint8_t *outcome, size_t outcome_length);
 

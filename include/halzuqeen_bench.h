@@ -7,7 +7,7 @@
 #ifndef HALZUQEEN_BENCH_H
 #define HALZUQEEN_BENCH_H
 
-/* The request is an outcome of the core's. */
+/* The packet is an outcome of the core's. */
 #include "halzuqeen.h"
 
 #ifdef __cplusplus
@@ -67,17 +67,17 @@ extern "C" {
  * params, params_length: PARAMS as words, with its length in words: 2 + row bytes / 4.
  * left_flash, left_locks, left_latch: what a call that fails leaves in flash, locks and latch, cut or filled with 0 to their sizes; lent
  *     the same as long as a call is under way. All may be of length 0.
- * event, event_length: HALZUQEEN_BENCH_EVENT_SIZE bytes. call, call_length: HALZUQEEN_BENCH_CALL_SIZE bytes, looked at when the request
+ * event, event_length: HALZUQEEN_BENCH_EVENT_SIZE bytes. call, call_length: HALZUQEEN_BENCH_CALL_SIZE bytes, looked at when the packet
  *     starts a call.
- * request, request_length: HALZUQEEN_OUTCOME_SIZE bytes, an outcome of kind 1 to 4 as starting or a step wrote it.
+ * packet, packet_length: HALZUQEEN_OUTCOME_SIZE bytes, an outcome of kind 1 to 4 as starting or a step wrote it.
  * answer, answer_length: HALZUQEEN_BENCH_ANSWER_SIZE bytes, which become the answer.
- * Refused is, with nothing written: 12 a board, event, call, request or answer of another length; 11 part or macros; 13 a running,
+ * Refused is, with nothing written: 12 a board, event, call, packet or answer of another length; 11 part or macros; 13 a running,
  * succeeds or new level over 1, an outcome over 7, a kind that is not 1 to 4. */
 uint32_t halzuqeen_bench_meet(uint8_t part, uint8_t macros, uint8_t *board, size_t board_length, uint8_t *flash, size_t flash_length,
     uint8_t *locks, size_t locks_length, uint8_t *latch, size_t latch_length, uint32_t *params, size_t params_length,
     const uint8_t *left_flash, size_t left_flash_length, const uint8_t *left_locks, size_t left_locks_length,
     const uint8_t *left_latch, size_t left_latch_length, const uint8_t *event, size_t event_length, const uint8_t *call,
-    size_t call_length, const uint8_t *request, size_t request_length, uint8_t *answer, size_t answer_length);
+    size_t call_length, const uint8_t *packet, size_t packet_length, uint8_t *answer, size_t answer_length);
 
 #ifdef __cplusplus
 }

@@ -6,7 +6,7 @@ mod stack;
 mod timing;
 mod tools;
 
-use halzuqeen::{raw, Answer, Outcome, Record, Session};
+use halzuqeen::{raw, Answer, Outcome, Session};
 use reference::board::{Board, Lists};
 use reference::image::{header_for, Header};
 use reference::parts::{Sizes, OPEN};
@@ -20,7 +20,7 @@ const ROUNDS: usize = 41;
 /// An image of part 3 with two macros, its text, and the answers of a calm board to its session.
 struct Job {
     header: Header,
-    record: Record,
+    core_header: halzuqeen::Header,
     image: Vec<u8>,
     text: Vec<u8>,
     answers: Vec<wire::Answer>,
@@ -32,17 +32,17 @@ fn job() -> Job {
     let mut text = vec![0; hex::text_length(&header.sizes().expect("a part of the table"))];
     assert_eq!(hex::write(&header, &image, &mut text), (0, text.len()));
     let (mut board, mut lists, mut answers) = (Board::blank(&header, OPEN), Lists::default(), vec![]);
-    let (report, _) = play::step_through(&header, &image, None, |request| {
-        let answer = board.answer(request, &mut lists);
+    let (report, _) = play::step_through(&header, &image, None, |packet| {
+        let answer = board.answer(packet, &mut lists);
         answers.push(answer);
         answer
     });
     assert_eq!((report.number, report.transfers), (0, 190_741));
-    Job { header, record: record_of(&header), image, text, answers }
+    Job { header, core_header: core_header(&header), image, text, answers }
 }
 
-fn record_of(header: &Header) -> Record {
-    Record {
+fn core_header(header: &Header) -> halzuqeen::Header {
+    halzuqeen::Header {
         part: header.part as u8,
         macros: header.macros as u8,
         sum: header.sum,
@@ -61,7 +61,7 @@ fn reading(job: &Job) {
     let times = time(
         ROUNDS,
         &mut [
-            &mut || assert_eq!(halzuqeen::read(3, 2, black_box(&job.text), a), Ok(job.record)),
+            &mut || assert_eq!(halzuqeen::read(3, 2, black_box(&job.text), a), Ok(job.core_header)),
             &mut || assert_eq!(best::read(3, 2, black_box(&job.text), b), (0, job.header)),
             &mut || assert_eq!(hex::read(3, 2, black_box(&job.text), c), (0, job.header)),
         ],
@@ -78,7 +78,7 @@ fn writing(job: &Job) {
     let times = time(
         ROUNDS,
         &mut [
-            &mut || assert_eq!(halzuqeen::write(&job.record, black_box(&job.image), a), Ok(length)),
+            &mut || assert_eq!(halzuqeen::write(&job.core_header, black_box(&job.image), a), Ok(length)),
             &mut || assert_eq!(best::write(&job.header, black_box(&job.image), b), (0, length)),
             &mut || assert_eq!(hex::write(&job.header, black_box(&job.image), c), (0, length)),
         ],
@@ -98,15 +98,15 @@ fn rows(what: &str, byte: fn(place: usize, length: usize) -> u8) {
         row.iter_mut().enumerate().for_each(|(place, to)| *to = byte(place, length));
     }
     let header = header_for(3, 2, 0, 0, OPEN, &image);
-    let record = record_of(&header);
+    let told = core_header(&header);
     let (mut text, mut a, mut b) = (vec![0; hex::text_length(&sizes)], image.clone(), image.clone());
     assert_eq!(hex::write(&header, &image, &mut text), (0, text.len()));
     let times = time(
         ROUNDS,
         &mut [
-            &mut || assert_eq!(halzuqeen::read(3, 2, black_box(&text), &mut a), Ok(record)),
+            &mut || assert_eq!(halzuqeen::read(3, 2, black_box(&text), &mut a), Ok(told)),
             &mut || assert_eq!(best::read(3, 2, black_box(&text), &mut b), (0, header)),
-            &mut || assert!(halzuqeen::start(&record, black_box(&image), false).is_ok()),
+            &mut || assert!(halzuqeen::start(&told, black_box(&image), false).is_ok()),
             &mut || assert!(started(session::start(&header, black_box(&image), false).1)),
         ],
     );
@@ -126,7 +126,7 @@ fn three(times: &[Time], count: usize) {
 
 /// A whole session on recorded answers, its start included.
 fn core_session(job: &Job, answers: &[Answer]) {
-    let (mut session, mut outcome) = halzuqeen::start(&job.record, &job.image, false).expect("started");
+    let (mut session, mut outcome) = halzuqeen::start(&job.core_header, &job.image, false).expect("started");
     for &answer in answers {
         outcome = black_box(session.step(&job.image, answer).expect("stepped"));
     }
@@ -142,7 +142,7 @@ fn rust_session(job: &Job) {
 }
 
 fn started(outcome: session::Outcome) -> bool {
-    matches!(outcome, session::Outcome::Request(_))
+    matches!(outcome, session::Outcome::Ask(_))
 }
 
 fn stepping(job: &Job) {
@@ -152,7 +152,7 @@ fn stepping(job: &Job) {
         &mut [
             &mut || core_session(job, black_box(&answers)),
             &mut || rust_session(black_box(job)),
-            &mut || assert!(halzuqeen::start(&job.record, black_box(&job.image), false).is_ok()),
+            &mut || assert!(halzuqeen::start(&job.core_header, black_box(&job.image), false).is_ok()),
             &mut || assert!(started(session::start(&job.header, black_box(&job.image), false).1)),
         ],
     );
@@ -176,12 +176,13 @@ fn abi_answer(answer: &wire::Answer) -> Answer {
 fn stacks(job: &Job) {
     let (mut buffer, mut text) = (vec![0; job.image.len()], vec![0; job.text.len()]);
     let (mut session, mut outcome) = ([0; raw::SESSION], [0; raw::OUTCOME]);
-    let record = job.record.bytes();
+    let told = job.core_header.bytes();
     println!("\nstack of a call, bytes (painted stack; no heap is used)");
     let read = stack::need(&mut || assert!(halzuqeen::read(3, 2, &job.text, &mut buffer).is_ok()));
-    let write = stack::need(&mut || assert!(halzuqeen::write(&job.record, &job.image, &mut text).is_ok()));
+    let write =
+        stack::need(&mut || assert!(halzuqeen::write(&job.core_header, &job.image, &mut text).is_ok()));
     let start =
-        stack::need(&mut || assert_eq!(raw::start(&record, &job.image, 0, &mut session, &mut outcome), 0));
+        stack::need(&mut || assert_eq!(raw::start(&told, &job.image, 0, &mut session, &mut outcome), 0));
     let mut stepped = Session(session);
     let step = stack::need(&mut || {
         for answer in &job.answers {

@@ -15,7 +15,7 @@ use crate::flow::{exchanged, BIT_31, LOW_28};
 use crate::image::Header;
 use crate::parts::{Sizes, KILL, LOCKS, LOCKS_STEP, PARAMS, PROTECTED, TEST_MODE};
 use crate::rng::Rng;
-use crate::wire::{parity, Answer, Request, SILENCE};
+use crate::wire::{parity, Answer, Packet, SILENCE};
 use port::{decode, Port};
 
 #[derive(Clone, Debug)]
@@ -129,18 +129,18 @@ impl Board {
     }
 
     /// The board meets a request and answers.
-    pub fn answer(&mut self, request: Request, lists: &mut impl FreeLists) -> Answer {
-        match request {
-            Request::Xres => {
+    pub fn answer(&mut self, packet: Packet, lists: &mut impl FreeLists) -> Answer {
+        match packet {
+            Packet::Xres => {
                 self.xres();
                 Answer::ResetDone
             }
-            Request::LineReset => Answer::ResetDone,
-            Request::Read { byte } => self.transfer(byte, None, lists),
-            Request::Write { byte, word, parity: bit } if bit == parity(word) => {
+            Packet::LineReset => Answer::ResetDone,
+            Packet::Read { byte } => self.transfer(byte, None, lists),
+            Packet::Write { byte, word, parity: bit } if bit == parity(word) => {
                 self.transfer(byte, Some(word), lists)
             }
-            Request::Write { .. } => self.lost(&lists.line()),
+            Packet::Write { .. } => self.lost(&lists.line()),
         }
     }
 

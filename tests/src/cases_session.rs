@@ -10,9 +10,9 @@ use crate::board::{Board, Lists};
 use crate::flow::{self, Report};
 use crate::fnv::Fnv;
 use crate::image::Header;
-use crate::play::hash_request;
+use crate::play::hash_packet;
 use crate::session::{start, Outcome};
-use crate::wire::{Answer, Request};
+use crate::wire::{Answer, Packet};
 
 /// Answers that stand for the board's own: transfers `at`, `at + stride`, ... , `count` of them.
 #[derive(Clone, Copy, Debug)]
@@ -112,19 +112,19 @@ impl Bench<'_> {
         Bench { board, lists: Lists::default(), overrides: &case.overrides, transfer: 0 }
     }
 
-    fn answer(&mut self, request: Request) -> Answer {
-        if !request.is_transfer() {
-            return self.board.answer(request, &mut self.lists);
+    fn answer(&mut self, packet: Packet) -> Answer {
+        if !packet.is_transfer() {
+            return self.board.answer(packet, &mut self.lists);
         }
         self.transfer += 1;
         let standing = self.overrides.iter().find(|o| o.covers(self.transfer - 1));
         match standing {
             Some(o) if !o.carried => o.answer(),
             Some(o) => {
-                self.board.answer(request, &mut self.lists);
+                self.board.answer(packet, &mut self.lists);
                 o.answer()
             }
-            None => self.board.answer(request, &mut self.lists),
+            None => self.board.answer(packet, &mut self.lists),
         }
     }
 }
@@ -141,11 +141,11 @@ pub fn outcome(case: &Case) -> String {
         return format!("refused {number}");
     }
     let (mut bench, mut sum, mut requests) = (Bench::new(case), Fnv::default(), 0u32);
-    while let Outcome::Request(request) = outcome {
-        hash_request(&mut sum, request);
-        let answer = bench.answer(request);
+    while let Outcome::Ask(packet) = outcome {
+        hash_packet(&mut sum, packet);
+        let answer = bench.answer(packet);
         if requests % REFUSED_EVERY == 0 {
-            let wrong = match request.is_transfer() {
+            let wrong = match packet.is_transfer() {
                 true => Answer::ResetDone,
                 false => Answer::Wire { ack: 1, word: 0, parity: false },
             };
@@ -164,6 +164,6 @@ pub fn outcome(case: &Case) -> String {
     let Report { number, step, transfers } = report;
     assert_eq!((number, step), case.expected, "{}", case.name);
     let mut bench = Bench::new(case);
-    assert_eq!(flow::run(&case.header, &image, |request| bench.answer(request)), report);
+    assert_eq!(flow::run(&case.header, &image, |packet| bench.answer(packet)), report);
     format!("report {number} {step} {transfers} {:016x}", sum.value())
 }

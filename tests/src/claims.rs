@@ -7,7 +7,7 @@ use crate::image::Header;
 use crate::monitor::Monitor;
 use crate::parts::{Sizes, PROTECTED, VIRGIN};
 use crate::seal::{reported, Seal, Sealed};
-use crate::wire::{Answer, Request};
+use crate::wire::{Answer, Packet};
 
 /// How step 3 will find a board.
 pub fn entry_of(board: &Board) -> Entry {
@@ -40,16 +40,16 @@ impl<'a> Claims<'a> {
 
     /// "A report comes within document 01's count of transfers and resets", and "no list of demand 3
     /// hands out more than the count".
-    pub fn handed_out(&mut self, request: Request) {
-        self.monitor.hand_out(request);
+    pub fn handed_out(&mut self, packet: Packet) {
+        self.monitor.hand_out(packet);
         let (entry, most) = (self.entry, acquisitions(self.entry));
         assert!(self.monitor.transfers <= bound(&self.sizes, entry));
         assert!(self.monitor.xres <= most && self.monitor.line_resets <= 30 * most);
     }
 
     /// "it isn't in VIRGIN after any such list"
-    pub fn answered(&mut self, request: Request, answer: Answer, board: &Board) {
-        self.monitor.observe(request, answer);
+    pub fn answered(&mut self, packet: Packet, answer: Answer, board: &Board) {
+        self.monitor.observe(packet, answer);
         assert_ne!(board.stored, VIRGIN);
         self.seal.met(board);
         // The whole memory at each packet: no more than 70 follow the sealing one, but for WAITs and busy polls.

@@ -17,14 +17,14 @@ use crate::play::RandomLists;
 use crate::rng::Rng;
 use crate::session::Outcome;
 use crate::texts::sample_image;
-use crate::wire::{Answer, Request};
+use crate::wire::{Answer, Packet};
 use place::{disturbed, slow, Place};
 
 /// A plain board that meets requests and can be cut: ours, or ours with the bench board beside it.
 pub trait Powered {
     fn of(header: &Header, board: Board) -> Self;
     fn board(&self) -> &Board;
-    fn meet(&mut self, request: Request, lists: &mut RandomLists) -> Answer;
+    fn meet(&mut self, packet: Packet, lists: &mut RandomLists) -> Answer;
     fn cut(&mut self, residue: CallOutcome, rng: &mut Rng);
     /// Where there are two boards, their memories are the same.
     fn assert_alike(&self) {}
@@ -43,8 +43,8 @@ impl Powered for Board {
         self
     }
 
-    fn meet(&mut self, request: Request, lists: &mut RandomLists) -> Answer {
-        self.answer(request, lists)
+    fn meet(&mut self, packet: Packet, lists: &mut RandomLists) -> Answer {
+        self.answer(packet, lists)
     }
 
     fn cut(&mut self, residue: CallOutcome, rng: &mut Rng) {
@@ -90,24 +90,24 @@ impl<C: Core, T: Powered> Chain<'_, C, T> {
         let (mut session, mut outcome) = core.start(header, image, true);
         let mut transfers = 0;
         loop {
-            let request = match outcome {
-                Outcome::Request(request) => request,
+            let packet = match outcome {
+                Outcome::Ask(packet) => packet,
                 Outcome::Report(report) => {
                     claims.reported(report, target.board());
                     return End { report: Some(report), transfers };
                 }
                 Outcome::Refused(number) => panic!("refused with {number}"),
             };
-            claims.handed_out(request);
-            if place.comes(target.board(), request) {
+            claims.handed_out(packet);
+            if place.comes(target.board(), packet) {
                 return End { report: None, transfers };
             }
-            let answer = target.meet(request, &mut lists);
-            claims.answered(request, answer, target.board());
-            transfers += u64::from(request.is_transfer());
+            let answer = target.meet(packet, &mut lists);
+            claims.answered(packet, answer, target.board());
+            transfers += u64::from(packet.is_transfer());
             tally.requests += 1;
             if rng.chance(5_000) {
-                tally.refused += refused(*core, &mut session, image, request);
+                tally.refused += refused(*core, &mut session, image, packet);
             }
             outcome = core.step(&mut session, image, answer);
         }
@@ -196,10 +196,10 @@ impl Before {
 }
 
 /// Steps that 12 and 14 refuse, which leave the session.
-fn refused<C: Core>(core: &C, session: &mut C::Session, image: &[u8], request: Request) -> u64 {
+fn refused<C: Core>(core: &C, session: &mut C::Session, image: &[u8], packet: Packet) -> u64 {
     let before = session.clone();
     let wire = Answer::Wire { ack: 1, word: 0, parity: false };
-    let wrong = if request.is_transfer() { Answer::ResetDone } else { wire };
+    let wrong = if packet.is_transfer() { Answer::ResetDone } else { wire };
     assert_eq!(core.step(session, &image[1..], wire), Outcome::Refused(12));
     assert_eq!(core.step(session, image, wrong), Outcome::Refused(14));
     assert_eq!(*session, before);

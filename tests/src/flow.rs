@@ -7,7 +7,7 @@ pub use words::*;
 
 use crate::image::{word, Header};
 use crate::parts::{Sizes, IDCODE, LOCKS, LOCKS_STEP, OPEN, PARAMS, PROTECTED, TEST_MODE};
-use crate::wire::{acknowledgement, parity, Ack, Answer, Register, Request};
+use crate::wire::{acknowledgement, parity, Ack, Answer, Packet, Register};
 
 struct Flow<'a, T> {
     transport: T,
@@ -19,38 +19,38 @@ struct Flow<'a, T> {
 }
 
 /// Runs the flow on an image that `start` lets pass; `transport` carries each request out.
-pub fn run(header: &Header, image: &[u8], transport: impl FnMut(Request) -> Answer) -> Report {
+pub fn run(header: &Header, image: &[u8], transport: impl FnMut(Packet) -> Answer) -> Report {
     let sizes = header.sizes().expect("a part of the table");
     let mut flow = Flow { transport, header, sizes, image, step: 0, transfers: 0 };
     let number = flow.steps().err().unwrap_or(0);
     Report { number, step: flow.step, transfers: flow.transfers }
 }
 
-impl<T: FnMut(Request) -> Answer> Flow<'_, T> {
-    fn reset(&mut self, request: Request) {
-        assert_eq!((self.transport)(request), Answer::ResetDone);
+impl<T: FnMut(Packet) -> Answer> Flow<'_, T> {
+    fn reset(&mut self, packet: Packet) {
+        assert_eq!((self.transport)(packet), Answer::ResetDone);
     }
 
     /// Hands a read or write out once.
-    fn exchange(&mut self, request: Request) -> (Ack, u32, bool) {
+    fn exchange(&mut self, packet: Packet) -> (Ack, u32, bool) {
         self.transfers += 1;
-        match (self.transport)(request) {
+        match (self.transport)(packet) {
             Answer::Wire { ack, word, parity } => (acknowledgement(ack), word, parity),
             Answer::ResetDone => panic!("a transfer answered by a reset"),
         }
     }
 
     /// A transfer with its repeats; a read gives its word.
-    fn transfer(&mut self, request: Request) -> Result<u32, u8> {
+    fn transfer(&mut self, packet: Packet) -> Result<u32, u8> {
         for _ in 0..=REPEATS {
-            let (ack, word, bit) = self.exchange(request);
+            let (ack, word, bit) = self.exchange(packet);
             match ack {
                 Ack::Wait => continue,
                 Ack::Fault => return Err(28),
                 Ack::Silence => return Err(29),
                 Ack::Noise => return Err(33),
                 // "Word and parity matter only on a read answered OK, the stale one included."
-                Ack::Ok if matches!(request, Request::Read { .. }) && bit != parity(word) => return Err(30),
+                Ack::Ok if matches!(packet, Packet::Read { .. }) && bit != parity(word) => return Err(30),
                 Ack::Ok => return Ok(word),
             }
         }
@@ -59,16 +59,16 @@ impl<T: FnMut(Request) -> Answer> Flow<'_, T> {
 
     /// "Write = TAR, DRW (2 transfers)."
     fn write(&mut self, address: u32, word: u32) -> Result<(), u8> {
-        self.transfer(Request::write(Register::Tar, address))?;
-        self.transfer(Request::write(Register::Drw, word))?;
+        self.transfer(Packet::write(Register::Tar, address))?;
+        self.transfer(Packet::write(Register::Drw, word))?;
         Ok(())
     }
 
     /// "Read = TAR, DRW, DRW (3; the last word counts ...)."
     fn read(&mut self, address: u32) -> Result<u32, u8> {
-        self.transfer(Request::write(Register::Tar, address))?;
-        self.transfer(Request::read(Register::Drw))?;
-        self.transfer(Request::read(Register::Drw))
+        self.transfer(Packet::write(Register::Tar, address))?;
+        self.transfer(Packet::read(Register::Drw))?;
+        self.transfer(Packet::read(Register::Drw))
     }
 
     fn poll(&mut self) -> Result<(), u8> {
@@ -103,8 +103,8 @@ impl<T: FnMut(Request) -> Answer> Flow<'_, T> {
     /// "up to 30 attempts of line reset and read IDCODE, until OK with right parity"
     fn connect(&mut self) -> Result<u32, u8> {
         for _ in 0..ATTEMPTS {
-            self.reset(Request::LineReset);
-            let (ack, word, bit) = self.exchange(Request::read(Register::IdCode));
+            self.reset(Packet::LineReset);
+            let (ack, word, bit) = self.exchange(Packet::read(Register::IdCode));
             if ack == Ack::Ok && bit == parity(word) {
                 return Ok(word);
             }
@@ -115,13 +115,13 @@ impl<T: FnMut(Request) -> Answer> Flow<'_, T> {
     /// Step 1.
     fn acquire(&mut self) -> Result<(), u8> {
         self.step = 1;
-        self.reset(Request::Xres);
+        self.reset(Packet::Xres);
         if self.connect()? != IDCODE {
             return Err(16);
         }
-        self.transfer(Request::write(Register::CtrlStat, 0x5400_0000))?;
-        self.transfer(Request::write(Register::Select, 0))?;
-        self.transfer(Request::write(Register::Csw, 2))?;
+        self.transfer(Packet::write(Register::CtrlStat, 0x5400_0000))?;
+        self.transfer(Packet::write(Register::Select, 0))?;
+        self.transfer(Packet::write(Register::Csw, 2))?;
         self.write(TEST_MODE, BIT_31)?;
         if self.read(TEST_MODE)? & BIT_31 == 0 {
             return Err(17);

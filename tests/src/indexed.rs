@@ -11,7 +11,7 @@ use crate::flow::{exchanged, silicon_level, Report, ATTEMPTS, BIT_31, BUSY, LOW_
 use crate::image::{header_refusal, Header};
 use crate::parts::{Sizes, IDCODE, OPEN, PROTECTED};
 use crate::session::Outcome;
-use crate::wire::{acknowledgement, parity, Ack, Answer, Request};
+use crate::wire::{acknowledgement, parity, Ack, Answer, Packet};
 
 pub const BYTES: usize = 45;
 
@@ -147,7 +147,7 @@ impl Fields {
     /// The answer to a read or write.
     fn take(&mut self, sizes: &Sizes, standing: &Move, ack: u32, word: u32, bit: bool) {
         self.transfers = (self.transfers + 1).min(bound(sizes, Entry::Protected) as u32);
-        let reads = matches!(standing.request, Request::Read { .. });
+        let reads = matches!(standing.packet, Packet::Read { .. });
         let broken = match acknowledgement(ack) {
             Ack::Ok if reads && bit != parity(word) => Some(30),
             Ack::Ok => None,
@@ -201,8 +201,8 @@ pub fn step<'a>(
     }
     let standing = moves(&fields.header, fields.entry)[fields.at as usize];
     match answer {
-        Answer::ResetDone if !standing.request.is_transfer() => fields.at += 1,
-        Answer::Wire { ack, word, parity } if standing.request.is_transfer() => {
+        Answer::ResetDone if !standing.packet.is_transfer() => fields.at += 1,
+        Answer::Wire { ack, word, parity } if standing.packet.is_transfer() => {
             fields.take(&sizes, &standing, ack, word, parity);
         }
         _ => return Outcome::Refused(14),
@@ -213,7 +213,7 @@ pub fn step<'a>(
     *bytes = fields.bytes();
     match fields.finished {
         true => fields.report(),
-        false => Outcome::Request(moves(&fields.header, fields.entry)[fields.at as usize].request),
+        false => Outcome::Ask(moves(&fields.header, fields.entry)[fields.at as usize].packet),
     }
 }
 

@@ -18,7 +18,7 @@ use crate::flow::Report;
 use crate::image::Header;
 use crate::indexed::{header_bytes, header_of};
 use crate::session::Outcome;
-use crate::wire::{Answer, Request};
+use crate::wire::{Answer, Packet};
 use halzuqeen::raw;
 
 pub struct Linked;
@@ -30,10 +30,10 @@ const UNWRITTEN: u8 = 0xEE;
 pub fn outcome_bytes(outcome: Outcome) -> [u8; raw::OUTCOME] {
     let (kind, first, second, word) = match outcome {
         Outcome::Refused(number) => (0, number, 0, 0),
-        Outcome::Request(Request::Xres) => (1, 0, 0, 0),
-        Outcome::Request(Request::LineReset) => (2, 0, 0, 0),
-        Outcome::Request(Request::Read { byte }) => (3, byte, 0, 0),
-        Outcome::Request(Request::Write { byte, word, parity }) => (4, byte, parity.into(), word),
+        Outcome::Ask(Packet::Xres) => (1, 0, 0, 0),
+        Outcome::Ask(Packet::LineReset) => (2, 0, 0, 0),
+        Outcome::Ask(Packet::Read { byte }) => (3, byte, 0, 0),
+        Outcome::Ask(Packet::Write { byte, word, parity }) => (4, byte, parity.into(), word),
         Outcome::Report(Report { number, step, transfers }) => (5, number, step, transfers),
     };
     let [a, b, c, d] = word.to_le_bytes();
@@ -45,10 +45,10 @@ fn outcome_of(bytes: &[u8; raw::OUTCOME], number: u32) -> Outcome {
     let word = u32::from_le_bytes([bytes[4], bytes[5], bytes[6], bytes[7]]);
     let outcome = match bytes[0] {
         0 => Outcome::Refused(bytes[1]),
-        1 => Outcome::Request(Request::Xres),
-        2 => Outcome::Request(Request::LineReset),
-        3 => Outcome::Request(Request::Read { byte: bytes[1] }),
-        4 => Outcome::Request(Request::Write { byte: bytes[1], word, parity: bytes[2] == 1 }),
+        1 => Outcome::Ask(Packet::Xres),
+        2 => Outcome::Ask(Packet::LineReset),
+        3 => Outcome::Ask(Packet::Read { byte: bytes[1] }),
+        4 => Outcome::Ask(Packet::Write { byte: bytes[1], word, parity: bytes[2] == 1 }),
         5 => Outcome::Report(Report { number: bytes[1], step: bytes[2], transfers: word }),
         kind => panic!("an outcome of kind {kind}"),
     };
@@ -78,9 +78,9 @@ impl Core for Linked {
     type Session = [u8; raw::SESSION];
 
     fn read(&self, part: u32, macros: u32, text: &[u8], buffer: &mut [u8]) -> (u8, Header) {
-        let mut record = [UNWRITTEN; raw::RECORD];
-        let number = raw::read(byte(part), byte(macros), text, buffer, &mut record);
-        (number as u8, header_of(&record))
+        let mut header = [UNWRITTEN; raw::HEADER];
+        let number = raw::read(byte(part), byte(macros), text, buffer, &mut header);
+        (number as u8, header_of(&header))
     }
 
     fn write(&self, header: &Header, image: &[u8], text: &mut [u8]) -> (u8, usize) {

@@ -2,7 +2,7 @@
 
 use crate::flow::{BIT_31, BUSY};
 use crate::parts::{Sizes, TEST_MODE};
-use crate::wire::{acknowledgement, parity, Ack, Answer, Register, Request};
+use crate::wire::{acknowledgement, parity, Ack, Answer, Packet, Register};
 
 /// What the session waits for, as the wire shows it.
 #[derive(Clone, Copy, PartialEq, Eq, Debug)]
@@ -30,7 +30,7 @@ pub struct Monitor {
     pub busy_polls: u64,
     pub failed_attempts: u64,
     /// The transfer that waits, and its WAITs so far.
-    waiting: Option<(Request, u32)>,
+    waiting: Option<(Packet, u32)>,
     attempts_running: u32,
     address: Option<u32>,
     reads: u32,
@@ -66,34 +66,34 @@ impl Monitor {
     }
 
     /// A request as handed out, before its answer.
-    pub fn hand_out(&mut self, request: Request) {
-        match request {
-            Request::Xres => self.xres += 1,
-            Request::LineReset => self.line_resets += 1,
-            Request::Read { .. } | Request::Write { .. } => self.transfers += 1,
+    pub fn hand_out(&mut self, packet: Packet) {
+        match packet {
+            Packet::Xres => self.xres += 1,
+            Packet::LineReset => self.line_resets += 1,
+            Packet::Read { .. } | Packet::Write { .. } => self.transfers += 1,
         }
     }
 
-    pub fn observe(&mut self, request: Request, answer: Answer) {
+    pub fn observe(&mut self, packet: Packet, answer: Answer) {
         let Answer::Wire { ack, word, parity: bit } = answer else {
             // A reset ends what waited; the next acquisition has its own thirty attempts.
             self.waiting = None;
-            if request == Request::Xres {
+            if packet == Packet::Xres {
                 self.attempts_running = 0;
             }
             return;
         };
-        let reads = matches!(request, Request::Read { .. });
+        let reads = matches!(packet, Packet::Read { .. });
         let right = !reads || bit == parity(word);
         let ack = acknowledgement(ack);
-        if request == Request::read(Register::IdCode) {
+        if packet == Packet::read(Register::IdCode) {
             return self.attempt(ack == Ack::Ok && right);
         }
         match ack {
             Ack::Wait => {
                 self.waits += 1;
-                let before = self.waiting.filter(|w| w.0 == request).map_or(0, |w| w.1);
-                self.waiting = Some((request, before + 1));
+                let before = self.waiting.filter(|w| w.0 == packet).map_or(0, |w| w.1);
+                self.waiting = Some((packet, before + 1));
                 if before + 1 == 17 {
                     self.occurs(27);
                 }
@@ -104,7 +104,7 @@ impl Monitor {
             Ack::Ok if !right => self.occurs(30),
             Ack::Ok => {
                 self.waiting = None;
-                self.accepted(request, word);
+                self.accepted(packet, word);
             }
         }
     }
@@ -122,17 +122,17 @@ impl Monitor {
         }
     }
 
-    fn accepted(&mut self, request: Request, answered: u32) {
+    fn accepted(&mut self, packet: Packet, answered: u32) {
         const TAR: u8 = Register::Tar.write_byte();
         const DRW: u8 = Register::Drw.write_byte();
-        match request {
-            Request::Write { byte: TAR, word, .. } => (self.address, self.reads) = (Some(word), 0),
-            Request::Write { byte: DRW, word, .. }
+        match packet {
+            Packet::Write { byte: TAR, word, .. } => (self.address, self.reads) = (Some(word), 0),
+            Packet::Write { byte: DRW, word, .. }
                 if self.address == Some(self.sysreq) && word & BIT_31 != 0 =>
             {
                 self.state = Loop::Polling { call: true, busy: 0 };
             }
-            Request::Read { .. } => {
+            Packet::Read { .. } => {
                 self.reads += 1;
                 // The first word is stale, the second makes the Read.
                 if let (Some(address), 2) = (self.address, self.reads) {
@@ -183,9 +183,9 @@ mod tests {
 
     /// A Read of an address that gives this word.
     fn read(monitor: &mut Monitor, address: u32, word: u32) {
-        monitor.observe(Request::write(Register::Tar, address), ok(0));
-        monitor.observe(Request::read(Register::Drw), ok(!word));
-        monitor.observe(Request::read(Register::Drw), ok(word));
+        monitor.observe(Packet::write(Register::Tar, address), ok(0));
+        monitor.observe(Packet::read(Register::Drw), ok(!word));
+        monitor.observe(Packet::read(Register::Drw), ok(word));
     }
 
     fn monitor() -> Monitor {
@@ -217,8 +217,8 @@ mod tests {
     }
 
     fn monitor_call(monitor: &mut Monitor) {
-        monitor.observe(Request::write(Register::Tar, SYSREQ), ok(0));
-        monitor.observe(Request::write(Register::Drw, BIT_31), ok(0));
+        monitor.observe(Packet::write(Register::Tar, SYSREQ), ok(0));
+        monitor.observe(Packet::write(Register::Drw, BIT_31), ok(0));
     }
 
     /// A loop's count starts afresh; bit 28 alone is busy too.
@@ -240,16 +240,16 @@ mod tests {
     #[test]
     fn waits_of_one_transfer() {
         let wait = Answer::Wire { ack: 2, word: 0, parity: false };
-        let drw = |word| Request::write(Register::Drw, word);
-        let between = [(drw(6), wait), (drw(5), ok(0)), (Request::LineReset, Answer::ResetDone)];
-        for (request, answer) in between {
+        let drw = |word| Packet::write(Register::Drw, word);
+        let between = [(drw(6), wait), (drw(5), ok(0)), (Packet::LineReset, Answer::ResetDone)];
+        for (packet, answer) in between {
             let mut m = monitor();
             (0..16).for_each(|_| m.observe(drw(5), wait));
-            m.observe(request, answer);
+            m.observe(packet, answer);
             (0..16).for_each(|_| m.observe(drw(5), wait));
-            assert_eq!(m.mishap, None, "{request:?}");
+            assert_eq!(m.mishap, None, "{packet:?}");
             m.observe(drw(5), wait);
-            assert_eq!(m.mishap, Some(27), "{request:?}");
+            assert_eq!(m.mishap, Some(27), "{packet:?}");
         }
     }
 
@@ -266,28 +266,28 @@ mod tests {
         let mut m = monitor();
         let wrong = [(2, true), (4, true), (0, true), (1, true), (7, true), (255, true)];
         for &(ack, parity) in wrong.iter().cycle().take(29) {
-            m.observe(Request::read(Register::IdCode), Answer::Wire { ack, word: 0, parity });
+            m.observe(Packet::read(Register::IdCode), Answer::Wire { ack, word: 0, parity });
         }
         assert_eq!((m.mishap, m.failed_attempts, m.waits), (None, 29, 0));
-        m.observe(Request::read(Register::IdCode), Answer::Wire { ack: 7, word: 0, parity: false });
+        m.observe(Packet::read(Register::IdCode), Answer::Wire { ack: 7, word: 0, parity: false });
         assert_eq!(m.mishap, Some(26));
     }
 
     /// "29 is left with 7"; 33 is "an acknowledgement other than 1, 2, 4 and 7"; inside an attempt neither counts.
     #[test]
     fn silence_and_noise() {
-        let requests = [Request::write(Register::Tar, 4), Request::read(Register::Drw)];
+        let requests = [Packet::write(Register::Tar, 4), Packet::read(Register::Drw)];
         for (ack, number) in [(7, 29), (0, 33), (3, 33), (5, 33), (6, 33), (8, 33), (255, 33), (256, 33)] {
             let answer = Answer::Wire { ack, word: 0, parity: false };
-            for request in requests {
+            for packet in requests {
                 let mut m = monitor();
-                m.observe(request, answer);
-                assert_eq!(m.mishap, Some(number), "{ack}, {request:?}");
+                m.observe(packet, answer);
+                assert_eq!(m.mishap, Some(number), "{ack}, {packet:?}");
             }
             let mut m = monitor();
-            (0..29).for_each(|_| m.observe(Request::read(Register::IdCode), answer));
+            (0..29).for_each(|_| m.observe(Packet::read(Register::IdCode), answer));
             assert_eq!((m.mishap, m.failed_attempts), (None, 29));
-            m.observe(Request::read(Register::IdCode), answer);
+            m.observe(Packet::read(Register::IdCode), answer);
             assert_eq!(m.mishap, Some(26));
         }
     }

@@ -8,7 +8,7 @@ use crate::image::Header;
 use crate::monitor::Monitor;
 use crate::rng::Rng;
 use crate::session::{start, Outcome, Session};
-use crate::wire::{Answer, Request};
+use crate::wire::{Answer, Packet};
 use std::collections::HashMap;
 
 /// The lists of one random run: a plan of events by place, and chances for the rest.
@@ -113,12 +113,12 @@ pub struct Played {
 
 /// A request's bytes in a checksum: kind (0 XRES, 1 line reset, 2 read, 3 write), request byte, and
 /// for a write the word, low byte first, and the parity bit.
-pub fn hash_request(sum: &mut Fnv, request: Request) {
-    match request {
-        Request::Xres => sum.byte(0),
-        Request::LineReset => sum.byte(1),
-        Request::Read { byte } => sum.bytes(&[2, byte]),
-        Request::Write { byte, word, parity } => {
+pub fn hash_packet(sum: &mut Fnv, packet: Packet) {
+    match packet {
+        Packet::Xres => sum.byte(0),
+        Packet::LineReset => sum.byte(1),
+        Packet::Read { byte } => sum.bytes(&[2, byte]),
+        Packet::Write { byte, word, parity } => {
             sum.bytes(&[3, byte]);
             sum.bytes(&word.to_le_bytes());
             sum.byte(u8::from(parity));
@@ -127,14 +127,14 @@ pub fn hash_request(sum: &mut Fnv, request: Request) {
 }
 
 /// Refused steps put in between: one request in so many, 0 for none.
-fn refused_steps(session: &mut Session, image: &[u8], request: Request, rng: &mut Rng) {
+fn refused_steps(session: &mut Session, image: &[u8], packet: Packet, rng: &mut Rng) {
     let before = *session;
     let length = rng.below(image.len() + 50);
     let other = if length == image.len() { vec![] } else { rng.bytes(length) };
     let wire = Answer::Wire { ack: rng.word(), word: rng.word(), parity: rng.bit() };
     let any = if rng.bit() { wire } else { Answer::ResetDone };
     assert_eq!(session.step(&other, any), Outcome::Refused(12));
-    let wrong = if request.is_transfer() { Answer::ResetDone } else { wire };
+    let wrong = if packet.is_transfer() { Answer::ResetDone } else { wire };
     assert_eq!(session.step(image, wrong), Outcome::Refused(14));
     assert_eq!(*session, before);
 }
@@ -145,24 +145,24 @@ pub fn step_through(
     header: &Header,
     image: &[u8],
     mut refused: Option<(&mut Rng, usize)>,
-    mut transport: impl FnMut(Request) -> Answer,
+    mut transport: impl FnMut(Packet) -> Answer,
 ) -> (Report, u64) {
     let mut sum = Fnv::default();
     let (mut session, mut outcome) = start(header, image, true);
     loop {
-        let request = match outcome {
-            Outcome::Request(request) => request,
+        let packet = match outcome {
+            Outcome::Ask(packet) => packet,
             Outcome::Report(report) => {
                 after_report(&mut session, image, report);
                 return (report, sum.value());
             }
             Outcome::Refused(number) => panic!("refused with {number}"),
         };
-        hash_request(&mut sum, request);
-        let answer = transport(request);
+        hash_packet(&mut sum, packet);
+        let answer = transport(packet);
         if let Some((rng, one_in)) = &mut refused {
             if rng.chance(*one_in) {
-                refused_steps(&mut session, image, request, rng);
+                refused_steps(&mut session, image, packet, rng);
             }
         }
         outcome = session.step(image, answer);
@@ -182,10 +182,10 @@ pub fn play(header: &Header, image: &[u8], board: &Board, lists: &RandomLists) -
     let mut claims = Claims::new(header, image, board);
     let (mut met, mut left) = (board.clone(), lists.clone());
     let mut rng = Rng(lists.rng.0 ^ 0x5EED);
-    let (report, requests) = step_through(header, image, Some((&mut rng, 5_000)), |request| {
-        claims.handed_out(request);
-        let answer = met.answer(request, &mut left);
-        claims.answered(request, answer, &met);
+    let (report, requests) = step_through(header, image, Some((&mut rng, 5_000)), |packet| {
+        claims.handed_out(packet);
+        let answer = met.answer(packet, &mut left);
+        claims.answered(packet, answer, &met);
         answer
     });
     claims.reported(report, &met);
@@ -204,9 +204,9 @@ fn assert_same_as_flow(
 ) {
     let (mut board, mut left) = (board.clone(), lists.clone());
     let mut sum = Fnv::default();
-    let plain = flow::run(header, image, |request| {
-        hash_request(&mut sum, request);
-        board.answer(request, &mut left)
+    let plain = flow::run(header, image, |packet| {
+        hash_packet(&mut sum, packet);
+        board.answer(packet, &mut left)
     });
     assert_eq!((plain, sum.value()), (report, requests));
 }

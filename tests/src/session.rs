@@ -8,7 +8,7 @@ mod possible;
 use crate::flow::{key, Report, ATTEMPTS, BIT_31, REPEATS};
 use crate::image::{lent_refusal, Header};
 use crate::parts::{Sizes, IDCODE, KILL, LOCKS, LOCKS_STEP, PARAMS, TEST_MODE};
-use crate::wire::{acknowledgement, parity, Ack, Answer, Register, Request};
+use crate::wire::{acknowledgement, parity, Ack, Answer, Packet, Register};
 use place::{command, latch_word, Call, Operation, Phase, Place, Shape};
 use possible::most_transfers;
 
@@ -16,7 +16,7 @@ use possible::most_transfers;
 #[derive(Clone, Copy, PartialEq, Eq, Debug)]
 pub enum Outcome {
     Refused(u8),
-    Request(Request),
+    Ask(Packet),
     Report(Report),
 }
 
@@ -45,7 +45,7 @@ pub fn start(header: &Header, image: &[u8], leave_to_kill: bool) -> (Session, Ou
     match refusal {
         Some(number) => (Session::ZERO, Outcome::Refused(number)),
         // "Starting gives the session and its first request, XRES."
-        None => (Session { header: *header, ..Session::ZERO }, Outcome::Request(Request::Xres)),
+        None => (Session { header: *header, ..Session::ZERO }, Outcome::Ask(Packet::Xres)),
     }
 }
 
@@ -91,11 +91,11 @@ impl Session {
         if let Place::Reported(report) = self.place {
             return Outcome::Report(report);
         }
-        let request = self.operation(sizes, image).request(self.transfer);
-        if request.is_transfer() && self.transfers < most_transfers(sizes) {
+        let packet = self.operation(sizes, image).packet(self.transfer);
+        if packet.is_transfer() && self.transfers < most_transfers(sizes) {
             self.transfers += 1;
         }
-        Outcome::Request(request)
+        Outcome::Ask(packet)
     }
 
     fn finish(&mut self, number: u8) {
@@ -131,8 +131,8 @@ impl Session {
     fn operation(&self, sizes: &Sizes, image: &[u8]) -> Operation {
         let part = sizes.part;
         match self.place {
-            Place::Xres | Place::Reported(_) => Operation::Reset(Request::Xres),
-            Place::LineReset => Operation::Reset(Request::LineReset),
+            Place::Xres | Place::Reported(_) => Operation::Reset(Packet::Xres),
+            Place::LineReset => Operation::Reset(Packet::LineReset),
             Place::IdCode => Operation::IdCode,
             Place::CtrlStat => Operation::Port(Register::CtrlStat, 0x5400_0000),
             Place::Select => Operation::Port(Register::Select, 0),

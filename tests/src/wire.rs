@@ -75,25 +75,25 @@ pub const fn acknowledgement(bits: u32) -> Ack {
 
 /// What the core hands out.
 #[derive(Clone, Copy, PartialEq, Eq, Debug)]
-pub enum Request {
+pub enum Packet {
     Xres,
     LineReset,
     Read { byte: u8 },
     Write { byte: u8, word: u32, parity: bool },
 }
 
-impl Request {
-    pub const fn read(register: Register) -> Request {
-        Request::Read { byte: register.read_byte() }
+impl Packet {
+    pub const fn read(register: Register) -> Packet {
+        Packet::Read { byte: register.read_byte() }
     }
 
-    pub const fn write(register: Register, word: u32) -> Request {
-        Request::Write { byte: register.write_byte(), word, parity: parity(word) }
+    pub const fn write(register: Register, word: u32) -> Packet {
+        Packet::Write { byte: register.write_byte(), word, parity: parity(word) }
     }
 
     /// "transfers: the reads and writes handed out, repeats included, resets not."
     pub const fn is_transfer(self) -> bool {
-        matches!(self, Request::Read { .. } | Request::Write { .. })
+        matches!(self, Packet::Read { .. } | Packet::Write { .. })
     }
 }
 

@@ -12,7 +12,7 @@ use reference::play::{play, step_through, RandomLists};
 use reference::rng::Rng;
 use reference::session::{start, Outcome};
 use reference::texts::sample_image;
-use reference::wire::Request;
+use reference::wire::Packet;
 use std::collections::BTreeMap;
 
 #[test]
@@ -28,9 +28,9 @@ fn picked_up_after_a_cut() {
 fn left(header: &Header, image: &[u8], mut board: Board, mut lists: RandomLists, nth: u64) -> Board {
     let (mut session, mut outcome) = start(header, image, true);
     let mut calls = 0;
-    while let Outcome::Request(request) = outcome {
+    while let Outcome::Ask(packet) = outcome {
         let ran = board.running.is_some();
-        let answer = board.answer(request, &mut lists);
+        let answer = board.answer(packet, &mut lists);
         calls += u64::from(!ran && board.running.is_some());
         if calls == nth {
             return board;
@@ -66,12 +66,12 @@ fn begun_while_a_call_runs() {
         lists.calls.insert(nth - 1, RandomLists::failure(&mut rng));
         let board = left(&header, &image, board, lists, nth);
         let mut dropped = board.clone();
-        dropped.answer(Request::Xres, &mut Lists::default());
+        dropped.answer(Packet::Xres, &mut Lists::default());
         assert!(dropped.running.is_none());
         let calm = RandomLists::calm(rng.draw());
         let played = play(&header, &image, &dropped, &calm);
         let (mut met, mut lists) = (board.clone(), calm);
-        let same = step_through(&header, &image, None, |request| met.answer(request, &mut lists));
+        let same = step_through(&header, &image, None, |packet| met.answer(packet, &mut lists));
         assert_eq!(same, (played.report, played.requests));
         assert!(met.flash == played.board.flash && met.locks == played.board.locks);
         assert_eq!(played.report.number, if dropped.stored == KILL { 26 } else { 0 });

@@ -5,7 +5,7 @@ use reference::flow::Report;
 use reference::image::Header;
 use reference::parts::{OPEN, PROTECTED};
 use reference::play::step_through;
-use reference::wire::Request;
+use reference::wire::Packet;
 
 type Transfer = (u8, u32);
 
@@ -34,16 +34,16 @@ fn transfers() -> Vec<Transfer> {
     let metadata = [0, 2, 0x0A, 1, 2, 0x9A, 0, 0, 0, 0, 0, 0];
     let header = Header { part: 1, macros: 1, sum: 0x4000, metadata, level: 2 };
     let (mut board, mut lists, mut seen) = (Board::blank(&header, OPEN), Lists::default(), vec![]);
-    let (report, _) = step_through(&header, &image, None, |request| {
-        match request {
-            Request::Read { byte } => seen.push((byte, 0)),
-            Request::Write { byte, word, parity } => {
+    let (report, _) = step_through(&header, &image, None, |packet| {
+        match packet {
+            Packet::Read { byte } => seen.push((byte, 0)),
+            Packet::Write { byte, word, parity } => {
                 assert_eq!(parity, word.count_ones() % 2 == 1);
                 seen.push((byte, word));
             }
-            Request::Xres | Request::LineReset => assert!(seen.is_empty()),
+            Packet::Xres | Packet::LineReset => assert!(seen.is_empty()),
         }
-        board.answer(request, &mut lists)
+        board.answer(packet, &mut lists)
     });
     assert_eq!(report, Report { number: 0, step: 9, transfers: 27_279 });
     seen
@@ -104,11 +104,11 @@ fn words_of_two_macros() -> Vec<u32> {
         level: 1,
     };
     let (mut board, mut lists, mut words) = (Board::blank(&header, PROTECTED), Lists::default(), vec![]);
-    step_through(&header, &image, None, |request| {
-        if let Request::Write { word, .. } = request {
+    step_through(&header, &image, None, |packet| {
+        if let Packet::Write { word, .. } = packet {
             words.push(word);
         }
-        board.answer(request, &mut lists)
+        board.answer(packet, &mut lists)
     });
     words
 }

@@ -10,7 +10,7 @@ use reference::play::{play, Played, RandomLists};
 use reference::rng::Rng;
 use reference::session::{start, Outcome, Session};
 use reference::texts::sample_image;
-use reference::wire::{Answer, Request};
+use reference::wire::{Answer, Packet};
 use std::collections::BTreeMap;
 
 fn sizes(header: &Header) -> Sizes {
@@ -158,7 +158,7 @@ fn starting() {
     let refused = |header: &Header, image: &[u8], leave| start(header, image, leave);
     let no = |number| (Session::ZERO, Outcome::Refused(number));
     assert_eq!(refused(&header, &image, false), no(15));
-    assert_eq!(refused(&header, &image, true).1, Outcome::Request(Request::Xres));
+    assert_eq!(refused(&header, &image, true).1, Outcome::Ask(Packet::Xres));
     assert_eq!(refused(&Header { level: 0, ..header }, &image, false), no(8));
     assert_eq!(refused(&Header { sum: !header.sum, ..header }, &image, false), no(9));
     assert_eq!(refused(&Header { macros: 2, ..header }, &image[1..], false), no(11));

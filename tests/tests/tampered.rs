@@ -7,7 +7,7 @@ use reference::parts::{LOCKS, OPEN, PROTECTED, SIZES, TEST_MODE};
 use reference::play::step_through;
 use reference::rng::Rng;
 use reference::texts::sample_image;
-use reference::wire::{parity, Answer, Request};
+use reference::wire::{parity, Answer, Packet};
 
 /// A session on a calm board whose answers `tamper` changes by their transfer's place; the waiting
 /// programme sees the same answers.
@@ -15,9 +15,9 @@ fn tampered(header: &Header, image: &[u8], stored: u8, tamper: impl Fn(u64, Answ
     let transport = || {
         let (mut board, mut lists, mut place) = (Board::blank(header, stored), Lists::default(), 0);
         let tamper = &tamper;
-        move |request: Request| {
-            let answer = board.answer(request, &mut lists);
-            if !request.is_transfer() {
+        move |packet: Packet| {
+            let answer = board.answer(packet, &mut lists);
+            if !packet.is_transfer() {
                 return answer;
             }
             place += 1;
@@ -33,17 +33,17 @@ fn tampered(header: &Header, image: &[u8], stored: u8, tamper: impl Fn(u64, Answ
 fn reads_of(header: &Header, image: &[u8], stored: u8, address: u32) -> Vec<u64> {
     let (mut board, mut lists) = (Board::blank(header, stored), Lists::default());
     let (mut places, mut place, mut tar, mut reads) = (vec![], 0, 0, 0);
-    flow::run(header, image, |request| {
-        match request {
-            Request::Write { byte: 0x8B, word, .. } => (tar, reads) = (word, 0),
-            Request::Read { byte: 0x9F } => reads += 1,
+    flow::run(header, image, |packet| {
+        match packet {
+            Packet::Write { byte: 0x8B, word, .. } => (tar, reads) = (word, 0),
+            Packet::Read { byte: 0x9F } => reads += 1,
             _ => {}
         }
-        if (tar, reads) == (address, 2) && request == (Request::Read { byte: 0x9F }) {
+        if (tar, reads) == (address, 2) && packet == (Packet::Read { byte: 0x9F }) {
             places.push(place);
         }
-        place += u64::from(request.is_transfer());
-        board.answer(request, &mut lists)
+        place += u64::from(packet.is_transfer());
+        board.answer(packet, &mut lists)
     });
     places
 }

@@ -31,8 +31,8 @@ mod abi {
             event_bytes: usize,
             call: *const u8,
             call_bytes: usize,
-            request: *const u8,
-            request_bytes: usize,
+            packet: *const u8,
+            packet_bytes: usize,
             answer: *mut u8,
             answer_bytes: usize,
         ) -> u32;
@@ -61,7 +61,7 @@ pub fn meet(
     macros: u8,
     bench: Bench,
     Outcomes { event, call, left: [flash, locks, latch] }: Outcomes,
-    request: &[u8],
+    packet: &[u8],
     answer: &mut [u8],
 ) -> u32 {
     // SAFETY: as in `raw`: each pointer is a slice's own with its length, and the callee keeps none.
@@ -89,8 +89,8 @@ pub fn meet(
             event.len(),
             call.as_ptr(),
             call.len(),
-            request.as_ptr(),
-            request.len(),
+            packet.as_ptr(),
+            packet.len(),
             answer.as_mut_ptr(),
             answer.len(),
         )

@@ -2,11 +2,11 @@
 //! answer until it reports. `docs/EMBEDDING.md` says what each request puts on the wire.
 //!
 //! ```ignore
-//! let record = halzuqeen::read(1, 1, &text, &mut image)?;
-//! let (mut session, mut outcome) = halzuqeen::start(&record, &image, false)?;
+//! let header = halzuqeen::read(1, 1, &text, &mut image)?;
+//! let (mut session, mut outcome) = halzuqeen::start(&header, &image, false)?;
 //! let report = loop {
 //!     match outcome {
-//!         Outcome::Request(request) => outcome = session.step(&image, wire.exchange(request))?,
+//!         Outcome::Ask(packet) => outcome = session.step(&image, wire.exchange(packet))?,
 //!         Outcome::Report(report) => break report,
 //!     }
 //! };
@@ -23,7 +23,7 @@ pub struct Refusal(pub u8);
 
 /// What an image carries beside its bytes.
 #[derive(Clone, Copy, PartialEq, Eq, Debug, Default)]
-pub struct Record {
+pub struct Header {
     pub part: u8,
     pub macros: u8,
     pub sum: u16,
@@ -31,16 +31,16 @@ pub struct Record {
     pub level: u8,
 }
 
-impl Record {
-    pub fn from_bytes(bytes: &[u8; raw::RECORD]) -> Record {
+impl Header {
+    pub fn from_bytes(bytes: &[u8; raw::HEADER]) -> Header {
         let mut metadata = [0; 12];
         metadata.copy_from_slice(&bytes[4..16]);
         let sum = u16::from_le_bytes([bytes[2], bytes[3]]);
-        Record { part: bytes[0], macros: bytes[1], sum, metadata, level: bytes[16] }
+        Header { part: bytes[0], macros: bytes[1], sum, metadata, level: bytes[16] }
     }
 
-    pub fn bytes(&self) -> [u8; raw::RECORD] {
-        let mut bytes = [0; raw::RECORD];
+    pub fn bytes(&self) -> [u8; raw::HEADER] {
+        let mut bytes = [0; raw::HEADER];
         (bytes[0], bytes[1], bytes[16]) = (self.part, self.macros, self.level);
         bytes[2..4].copy_from_slice(&self.sum.to_le_bytes());
         bytes[4..16].copy_from_slice(&self.metadata);
@@ -50,7 +50,7 @@ impl Record {
 
 /// What the host puts on the wire.
 #[derive(Clone, Copy, PartialEq, Eq, Debug)]
-pub enum Request {
+pub enum Packet {
     Xres,
     LineReset,
     Read { byte: u8 },
@@ -75,7 +75,7 @@ pub struct Report {
 
 #[derive(Clone, Copy, PartialEq, Eq, Debug)]
 pub enum Outcome {
-    Request(Request),
+    Ask(Packet),
     Report(Report),
 }
 
@@ -94,33 +94,33 @@ fn taken(number: u32) -> Result<(), Refusal> {
 pub fn outcome_of(bytes: &[u8; raw::OUTCOME]) -> Result<Outcome, Refusal> {
     let word = u32::from_le_bytes([bytes[4], bytes[5], bytes[6], bytes[7]]);
     Ok(match bytes[0] {
-        1 => Outcome::Request(Request::Xres),
-        2 => Outcome::Request(Request::LineReset),
-        3 => Outcome::Request(Request::Read { byte: bytes[1] }),
-        4 => Outcome::Request(Request::Write { byte: bytes[1], word, parity: bytes[2] != 0 }),
+        1 => Outcome::Ask(Packet::Xres),
+        2 => Outcome::Ask(Packet::LineReset),
+        3 => Outcome::Ask(Packet::Read { byte: bytes[1] }),
+        4 => Outcome::Ask(Packet::Write { byte: bytes[1], word, parity: bytes[2] != 0 }),
         5 => Outcome::Report(Report { number: bytes[1], step: bytes[2], transfers: word }),
         _ => return Err(Refusal(bytes[1])),
     })
 }
 
 /// Reads a hex text into the lent buffer; refused with 1 to 10, the image's bytes in it are zeroed.
-pub fn read(part: u8, macros: u8, text: &[u8], image: &mut [u8]) -> Result<Record, Refusal> {
-    let mut record = [0; raw::RECORD];
-    taken(raw::read(part, macros, text, image, &mut record))?;
-    Ok(Record::from_bytes(&record))
+pub fn read(part: u8, macros: u8, text: &[u8], image: &mut [u8]) -> Result<Header, Refusal> {
+    let mut header = [0; raw::HEADER];
+    taken(raw::read(part, macros, text, image, &mut header))?;
+    Ok(Header::from_bytes(&header))
 }
 
 /// Writes the image's text into the lent buffer and gives its length.
-pub fn write(record: &Record, image: &[u8], text: &mut [u8]) -> Result<usize, Refusal> {
+pub fn write(header: &Header, image: &[u8], text: &mut [u8]) -> Result<usize, Refusal> {
     let mut length = [0; raw::LENGTH];
-    taken(raw::write(&record.bytes(), image, text, &mut length))?;
+    taken(raw::write(&header.bytes(), image, text, &mut length))?;
     Ok(u64::from_le_bytes(length) as usize)
 }
 
 /// Starts a session; its first request is XRES. `leave` allows an image of level KILL.
-pub fn start(record: &Record, image: &[u8], leave: bool) -> Result<(Session, Outcome), Refusal> {
+pub fn start(header: &Header, image: &[u8], leave: bool) -> Result<(Session, Outcome), Refusal> {
     let (mut session, mut outcome) = ([0; raw::SESSION], [0; raw::OUTCOME]);
-    taken(raw::start(&record.bytes(), image, leave.into(), &mut session, &mut outcome))?;
+    taken(raw::start(&header.bytes(), image, leave.into(), &mut session, &mut outcome))?;
     Ok((Session(session), outcome_of(&outcome)?))
 }
 

@@ -1,12 +1,12 @@
 //! The four calls on bytes, as the C ABI has them: slices of any length, and the refusal's number or 0.
 //! `lib.rs` puts types around them.
 //!
-//! A record, a session, an outcome or a length may be longer than its size, and bytes past it stay; under
+//! A header, a session, an outcome or a length may be longer than its size, and bytes past it stay; under
 //! size it is 12, in the order that `include/halzuqeen.h` says. With a refusal every output that fits is
 //! written: zeros, or the refusal; a refused step leaves the session.
 
 // The sizes: what is lent must have at least so many bytes.
-pub const RECORD: usize = 17;
+pub const HEADER: usize = 17;
 pub const SESSION: usize = 45;
 pub const OUTCOME: usize = 8;
 pub const LENGTH: usize = 8;
@@ -21,12 +21,12 @@ mod abi {
             text_bytes: usize,
             image: *mut u8,
             image_bytes: usize,
-            record: *mut u8,
-            record_bytes: usize,
+            header: *mut u8,
+            header_bytes: usize,
         ) -> u32;
         pub fn halzuqeen_write(
-            record: *const u8,
-            record_bytes: usize,
+            header: *const u8,
+            header_bytes: usize,
             image: *const u8,
             image_bytes: usize,
             text: *mut u8,
@@ -35,8 +35,8 @@ mod abi {
             length_bytes: usize,
         ) -> u32;
         pub fn halzuqeen_start(
-            record: *const u8,
-            record_bytes: usize,
+            header: *const u8,
+            header_bytes: usize,
             image: *const u8,
             image_bytes: usize,
             leave: u8,
@@ -63,8 +63,8 @@ mod abi {
 // SAFETY, for all four: each pointer is a slice's own with its length, the mutable ones are
 // borrowed as such for the call, and the callee keeps none of them.
 
-/// Checks 11; 12 of record and image; the text.
-pub fn read(part: u8, macros: u8, text: &[u8], image: &mut [u8], record: &mut [u8]) -> u32 {
+/// Checks 11; 12 of header and image; the text.
+pub fn read(part: u8, macros: u8, text: &[u8], image: &mut [u8], header: &mut [u8]) -> u32 {
     unsafe {
         abi::halzuqeen_read(
             part,
@@ -73,18 +73,18 @@ pub fn read(part: u8, macros: u8, text: &[u8], image: &mut [u8], record: &mut [u
             text.len(),
             image.as_mut_ptr(),
             image.len(),
-            record.as_mut_ptr(),
-            record.len(),
+            header.as_mut_ptr(),
+            header.len(),
         )
     }
 }
 
-/// Checks 12 of the record; 11; 12 of length, image and text; 6 to 10.
-pub fn write(record: &[u8], image: &[u8], text: &mut [u8], length: &mut [u8]) -> u32 {
+/// Checks 12 of the header; 11; 12 of length, image and text; 6 to 10.
+pub fn write(header: &[u8], image: &[u8], text: &mut [u8], length: &mut [u8]) -> u32 {
     unsafe {
         abi::halzuqeen_write(
-            record.as_ptr(),
-            record.len(),
+            header.as_ptr(),
+            header.len(),
             image.as_ptr(),
             image.len(),
             text.as_mut_ptr(),
@@ -95,12 +95,12 @@ pub fn write(record: &[u8], image: &[u8], text: &mut [u8], length: &mut [u8]) ->
     }
 }
 
-/// Checks 12 of the record; 11; 12 of session, outcome and image; 6 to 10; 15.
-pub fn start(record: &[u8], image: &[u8], leave: u8, session: &mut [u8], outcome: &mut [u8]) -> u32 {
+/// Checks 12 of the header; 11; 12 of session, outcome and image; 6 to 10; 15.
+pub fn start(header: &[u8], image: &[u8], leave: u8, session: &mut [u8], outcome: &mut [u8]) -> u32 {
     unsafe {
         abi::halzuqeen_start(
-            record.as_ptr(),
-            record.len(),
+            header.as_ptr(),
+            header.len(),
             image.as_ptr(),
             image.len(),
             leave,

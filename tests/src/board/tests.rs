@@ -13,7 +13,7 @@ fn board(stored: u8) -> (Board, Lists) {
     let mut rng = Rng(41);
     let (header, _) = sample_image(&mut rng, 3, 2);
     let mut board = Board::any(&mut rng, &header, stored);
-    assert_eq!(board.answer(Request::Xres, &mut Lists::default()), Answer::ResetDone);
+    assert_eq!(board.answer(Packet::Xres, &mut Lists::default()), Answer::ResetDone);
     (board, Lists::default())
 }
 
@@ -25,15 +25,15 @@ fn ack(answer: Answer) -> u32 {
 }
 
 fn write(board: &mut Board, lists: &mut Lists, address: u32, word: u32) -> u32 {
-    assert_eq!(ack(board.answer(Request::write(Register::Tar, address), lists)), 1);
-    ack(board.answer(Request::write(Register::Drw, word), lists))
+    assert_eq!(ack(board.answer(Packet::write(Register::Tar, address), lists)), 1);
+    ack(board.answer(Packet::write(Register::Drw, word), lists))
 }
 
 /// The word of a Read, or the acknowledgement that stopped it.
 fn read(board: &mut Board, lists: &mut Lists, address: u32) -> Result<u32, u32> {
-    assert_eq!(ack(board.answer(Request::write(Register::Tar, address), lists)), 1);
+    assert_eq!(ack(board.answer(Packet::write(Register::Tar, address), lists)), 1);
     for last in [false, true] {
-        match board.answer(Request::read(Register::Drw), lists) {
+        match board.answer(Packet::read(Register::Drw), lists) {
             Answer::Wire { ack: 1, word, parity: bit } if last && bit == parity(word) => return Ok(word),
             Answer::Wire { ack: 1, .. } => {}
             other => return Err(ack(other)),
@@ -77,9 +77,9 @@ fn kill_is_silent() {
     for line in [Line::Ok].into_iter().chain(Line::DISTURBANCES) {
         let event = LineEvent { noise: 5, ..LineEvent::of(line) };
         let mut lists = Lists { line: vec![event], ..Lists::default() };
-        assert_eq!(ack(b.answer(Request::write(Register::Tar, !tar), &mut lists)), 7);
+        assert_eq!(ack(b.answer(Packet::write(Register::Tar, !tar), &mut lists)), 7);
         let mut lists = Lists { line: vec![event], ..Lists::default() };
-        assert_eq!(ack(b.answer(Request::read(Register::IdCode), &mut lists)), 7);
+        assert_eq!(ack(b.answer(Packet::read(Register::IdCode), &mut lists)), 7);
         assert_eq!((lists.line_used, b.tar), (1, tar));
     }
 }
@@ -93,12 +93,12 @@ fn what_is_carried_out() {
         let (mut b, _) = board(OPEN);
         let mut lists = Lists { line: vec![LineEvent::of(line)], ..Lists::default() };
         b.tar = 4;
-        b.answer(Request::write(Register::Tar, 8), &mut lists);
+        b.answer(Packet::write(Register::Tar, 8), &mut lists);
         assert_eq!(b.tar == 8, carried);
         let (mut b, _) = board(OPEN);
         let mut lists = Lists { line: vec![LineEvent::of(line)], ..Lists::default() };
         (b.tar, b.posted) = (4, 0x5555_0001);
-        let answer = b.answer(Request::read(Register::Drw), &mut lists);
+        let answer = b.answer(Packet::read(Register::Drw), &mut lists);
         assert_eq!(b.posted == crate::image::word(&b.flash[4..]), carried);
         if let Answer::Wire { ack: 1, word, parity: bit } = answer {
             assert_eq!(bit == parity(word), line == Line::Ok);
@@ -118,7 +118,7 @@ fn xres_drops_a_call() {
     write(&mut b, &mut lists, SYSARG, 0x0004_E0B6);
     write(&mut b, &mut lists, SYSREQ, BIT_31 + WRITE);
     assert_eq!(read(&mut b, &mut lists, SYSREQ), Ok(BIT_31 + WRITE));
-    b.answer(Request::Xres, &mut lists);
+    b.answer(Packet::Xres, &mut lists);
     assert_eq!((b.stored, b.in_effect, b.sysreq, b.sysarg, b.tar), (KILL, KILL, 0, 0x1234_5678, tar));
     assert!(b.flash != flash && b.running.is_none());
 }
@@ -157,7 +157,7 @@ fn reopening() {
     assert_eq!((b.stored, b.in_effect), (OPEN, PROTECTED));
     assert!(b.flash.iter().chain(&b.locks).all(|&byte| byte == 0));
     assert_eq!(read(&mut b, &mut lists, 0), Err(4));
-    b.answer(Request::Xres, &mut lists);
+    b.answer(Packet::Xres, &mut lists);
     assert_eq!(read(&mut b, &mut lists, 0), Ok(0));
 }
 
@@ -205,11 +205,11 @@ fn sysreq_written_while_a_call_runs() {
 fn malformed_requests_are_lost() {
     let (mut b, mut lists) = board(OPEN);
     let (tar, word) = (b.tar, b.tar ^ 4);
-    let wrong = Request::Write { byte: 0x8B, word, parity: !parity(word) };
-    for request in
-        [wrong, Request::Read { byte: 0x8B }, Request::Write { byte: 0xAB, word, parity: parity(word) }]
+    let wrong = Packet::Write { byte: 0x8B, word, parity: !parity(word) };
+    for packet in
+        [wrong, Packet::Read { byte: 0x8B }, Packet::Write { byte: 0xAB, word, parity: parity(word) }]
     {
-        assert_eq!(ack(b.answer(request, &mut lists)), 7);
+        assert_eq!(ack(b.answer(packet, &mut lists)), 7);
     }
     assert_eq!((b.tar, b.malformed, lists.line_used), (tar, 3, 3));
 }

@@ -4,17 +4,17 @@ use super::make::Maker;
 use super::{image_bytes, Bench, Case, Override};
 use crate::flow;
 use crate::parts::{Sizes, IDCODE, LOCKS, OPEN, PROTECTED, TEST_MODE};
-use crate::wire::{parity, Request};
+use crate::wire::{parity, Packet};
 
 /// The transfers of a calm session whose word is that of a Read of `address`.
 fn reads_of(case: &Case, address: u32) -> Vec<u32> {
     let image = image_bytes(case.seed, case.length);
     let mut bench = Bench::new(case);
     let (mut places, mut tar, mut reads, mut place) = (vec![], 0, 0, 0);
-    flow::run(&case.header, &image, |request| {
-        match request {
-            Request::Write { byte: 0x8B, word, .. } => (tar, reads) = (word, 0),
-            Request::Read { byte: 0x9F } => {
+    flow::run(&case.header, &image, |packet| {
+        match packet {
+            Packet::Write { byte: 0x8B, word, .. } => (tar, reads) = (word, 0),
+            Packet::Read { byte: 0x9F } => {
                 reads += 1;
                 if (tar, reads) == (address, 2) {
                     places.push(place);
@@ -22,8 +22,8 @@ fn reads_of(case: &Case, address: u32) -> Vec<u32> {
             }
             _ => {}
         }
-        place += u32::from(request.is_transfer());
-        bench.answer(request)
+        place += u32::from(packet.is_transfer());
+        bench.answer(packet)
     });
     places
 }
@@ -33,7 +33,7 @@ fn step_at(case: &Case, at: u32) -> u8 {
     let case = Case { overrides: vec![lost(at, 1, 4)], ..case.clone() };
     let image = image_bytes(case.seed, case.length);
     let mut bench = Bench::new(&case);
-    flow::run(&case.header, &image, |request| bench.answer(request)).step
+    flow::run(&case.header, &image, |packet| bench.answer(packet)).step
 }
 
 /// One transfer answered OK with this word and its parity.
@@ -114,12 +114,12 @@ impl Maker {
         let (part, again) = (sizes.part, ["", " again"][time]);
         let mut add =
             |name: &str, expected, answer| self.add(&format!("{name}{again}"), expected, case, &[answer]);
-        let (arg, request) = (args[imo + 1 + time * (imo + 3)], requests[imo + 2 + time * (imo + 4)]);
+        let (arg, packet) = (args[imo + 1 + time * (imo + 3)], requests[imo + 2 + time * (imo + 4)]);
         let (ids, family) = (0xA000_0000 | u32::from(part.id_high) << 8, u32::from(part.id_family));
         let level = if time == 0 { u32::from(case.stored) } else { 1 };
         add("high", (20, 2), word(arg, ids ^ 0x100));
-        add("family", (20, 2), word(request, family ^ 1 | level << 12));
-        add("family and level", (20, 2), word(request, family ^ 1));
+        add("family", (20, 2), word(packet, family ^ 1 | level << 12));
+        add("family and level", (20, 2), word(packet, family ^ 1));
         if part.number == 1 {
             add("the IDs' top digit is free", (0, 9), word(arg, ids & 0xFFFF));
         }
@@ -131,7 +131,7 @@ impl Maker {
             }
         }
         for level in [0, 2, 3, 4, 9, 15].into_iter().filter(|&level| time == 1 || level != 2) {
-            add(&format!("level {level}"), (21, 2), word(request, family | level << 12));
+            add(&format!("level {level}"), (21, 2), word(packet, family | level << 12));
         }
     }
 

@@ -8,7 +8,7 @@ use crate::parts::{LOCKS, OPEN, PROTECTED, TEST_MODE};
 use crate::play::RandomLists;
 use crate::rng::Rng;
 use crate::texts::sample_image;
-use crate::wire::{parity, Answer, Request};
+use crate::wire::{parity, Answer, Packet};
 
 /// A board, its lists, and at times one Read whose word is changed on the way.
 pub struct Run {
@@ -175,8 +175,8 @@ impl Transport {
         Transport { board, lists, tampered: run.tampered, wild, address: 0, reads: 0 }
     }
 
-    pub(super) fn answer(&mut self, request: Request) -> Answer {
-        let answer = self.board.answer(request, &mut self.lists);
+    pub(super) fn answer(&mut self, packet: Packet) -> Answer {
+        let answer = self.board.answer(packet, &mut self.lists);
         if let (Some((one_in, rng)), Answer::Wire { .. }) = (&mut self.wild, answer) {
             if rng.chance(*one_in) {
                 let (ack, word) = (*rng.pick(&[1, 1, 1, 1, 2, 4, 0, 7]), rng.word());
@@ -186,9 +186,9 @@ impl Transport {
         let Answer::Wire { ack: 1, word, parity: bit } = answer else {
             return answer;
         };
-        match request {
-            Request::Write { byte: 0x8B, word, .. } => (self.address, self.reads) = (word, 0),
-            Request::Read { byte: 0x9F } => self.reads += 1,
+        match packet {
+            Packet::Write { byte: 0x8B, word, .. } => (self.address, self.reads) = (word, 0),
+            Packet::Read { byte: 0x9F } => self.reads += 1,
             _ => {}
         }
         match &mut self.tampered {

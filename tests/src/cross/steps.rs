@@ -75,7 +75,7 @@ pub fn one_session(core: &impl Core, rng: &mut Rng, run: &Run, tally: &mut Tally
     let mut claims = run.is_plain().then(|| Claims::new(header, image, &run.board));
     tally.plain += u64::from(run.is_plain());
     loop {
-        let request = match outcome {
+        let packet = match outcome {
             Outcome::Refused(number) => return number,
             Outcome::Report(report) => {
                 if let Some(claims) = &claims {
@@ -85,16 +85,16 @@ pub fn one_session(core: &impl Core, rng: &mut Rng, run: &Run, tally: &mut Tally
                 tally.refused += refused(core, rng, &mut ours, &mut theirs, image);
                 return report.number;
             }
-            Outcome::Request(request) => request,
+            Outcome::Ask(packet) => packet,
         };
         tally.requests += 1;
         if rng.chance(2_000) {
             tally.refused += refused(core, rng, &mut ours, &mut theirs, image);
         }
-        let answer = transport.answer(request);
+        let answer = transport.answer(packet);
         if let Some(claims) = &mut claims {
-            claims.handed_out(request);
-            claims.answered(request, answer, &transport.board);
+            claims.handed_out(packet);
+            claims.answered(packet, answer, &transport.board);
         }
         outcome = ours.step(image, answer);
         assert_eq!(core.step(&mut theirs, image, answer), outcome);

@@ -7,7 +7,7 @@ use crate::flow::{CHECKSUM, ERASE_ALL, LOAD_LATCH, PROGRAM_ROW, SET_IMO, SILICON
 use crate::parts::{Sizes, KILL};
 use crate::play::RandomLists;
 use crate::rng::Rng;
-use crate::wire::{Register, Request};
+use crate::wire::{Packet, Register};
 
 #[derive(Clone, Copy, Debug)]
 enum Aim {
@@ -58,7 +58,7 @@ impl Place {
     }
 
     /// Whether the power goes now, before this request is met. Asked once for each request.
-    pub fn comes(&mut self, board: &Board, next: Request) -> bool {
+    pub fn comes(&mut self, board: &Board, next: Packet) -> bool {
         let met = self.requests;
         self.requests += 1;
         match self.aim {
@@ -80,9 +80,9 @@ impl Place {
 }
 
 /// "which takes effect there": the DRW read of SYSREQ past the busy ones.
-fn may_end(board: &Board, next: Request) -> bool {
+fn may_end(board: &Board, next: Packet) -> bool {
     let due = board.running.is_some_and(|call| call.outcome.busy == 0);
-    due && next == Request::read(Register::Drw) && board.place(board.tar) == At::SysReq
+    due && next == Packet::read(Register::Drw) && board.place(board.tar) == At::SysReq
 }
 
 /// A call that a session from this entry makes, those that come once more often.

@@ -7,7 +7,7 @@ use crate::flow::{
 };
 use crate::image::{word, Header};
 use crate::parts::{Sizes, LOCKS, LOCKS_STEP, PARAMS, TEST_MODE};
-use crate::wire::{Register, Request};
+use crate::wire::{Packet, Register};
 
 /// What a word is judged by.
 #[derive(Clone, Copy, PartialEq, Eq, Debug)]
@@ -29,7 +29,7 @@ pub enum Purpose {
 #[derive(Clone, Copy, PartialEq, Eq, Debug)]
 pub struct Move {
     pub step: u8,
-    pub request: Request,
+    pub packet: Packet,
     pub purpose: Purpose,
 }
 
@@ -42,19 +42,19 @@ struct List<'a> {
 }
 
 impl List<'_> {
-    fn add(&mut self, request: Request, purpose: Purpose) {
-        self.moves.push(Move { step: self.step, request, purpose });
+    fn add(&mut self, packet: Packet, purpose: Purpose) {
+        self.moves.push(Move { step: self.step, packet, purpose });
     }
 
     fn write(&mut self, address: u32, word: u32) {
-        self.add(Request::write(Register::Tar, address), Purpose::Sent);
-        self.add(Request::write(Register::Drw, word), Purpose::Sent);
+        self.add(Packet::write(Register::Tar, address), Purpose::Sent);
+        self.add(Packet::write(Register::Drw, word), Purpose::Sent);
     }
 
     fn read(&mut self, address: u32, purpose: Purpose) {
-        self.add(Request::write(Register::Tar, address), Purpose::Sent);
-        self.add(Request::read(Register::Drw), Purpose::Sent);
-        self.add(Request::read(Register::Drw), purpose);
+        self.add(Packet::write(Register::Tar, address), Purpose::Sent);
+        self.add(Packet::read(Register::Drw), Purpose::Sent);
+        self.add(Packet::read(Register::Drw), purpose);
     }
 
     fn call(&mut self, command: u32, argument: u32) {
@@ -74,12 +74,12 @@ impl List<'_> {
 
     fn acquire(&mut self) {
         self.step = 1;
-        self.add(Request::Xres, Purpose::Sent);
-        self.add(Request::LineReset, Purpose::Sent);
-        self.add(Request::read(Register::IdCode), Purpose::IdCode);
-        self.add(Request::write(Register::CtrlStat, 0x5400_0000), Purpose::Sent);
-        self.add(Request::write(Register::Select, 0), Purpose::Sent);
-        self.add(Request::write(Register::Csw, 2), Purpose::Sent);
+        self.add(Packet::Xres, Purpose::Sent);
+        self.add(Packet::LineReset, Purpose::Sent);
+        self.add(Packet::read(Register::IdCode), Purpose::IdCode);
+        self.add(Packet::write(Register::CtrlStat, 0x5400_0000), Purpose::Sent);
+        self.add(Packet::write(Register::Select, 0), Purpose::Sent);
+        self.add(Packet::write(Register::Csw, 2), Purpose::Sent);
         self.write(TEST_MODE, BIT_31);
         self.read(TEST_MODE, Purpose::TestBit);
         self.read(self.sizes.part.sysreq, Purpose::Poll);
@@ -175,7 +175,7 @@ mod tests {
             let (header, image) = sample_image(&mut Rng(1), part, macros);
             for entry in [Entry::Open, Entry::Protected] {
                 let moves = sequence(&header, &image, entry);
-                let transfers = moves.iter().filter(|m| m.request.is_transfer()).count() as u64;
+                let transfers = moves.iter().filter(|m| m.packet.is_transfer()).count() as u64;
                 assert_eq!(transfers, plan(&header.sizes().unwrap(), entry));
                 assert_eq!(moves.len() as u64, transfers + 2 * acquisitions(entry));
             }

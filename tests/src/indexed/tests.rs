@@ -16,8 +16,8 @@ fn same_as_the_session_of_places() {
         let lists = [Entry::Open, Entry::Protected].map(|entry| sequence(header, image, entry));
         let (mut board, mut left) = (run.board.clone(), run.lists.clone());
         let ((mut session, mut outcome), mut bytes) = (start(header, image, true), started(header));
-        while let Outcome::Request(request) = outcome {
-            let answer = board.answer(request, &mut left);
+        while let Outcome::Ask(packet) = outcome {
+            let answer = board.answer(packet, &mut left);
             outcome = session.step(image, answer);
             let got = step(&mut bytes, image.len(), answer, |_, entry| &lists[entry as usize]);
             assert_eq!(got, outcome);

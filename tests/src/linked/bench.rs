@@ -7,7 +7,7 @@ use crate::image::Header;
 use crate::play::RandomLists;
 use crate::rng::Rng;
 use crate::session::Outcome;
-use crate::wire::{request_byte, Answer, Register, Request};
+use crate::wire::{request_byte, Answer, Packet, Register};
 use halzuqeen::{bench, raw};
 
 const READS: [u8; 2] = [Register::IdCode.read_byte(), Register::Drw.read_byte()];
@@ -20,11 +20,11 @@ const WRITES: [u8; 5] = [
 ];
 
 /// A request byte that SWD has, of a register that document 01 does not use: its answer is nowhere fixed.
-pub fn is_of_other_register(request: Request) -> bool {
+pub fn is_of_other_register(packet: Packet) -> bool {
     let formed = |byte: u8| request_byte(byte & 2 != 0, byte & 4 != 0, byte >> 3 & 3) == byte;
-    match request {
-        Request::Read { byte } => !READS.contains(&byte) && byte & 4 != 0 && formed(byte),
-        Request::Write { byte, .. } => !WRITES.contains(&byte) && byte & 4 == 0 && formed(byte),
+    match packet {
+        Packet::Read { byte } => !READS.contains(&byte) && byte & 4 != 0 && formed(byte),
+        Packet::Write { byte, .. } => !WRITES.contains(&byte) && byte & 4 == 0 && formed(byte),
         _ => false,
     }
 }
@@ -152,10 +152,10 @@ impl Pair {
     }
 
     /// Both boards meet a request.
-    pub fn meet(&mut self, request: Request, lists: &mut impl FreeLists) -> Met {
+    pub fn meet(&mut self, packet: Packet, lists: &mut impl FreeLists) -> Met {
         let free_bits = self.free_bits();
         let mut taken = Taken { lists, event: None, call: None };
-        let answer = self.ours.answer(request, &mut taken);
+        let answer = self.ours.answer(packet, &mut taken);
         if let Some(call) = &taken.call {
             self.leave(call);
         }
@@ -163,18 +163,18 @@ impl Pair {
         let event = taken.event.unwrap_or(LineEvent { noise: 1, ..LineEvent::of(Line::SilentCarriedOut) });
         let call = taken.call.unwrap_or(CallOutcome { success: false, ..CallOutcome::OK });
         let elsewhere = free_bits.unwrap_or(event.elsewhere);
-        let given = self.meet_theirs(request, &event_bytes(&event, elsewhere), &call_bytes(&call));
+        let given = self.meet_theirs(packet, &event_bytes(&event, elsewhere), &call_bytes(&call));
         let used = u8::from(taken.event.is_some()) + 2 * u8::from(taken.call.is_some());
-        if is_of_other_register(request) {
-            assert_eq!(given[3], used, "{request:?}");
+        if is_of_other_register(packet) {
+            assert_eq!(given[3], used, "{packet:?}");
         } else {
-            assert_eq!(given, answer_bytes(answer, used), "{request:?}, {:?}, {:?}", taken.event, taken.call);
+            assert_eq!(given, answer_bytes(answer, used), "{packet:?}, {:?}, {:?}", taken.event, taken.call);
         }
-        assert_eq!(self.board, board_bytes(&self.ours), "{request:?}, {:?}, {:?}", taken.event, taken.call);
+        assert_eq!(self.board, board_bytes(&self.ours), "{packet:?}, {:?}, {:?}", taken.event, taken.call);
         (answer, taken.event, taken.call)
     }
 
-    fn meet_theirs(&mut self, request: Request, event: &[u8], call: &[u8]) -> [u8; bench::ANSWER] {
+    fn meet_theirs(&mut self, packet: Packet, event: &[u8], call: &[u8]) -> [u8; bench::ANSWER] {
         let mut answer = [super::UNWRITTEN; bench::ANSWER];
         let bench = bench::Bench {
             board: &mut self.board,
@@ -184,8 +184,8 @@ impl Pair {
             params: &mut self.params,
         };
         let entries = bench::Outcomes { event, call, left: [&self.left[0], &self.left[1], &self.left[2]] };
-        let request = outcome_bytes(Outcome::Request(request));
-        assert_eq!(bench::meet(self.part, self.macros, bench, entries, &request, &mut answer), 0);
+        let packet = outcome_bytes(Outcome::Ask(packet));
+        assert_eq!(bench::meet(self.part, self.macros, bench, entries, &packet, &mut answer), 0);
         answer
     }
 
@@ -225,8 +225,8 @@ impl Powered for Pair {
         &self.ours
     }
 
-    fn meet(&mut self, request: Request, lists: &mut RandomLists) -> Answer {
-        Pair::meet(self, request, lists).0
+    fn meet(&mut self, packet: Packet, lists: &mut RandomLists) -> Answer {
+        Pair::meet(self, packet, lists).0
     }
 
     fn cut(&mut self, residue: CallOutcome, rng: &mut Rng) {

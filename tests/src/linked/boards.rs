@@ -17,7 +17,7 @@ use crate::rng::Rng;
 use crate::seal::Seal;
 use crate::session::Outcome;
 use crate::texts::sample_image;
-use crate::wire::Request;
+use crate::wire::Packet;
 use packets::{any_call, is_open_read, Packets, CALLS};
 use seen::{counted, Before, Seen, KINDS};
 use std::collections::BTreeMap;
@@ -83,8 +83,8 @@ impl Tally {
             *count += u64::from(is(seen));
         }
         if let Some(call) = seen.ended() {
-            let end = match seen.request {
-                Request::Xres => ENDS[2],
+            let end = match seen.packet {
+                Packet::Xres => ENDS[2],
                 _ if call.outcome.success => ENDS[0],
                 _ => ENDS[1],
             };
@@ -92,10 +92,10 @@ impl Tally {
         }
     }
 
-    fn meet(&mut self, pair: &mut Pair, request: Request, lists: &mut impl FreeLists) -> Met {
+    fn meet(&mut self, pair: &mut Pair, packet: Packet, lists: &mut impl FreeLists) -> Met {
         let before = Before::of(&pair.ours);
-        let (answer, event, call) = pair.meet(request, lists);
-        self.see(&Seen { before, request, answer, event, call, board: &pair.ours });
+        let (answer, event, call) = pair.meet(packet, lists);
+        self.see(&Seen { before, packet, answer, event, call, board: &pair.ours });
         (answer, event, call)
     }
 
@@ -140,9 +140,9 @@ fn session(rng: &mut Rng, tally: &mut Tally, part: u32, macros: u32) {
     let mut pair = Pair::of(&header, board);
     let (mut session, mut outcome) = Linked.start(&header, &image, true);
     let (mut disturbed, mut seal) = ([false; 2], Seal::of(&pair.ours));
-    while let Outcome::Request(request) = outcome {
-        assert!(!is_open_read(&pair.ours, request));
-        let (answer, event, call) = tally.meet(&mut pair, request, &mut lists);
+    while let Outcome::Ask(packet) = outcome {
+        assert!(!is_open_read(&pair.ours, packet));
+        let (answer, event, call) = tally.meet(&mut pair, packet, &mut lists);
         outcome = Linked.step(&mut session, &image, answer);
         seal.met(&pair.ours);
         disturbed[0] |= event.is_some_and(|event| event.line != Line::Ok);
@@ -175,8 +175,8 @@ fn any_pair(rng: &mut Rng) -> Pair {
 fn single_packets(rng: &mut Rng, tally: &mut Tally, pair: &mut Pair, count: usize) {
     let mut packets = Packets::default();
     for number in 0..count {
-        let (request, mut entries) = packets.next(rng, &pair.ours);
-        tally.meet(pair, request, &mut entries);
+        let (packet, mut entries) = packets.next(rng, &pair.ours);
+        tally.meet(pair, packet, &mut entries);
         tally.sum.packets[1] += 1;
         if number % 8 == 0 {
             pair.assert_memory_alike();

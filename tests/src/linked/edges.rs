@@ -52,13 +52,13 @@ fn impossible_marks(header: &Header, image: &[u8]) -> u64 {
 fn parts() -> u64 {
     for (part, macros) in (0..=255).flat_map(|part| (0..=255).map(move |macros| (part, macros))) {
         let number = if SIZES.contains(&(u32::from(part), u32::from(macros))) { 12 } else { 11 };
-        let (mut record, mut length) = ([LEFT; raw::RECORD], [LEFT; raw::LENGTH]);
-        assert_eq!(raw::read(part, macros, b":00000001FF\n", &mut [], &mut record), number);
-        assert_eq!(record, [0; raw::RECORD]);
-        (record[0], record[1]) = (part, macros);
-        assert_eq!(raw::write(&record, &[], &mut [], &mut length), number);
+        let (mut header, mut length) = ([LEFT; raw::HEADER], [LEFT; raw::LENGTH]);
+        assert_eq!(raw::read(part, macros, b":00000001FF\n", &mut [], &mut header), number);
+        assert_eq!(header, [0; raw::HEADER]);
+        (header[0], header[1]) = (part, macros);
+        assert_eq!(raw::write(&header, &[], &mut [], &mut length), number);
         let (mut session, mut outcome) = ([LEFT; raw::SESSION], [LEFT; raw::OUTCOME]);
-        assert_eq!(raw::start(&record, &[], 1, &mut session, &mut outcome), number);
+        assert_eq!(raw::start(&header, &[], 1, &mut session, &mut outcome), number);
         assert_eq!((length, session), ([0; raw::LENGTH], [0; raw::SESSION]));
         assert_eq!(outcome, outcome_bytes(Outcome::Refused(number as u8)));
     }
@@ -71,12 +71,12 @@ const BENCH: [usize; 5] = [bench::BOARD, bench::EVENT, bench::CALL, raw::OUTCOME
 /// The bench board meets a request; refused, it writes nothing.
 fn meet(part: u8, macros: u8, lent: &mut [Vec<u8>; 5]) -> u32 {
     let before = lent.clone();
-    let [board, event, call, request, answer] = lent;
+    let [board, event, call, packet, answer] = lent;
     let (mut flash, mut locks, mut latch, mut params) = ([LEFT; 256], [LEFT; 64], [LEFT; 64], [0x5A5A; 18]);
     let bench =
         bench::Bench { board, flash: &mut flash, locks: &mut locks, latch: &mut latch, params: &mut params };
     let outcomes = bench::Outcomes { event, call, left: [&[], &[], &[]] };
-    let number = bench::meet(part, macros, bench, outcomes, request, answer);
+    let number = bench::meet(part, macros, bench, outcomes, packet, answer);
     if number != 0 {
         assert!(flash.iter().chain(&locks).chain(&latch).all(|&byte| byte == LEFT) && params == [0x5A5A; 18]);
         assert_eq!(*lent, before);

@@ -78,7 +78,7 @@ impl Bench {
                 }
             }
             Outcome::Report(report) => *tally.reports.entry(report.number).or_default() += 1,
-            Outcome::Request(_) => tally.requests += 1,
+            Outcome::Ask(_) => tally.requests += 1,
         }
         outcome
     }
@@ -103,7 +103,7 @@ impl Bench {
             Some(Purpose::LastSum) => word(&bytes[37..]).wrapping_add(header.sum.into()),
             _ => rng.word(),
         };
-        let reset = standing.is_some_and(|m| !m.request.is_transfer());
+        let reset = standing.is_some_and(|m| !m.packet.is_transfer());
         if reset != rng.chance(20) {
             return Answer::ResetDone;
         }

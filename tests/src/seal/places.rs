@@ -14,7 +14,7 @@ use crate::play::RandomLists;
 use crate::rng::Rng;
 use crate::session::Outcome;
 use crate::texts::sample_image;
-use crate::wire::{Register, Request};
+use crate::wire::{Packet, Register};
 
 /// What the sessions came to, each disturbed or cut at one place.
 #[derive(Clone, Default, Debug)]
@@ -104,10 +104,10 @@ impl<'a, C: Core, T: Powered + Clone> Walk<'a, C, T> {
 
     /// Meets the request that stands, if one does.
     fn step(&mut self) -> bool {
-        let Outcome::Request(request) = self.outcome else { return false };
-        self.claims.handed_out(request);
-        let answer = self.target.meet(request, &mut self.lists);
-        self.claims.answered(request, answer, self.target.board());
+        let Outcome::Ask(packet) = self.outcome else { return false };
+        self.claims.handed_out(packet);
+        let answer = self.target.meet(packet, &mut self.lists);
+        self.claims.answered(packet, answer, self.target.board());
         self.outcome = self.core.step(&mut self.session, self.image, answer);
         true
     }
@@ -123,9 +123,8 @@ impl<'a, C: Core, T: Powered + Clone> Walk<'a, C, T> {
     fn starts_a_call(&self) -> bool {
         const DRW: u8 = Register::Drw.write_byte();
         let sysreq = self.target.board().tar == self.target.board().sizes.part.sysreq;
-        let starts =
-            |request| matches!(request, Request::Write { byte: DRW, word, .. } if word & BIT_31 != 0);
-        sysreq && matches!(self.outcome, Outcome::Request(request) if starts(request))
+        let starts = |packet| matches!(packet, Packet::Write { byte: DRW, word, .. } if word & BIT_31 != 0);
+        sysreq && matches!(self.outcome, Outcome::Ask(packet) if starts(packet))
     }
 }
 
@@ -143,7 +142,7 @@ impl Round<'_> {
     fn walk<C: Core, T: Powered + Clone>(&mut self, mut calm: Walk<C, T>) {
         let sizes = self.header.sizes().expect("a part of the table");
         let (first, sealing) = (locking_starts(&sizes, self.entry), sealing_read(&sizes, self.entry));
-        while let Outcome::Request(_) = calm.outcome {
+        while let Outcome::Ask(_) = calm.outcome {
             let at = calm.place();
             if at >= first {
                 for (line, carried_out) in LINES {

@@ -6,9 +6,9 @@ use crate::flow::{LOAD_LATCH, WRITE_PROTECTION};
 use crate::parts::{KILL, OPEN, PROTECTED};
 use crate::rng::Rng;
 use crate::texts::sample_image;
-use crate::wire::{Register, Request};
+use crate::wire::{Packet, Register};
 
-const READ: Request = Request::read(Register::Drw);
+const READ: Packet = Packet::read(Register::Drw);
 const LEVELS: [u8; 3] = [OPEN, PROTECTED, KILL];
 
 /// A board of part 3 with two macros, OPEN stored, on which this call runs; TAR is at SYSREQ.
@@ -27,13 +27,13 @@ fn locking(level: u8, number: u32, outcome: CallOutcome) -> Board {
 }
 
 /// Whether the board is sealed after each of these packets, the line doing this to each transfer.
-fn after(mut board: Board, packets: &[(Request, Line)]) -> Vec<bool> {
+fn after(mut board: Board, packets: &[(Packet, Line)]) -> Vec<bool> {
     let mut seal = Seal::of(&board);
     assert!(!seal.sealed);
     packets
         .iter()
-        .map(|&(request, line)| {
-            board.answer(request, &mut Lists { line: vec![LineEvent::of(line)], ..Lists::default() });
+        .map(|&(packet, line)| {
+            board.answer(packet, &mut Lists { line: vec![LineEvent::of(line)], ..Lists::default() });
             seal.met(&board);
             seal.sealed
         })
@@ -51,7 +51,7 @@ fn at_the_read_where_the_call_ends() {
         let board = || locking(level, 0, CallOutcome::OK);
         for line in [Line::Ok, Line::SilentCarriedOut, Line::NoisyCarriedOut, Line::WrongParity] {
             assert_eq!(after(board(), &[(READ, line), (READ, Line::Fault)]), [true, true]);
-            assert_eq!(after(board(), &[(READ, line), (Request::Xres, Line::Ok)]), [true, true]);
+            assert_eq!(after(board(), &[(READ, line), (Packet::Xres, Line::Ok)]), [true, true]);
         }
     }
 }
@@ -64,8 +64,8 @@ fn not_before_it() {
         assert_eq!(after(board(), &[(READ, line)]), [false]);
         assert_eq!(after(board(), &[(READ, line), (READ, Line::Ok)]), [false, true]);
     }
-    let tar = Request::write(Register::Tar, board().sizes.part.sysarg());
-    let packets = [(Request::LineReset, Line::Ok), (tar, Line::Ok), (READ, Line::Ok)];
+    let tar = Packet::write(Register::Tar, board().sizes.part.sysarg());
+    let packets = [(Packet::LineReset, Line::Ok), (tar, Line::Ok), (READ, Line::Ok)];
     assert_eq!(after(board(), &packets), [false; 3]);
 }
 
@@ -75,11 +75,9 @@ fn not_while_busy() {
     assert_eq!(after(board, &[(READ, Line::Ok); 4]), [false, false, true, true]);
     // SYSARG alone is no success, should someone write it meanwhile.
     let board = locking(PROTECTED, 0, CallOutcome { busy: 2, ..CallOutcome::OK });
-    let write = [
-        Request::write(Register::Tar, board.sizes.part.sysarg()),
-        Request::write(Register::Drw, 0xA000_0000),
-    ];
-    assert_eq!(after(board, &write.map(|request| (request, Line::Ok))), [false; 2]);
+    let write =
+        [Packet::write(Register::Tar, board.sizes.part.sysarg()), Packet::write(Register::Drw, 0xA000_0000)];
+    assert_eq!(after(board, &write.map(|packet| (packet, Line::Ok))), [false; 2]);
 }
 
 /// Not a call that fails, also where it stores the level.
@@ -95,7 +93,7 @@ fn not_after_failure() {
 fn not_after_xres() {
     for stores in [false, true] {
         let board = locking(KILL, 0, CallOutcome { stores, ..CallOutcome::OK });
-        assert_eq!(after(board, &[(Request::Xres, Line::Ok), (READ, Line::Ok)]), [false; 2]);
+        assert_eq!(after(board, &[(Packet::Xres, Line::Ok), (READ, Line::Ok)]), [false; 2]);
     }
 }
 
@@ -112,7 +110,7 @@ fn not_after_a_cut() {
         board.cut(failed(true), &mut Rng(72));
         seal.cut();
         board.sysarg = 0xA000_0000;
-        board.answer(Request::Xres, &mut Lists::default());
+        board.answer(Packet::Xres, &mut Lists::default());
         seal.met(&board);
         assert_eq!((seal.sealed, board.stored), (sealed, PROTECTED));
     }
@@ -139,6 +137,6 @@ fn not_the_reopening_call() {
 fn begun_by_the_session() {
     let mut board = locking(OPEN, 0, CallOutcome::OK);
     board.running = None;
-    let start = Request::write(Register::Drw, 0x8000_000D);
+    let start = Packet::write(Register::Drw, 0x8000_000D);
     assert_eq!(after(board, &[(start, Line::SilentCarriedOut), (READ, Line::Ok)]), [false, true]);
 }

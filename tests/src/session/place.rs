@@ -5,7 +5,7 @@ use crate::flow::{
 };
 use crate::image::word;
 use crate::parts::Sizes;
-use crate::wire::{Register, Request};
+use crate::wire::{Packet, Register};
 
 /// The calls of the flow, in its order.
 #[derive(Clone, Copy, PartialEq, Eq, Debug)]
@@ -58,7 +58,7 @@ pub(super) enum Place {
 /// A place's requests: a reset, a single transfer, "Write = TAR, DRW" or "Read = TAR, DRW, DRW".
 #[derive(Clone, Copy, PartialEq, Eq, Debug)]
 pub(super) enum Operation {
-    Reset(Request),
+    Reset(Packet),
     IdCode,
     Port(Register, u32),
     Write(u32, u32),
@@ -89,16 +89,16 @@ impl Place {
 }
 
 impl Operation {
-    pub(super) fn request(self, transfer: u8) -> Request {
+    pub(super) fn packet(self, transfer: u8) -> Packet {
         match (self, transfer) {
             (Operation::Reset(reset), _) => reset,
-            (Operation::IdCode, _) => Request::read(Register::IdCode),
-            (Operation::Port(register, word), _) => Request::write(register, word),
+            (Operation::IdCode, _) => Packet::read(Register::IdCode),
+            (Operation::Port(register, word), _) => Packet::write(register, word),
             (Operation::Write(address, _) | Operation::Read(address), 0) => {
-                Request::write(Register::Tar, address)
+                Packet::write(Register::Tar, address)
             }
-            (Operation::Write(_, word), _) => Request::write(Register::Drw, word),
-            (Operation::Read(_), _) => Request::read(Register::Drw),
+            (Operation::Write(_, word), _) => Packet::write(Register::Drw, word),
+            (Operation::Read(_), _) => Packet::read(Register::Drw),
         }
     }
 }

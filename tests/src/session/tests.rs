@@ -100,7 +100,7 @@ fn forged_sessions() {
             match session.step(&image, answer) {
                 Outcome::Refused(13) => assert!(!first && session == before),
                 Outcome::Refused(number) => assert!(first && number == 14 && session == before),
-                Outcome::Request(_) | Outcome::Report(_) => assert!(first && session.possible().is_some()),
+                Outcome::Ask(_) | Outcome::Report(_) => assert!(first && session.possible().is_some()),
             }
         }
     }

@@ -5,7 +5,7 @@ use crate::board::Lists;
 use crate::flow::{CHECKSUM, ERASE_ALL, LOAD_LATCH, PROGRAM_ROW, SET_IMO, SILICON_ID, WRITE_PROTECTION};
 use crate::parts::{KILL, OPEN, PROTECTED};
 use crate::texts::sample_image;
-use crate::wire::{Answer, Register, Request};
+use crate::wire::{Answer, Packet, Register};
 
 const LEVELS: [u8; 3] = [OPEN, PROTECTED, KILL];
 
@@ -162,11 +162,11 @@ fn nothing_runs_afterwards() {
     let entry = CallOutcome { busy: 3, ..CallOutcome::OK };
     let (before, mut after) = cut(running(OPEN, ERASE_ALL, PARAMS, entry), residue(None, false));
     let mut lists = Lists::default();
-    assert_eq!(after.answer(Request::Xres, &mut lists), Answer::ResetDone);
+    assert_eq!(after.answer(Packet::Xres, &mut lists), Answer::ResetDone);
     assert_eq!((after.in_effect, after.sysreq), (OPEN, 0));
-    after.answer(Request::write(Register::Tar, after.sizes.part.sysreq), &mut lists);
+    after.answer(Packet::write(Register::Tar, after.sizes.part.sysreq), &mut lists);
     for _ in 0..6 {
-        after.answer(Request::read(Register::Drw), &mut lists);
+        after.answer(Packet::read(Register::Drw), &mut lists);
     }
     assert_eq!((after.posted, lists.calls_used), (0, 0));
     assert!(after.flash == before.flash && after.locks == before.locks);

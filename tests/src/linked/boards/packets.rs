@@ -7,7 +7,7 @@ use crate::flow::{
 use crate::parts::{LOCKS, LOCKS_STEP, PARAMS, TEST_MODE};
 use crate::play::RandomLists;
 use crate::rng::Rng;
-use crate::wire::{parity, request_byte, Register, Request};
+use crate::wire::{parity, request_byte, Packet, Register};
 use std::collections::VecDeque;
 
 /// The calls that 'The plain board' speaks of.
@@ -43,32 +43,32 @@ fn any_entries(rng: &mut Rng) -> Entries {
 /// What is still to be sent of a Write, a Read or a call; other packets come between.
 #[derive(Default)]
 pub struct Packets {
-    queue: VecDeque<Request>,
+    queue: VecDeque<Packet>,
 }
 
 impl Packets {
-    pub fn next(&mut self, rng: &mut Rng, board: &Board) -> (Request, Entries) {
+    pub fn next(&mut self, rng: &mut Rng, board: &Board) -> (Packet, Entries) {
         if self.queue.is_empty() && rng.bit() {
             self.plan(rng, board);
         }
         let planned = if rng.chance(8) { None } else { self.queue.pop_front() };
-        let request = planned.unwrap_or_else(|| any_packet(rng, board));
+        let packet = planned.unwrap_or_else(|| any_packet(rng, board));
         let mut entries = any_entries(rng);
-        if is_open_read(board, request) {
+        if is_open_read(board, packet) {
             entries.event.line = Line::Wait;
         }
-        (keep_off(board, request), entries)
+        (keep_off(board, packet), entries)
     }
 
     fn write(&mut self, address: u32, word: u32) {
-        self.queue.extend([Request::write(Register::Tar, address), Request::write(Register::Drw, word)]);
+        self.queue.extend([Packet::write(Register::Tar, address), Packet::write(Register::Drw, word)]);
     }
 
     /// A call with its words, mostly, or a Read.
     fn plan(&mut self, rng: &mut Rng, board: &Board) {
         let (part, any) = (board.sizes.part, u32::from(rng.byte()));
         if rng.chance(4) {
-            self.queue.push_back(Request::write(Register::Tar, any_address(rng, board)));
+            self.queue.push_back(Packet::write(Register::Tar, any_address(rng, board)));
         } else {
             let call = if rng.chance(8) { any } else { *rng.pick(&CALLS) };
             if [LOAD_LATCH, PROGRAM_ROW].contains(&call) {
@@ -81,7 +81,7 @@ impl Packets {
             self.write(part.sysreq, BIT_31 | call | if rng.chance(8) { rng.word() } else { 0 });
         }
         for _ in 0..1 + rng.below(5) {
-            self.queue.push_back(Request::read(Register::Drw));
+            self.queue.push_back(Packet::read(Register::Drw));
         }
     }
 }
@@ -114,7 +114,7 @@ fn any_address(rng: &mut Rng, board: &Board) -> u32 {
     }
 }
 
-fn any_packet(rng: &mut Rng, board: &Board) -> Request {
+fn any_packet(rng: &mut Rng, board: &Board) -> Packet {
     let formed = request_byte(rng.bit(), rng.bit(), rng.byte());
     let byte = if rng.bit() { formed } else { rng.byte() };
     let word = if rng.chance(4) { PARAMS } else { rng.word() };
@@ -122,46 +122,46 @@ fn any_packet(rng: &mut Rng, board: &Board) -> Request {
         [Register::Tar, Register::Drw, Register::Drw, Register::CtrlStat, Register::Select, Register::Csw];
     let written = rng.pick(&registers).write_byte();
     match rng.below(20) {
-        0 => Request::Xres,
-        1 => Request::LineReset,
-        2 | 3 => Request::Read { byte },
-        4 => Request::Write { byte, word, parity: parity(word) != rng.chance(4) },
-        5 | 6 => Request::Write { byte: written, word, parity: !parity(word) },
-        7 | 8 => Request::Write { byte: written, word, parity: parity(word) },
-        9 => Request::read(Register::IdCode),
-        10..=12 => Request::write(Register::Tar, any_address(rng, board)),
-        13..=15 => Request::write(Register::Drw, word),
-        _ => Request::read(Register::Drw),
+        0 => Packet::Xres,
+        1 => Packet::LineReset,
+        2 | 3 => Packet::Read { byte },
+        4 => Packet::Write { byte, word, parity: parity(word) != rng.chance(4) },
+        5 | 6 => Packet::Write { byte: written, word, parity: !parity(word) },
+        7 | 8 => Packet::Write { byte: written, word, parity: parity(word) },
+        9 => Packet::read(Register::IdCode),
+        10..=12 => Packet::write(Register::Tar, any_address(rng, board)),
+        13..=15 => Packet::write(Register::Drw, word),
+        _ => Packet::read(Register::Drw),
     }
 }
 
 /// An address that is no multiple of 4 where something is, and a number over 255 that ends like a call of
 /// the board: the papers say nothing of either.
-fn keep_off(board: &Board, request: Request) -> Request {
+fn keep_off(board: &Board, packet: Packet) -> Packet {
     const TAR: u8 = Register::Tar.write_byte();
     const DRW: u8 = Register::Drw.write_byte();
-    match request {
-        Request::Write { byte: TAR, word, parity: bit }
+    match packet {
+        Packet::Write { byte: TAR, word, parity: bit }
             if bit == parity(word) && board.place(word & !3) != Place::Elsewhere =>
         {
-            Request::write(Register::Tar, word & !3)
+            Packet::write(Register::Tar, word & !3)
         }
-        Request::Write { byte: DRW, word, parity: bit }
+        Packet::Write { byte: DRW, word, parity: bit }
             if bit == parity(word)
                 && board.place(board.tar) == Place::SysReq
                 && word & BIT_31 != 0
                 && CALLS.contains(&(word & 0xFF)) =>
         {
-            Request::write(Register::Drw, word & (BIT_31 | 0xFF))
+            Packet::write(Register::Drw, word & (BIT_31 | 0xFF))
         }
-        _ => request,
+        _ => packet,
     }
 }
 
 /// The read at which 4 or 6 would take a list that is not at PARAMS: nobody says which words those are.
-pub fn is_open_read(board: &Board, request: Request) -> bool {
+pub fn is_open_read(board: &Board, packet: Packet) -> bool {
     let listed = |call: u32| [LOAD_LATCH, PROGRAM_ROW].contains(&call);
-    request == Request::read(Register::Drw)
+    packet == Packet::read(Register::Drw)
         && board.place(board.tar) == Place::SysReq
         && board.sysarg != PARAMS
         && board

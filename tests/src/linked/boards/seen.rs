@@ -5,7 +5,7 @@ use crate::board::{Board, CallOutcome, Line, LineEvent, Place, Running};
 use crate::flow::{PROGRAM_ROW, WRITE_PROTECTION};
 use crate::linked::bench::is_of_other_register;
 use crate::parts::{KILL, OPEN, PROTECTED};
-use crate::wire::{acknowledgement, parity, Ack, Answer, Register, Request};
+use crate::wire::{acknowledgement, parity, Ack, Answer, Packet, Register};
 
 /// What a packet's kind depends on, before it.
 #[derive(Clone, Copy)]
@@ -28,7 +28,7 @@ impl Before {
 
 pub struct Seen<'a> {
     pub before: Before,
-    pub request: Request,
+    pub packet: Packet,
     pub answer: Answer,
     pub event: Option<LineEvent>,
     pub call: Option<CallOutcome>,
@@ -45,11 +45,11 @@ impl Seen<'_> {
     }
 
     fn reads(&self) -> bool {
-        matches!(self.request, Request::Read { .. })
+        matches!(self.packet, Packet::Read { .. })
     }
 
-    fn is(&self, request: Request) -> bool {
-        self.request == request
+    fn is(&self, packet: Packet) -> bool {
+        self.packet == packet
     }
 
     fn in_effect(&self, level: u8) -> bool {
@@ -58,7 +58,7 @@ impl Seen<'_> {
 
     /// The parity bit is not the word's.
     fn is_wrong_write(&self) -> bool {
-        matches!(self.request, Request::Write { word, parity: bit, .. } if bit != parity(word))
+        matches!(self.packet, Packet::Write { word, parity: bit, .. } if bit != parity(word))
     }
 
     fn alters(&self) -> bool {
@@ -67,17 +67,17 @@ impl Seen<'_> {
 
     /// What PROTECTED keeps from being read.
     fn is_kept_read(&self) -> bool {
-        self.is(Request::read(Register::Drw))
+        self.is(Packet::read(Register::Drw))
             && matches!(self.before.place, Place::Flash(_) | Place::Params(_))
     }
 
     fn reads_drw(&self, place: fn(Place) -> bool) -> bool {
-        self.is(Request::read(Register::Drw)) && self.ack(Ack::Ok) && place(self.before.place)
+        self.is(Packet::read(Register::Drw)) && self.ack(Ack::Ok) && place(self.before.place)
     }
 
     fn writes_drw(&self, place: fn(Place) -> bool) -> bool {
         const DRW: u8 = Register::Drw.write_byte();
-        let is_drw = matches!(self.request, Request::Write { byte: DRW, .. });
+        let is_drw = matches!(self.packet, Packet::Write { byte: DRW, .. });
         is_drw && !self.is_wrong_write() && self.ack(Ack::Ok) && place(self.before.place)
     }
 
@@ -88,7 +88,7 @@ impl Seen<'_> {
 
     fn protects(&self, success: bool) -> bool {
         let ends = |call: Running| call.command == WRITE_PROTECTION && call.outcome.success == success;
-        self.ended().is_some_and(ends) && !self.is(Request::Xres)
+        self.ended().is_some_and(ends) && !self.is(Packet::Xres)
     }
 
     fn macro_sent(&self) -> usize {
@@ -139,13 +139,13 @@ pub const KINDS: [Kind; 51] = [
     ("request byte that no port takes", |s| {
         s.line(Line::Ok) && s.ack(Ack::Silence) && !s.in_effect(KILL) && !s.is_wrong_write()
     }),
-    ("other register", |s| is_of_other_register(s.request)),
+    ("other register", |s| is_of_other_register(s.packet)),
     ("write of wrong parity", |s| s.is_wrong_write()),
-    ("line reset", |s| s.is(Request::LineReset)),
-    ("XRES", |s| s.is(Request::Xres)),
-    ("XRES with a call running", |s| s.is(Request::Xres) && s.ended().is_some()),
-    ("XRES puts PROTECTED in effect", |s| s.is(Request::Xres) && s.board.in_effect == PROTECTED),
-    ("XRES puts KILL in effect", |s| s.is(Request::Xres) && s.board.in_effect == KILL),
+    ("line reset", |s| s.is(Packet::LineReset)),
+    ("XRES", |s| s.is(Packet::Xres)),
+    ("XRES with a call running", |s| s.is(Packet::Xres) && s.ended().is_some()),
+    ("XRES puts PROTECTED in effect", |s| s.is(Packet::Xres) && s.board.in_effect == PROTECTED),
+    ("XRES puts KILL in effect", |s| s.is(Packet::Xres) && s.board.in_effect == KILL),
     ("call", |s| s.call.is_some()),
     ("call while one runs", |s| s.call.is_some() && s.before.running.is_some()),
     ("call with PROTECTED in effect", |s| s.call.is_some() && s.in_effect(PROTECTED)),

@@ -1,4 +1,4 @@
-//! What is lent for a record, a session, an outcome or a length, at lengths about its size. Longer is fine,
+//! What is lent for a header, a session, an outcome or a length, at lengths about its size. Longer is fine,
 //! and bytes past the size stay. Under size is 12, in document 01's order; an output that is under size
 //! stays, and one that fits has what a refusal gives: "all 0", or the refusal.
 
@@ -12,7 +12,7 @@ use crate::parts::{Sizes, KILL, OPEN};
 use crate::rng::Rng;
 use crate::session::{self, Outcome};
 use crate::texts::sample_image;
-use crate::wire::{Answer, Request};
+use crate::wire::{Answer, Packet};
 use halzuqeen::raw;
 use std::collections::BTreeMap;
 
@@ -45,7 +45,7 @@ impl Case {
         Case { header, image, text, moves }
     }
 
-    /// The record, one of a part that is none, one of another version.
+    /// The header, one of a part that is none, one of another version.
     fn headers(&self) -> [Header; 3] {
         let mut version = self.header;
         version.metadata[1] = 3;
@@ -80,28 +80,28 @@ fn put(mut buffer: Vec<u8>, bytes: &[u8]) -> Vec<u8> {
 /// "Reading checks 11, 12, then 1 to 5 per record in that order, then 6 to 10."
 fn read(case: &Case, reached: &mut Reached) {
     for (header, text) in case.headers()[..2].iter().flat_map(|h| [(h, case.text.as_slice()), (h, b"\n")]) {
-        for (image, record) in pairs(case.image.len(), raw::RECORD) {
-            let (mut buffer, mut told) = (vec![LEFT; image], vec![LEFT; record]);
+        for (image, told_length) in pairs(case.image.len(), raw::HEADER) {
+            let (mut buffer, mut told) = (vec![LEFT; image], vec![LEFT; told_length]);
             let mut expected = buffer.clone();
             let (number, found) = match header.sizes() {
-                Some(_) if record < raw::RECORD => (12, Header::ZERO),
+                Some(_) if told_length < raw::HEADER => (12, Header::ZERO),
                 _ => hex::read(header.part, header.macros, text, &mut expected),
             };
             let (part, macros) = (header.part as u8, header.macros as u8);
             let got = raw::read(part, macros, text, &mut buffer, &mut told);
-            assert_eq!(got, number.into(), "an image of {image} bytes, a record of {record}");
-            assert_eq!(told, put(vec![LEFT; record], &header_bytes(&found)));
+            assert_eq!(got, number.into(), "an image of {image} bytes, a header of {told_length}");
+            assert_eq!(told, put(vec![LEFT; told_length], &header_bytes(&found)));
             assert!(buffer == expected);
             *reached.entry(("read", got)).or_default() += 1;
         }
     }
 }
 
-/// "Writing and starting check 11, 12, 6 to 10"; no part can be read from a record under size.
+/// "Writing and starting check 11, 12, 6 to 10"; no part can be read from a header under size.
 fn write(case: &Case, reached: &mut Reached) {
     let (exact, enough) = (case.image.len(), case.text.len());
-    for (header, (record, length)) in
-        case.headers().iter().flat_map(|h| pairs(raw::RECORD, raw::LENGTH).map(move |lengths| (h, lengths)))
+    for (header, (told_length, length)) in
+        case.headers().iter().flat_map(|h| pairs(raw::HEADER, raw::LENGTH).map(move |lengths| (h, lengths)))
     {
         for (image, text) in [
             (exact, enough),
@@ -114,12 +114,12 @@ fn write(case: &Case, reached: &mut Reached) {
                 (lent(&case.image, image), vec![LEFT; text], vec![LEFT; length]);
             let mut expected = buffer.clone();
             let (number, written) = match header.sizes() {
-                _ if record < raw::RECORD => (12, 0),
+                _ if told_length < raw::HEADER => (12, 0),
                 Some(_) if length < raw::LENGTH => (12, 0),
                 _ => hex::write(header, &image, &mut expected),
             };
-            let got = raw::write(&lent(&header_bytes(header), record), &image, &mut buffer, &mut size);
-            assert_eq!(got, number.into(), "a record of {record} bytes, a length of {length}");
+            let got = raw::write(&lent(&header_bytes(header), told_length), &image, &mut buffer, &mut size);
+            assert_eq!(got, number.into(), "a header of {told_length} bytes, a length of {length}");
             assert_eq!(size, put(vec![LEFT; length], &(written as u64).to_le_bytes()));
             assert!(buffer == expected);
             *reached.entry(("write", got)).or_default() += 1;
@@ -130,11 +130,11 @@ fn write(case: &Case, reached: &mut Reached) {
 /// The same for starting, "then 15", over the bytes of a session that a step takes: none of them may be left.
 fn start(case: &Case, reached: &mut Reached) {
     let killing = Header { level: KILL, ..case.header };
-    for (header, record) in case
+    for (header, told_length) in case
         .headers()
         .iter()
         .chain([&killing])
-        .flat_map(|h| about(raw::RECORD).map(move |record| (h, record)))
+        .flat_map(|h| about(raw::HEADER).map(move |told_length| (h, told_length)))
     {
         for ((session, outcome), image) in pairs(raw::SESSION, raw::OUTCOME)
             .flat_map(|lengths| [0, 1].map(|more| (lengths, lent(&case.image, case.image.len() + more))))
@@ -142,7 +142,7 @@ fn start(case: &Case, reached: &mut Reached) {
             let before = lent(&started(&case.header), session);
             let (mut bytes, mut told) = (before.clone(), vec![LEFT; outcome]);
             let expected = match header.sizes() {
-                _ if record < raw::RECORD => Outcome::Refused(12),
+                _ if told_length < raw::HEADER => Outcome::Refused(12),
                 Some(_) if session < raw::SESSION || outcome < raw::OUTCOME => Outcome::Refused(12),
                 _ => session::start(header, &image, false).1,
             };
@@ -150,8 +150,8 @@ fn start(case: &Case, reached: &mut Reached) {
                 Outcome::Refused(number) => (number, [0; BYTES]),
                 _ => (0, started(header)),
             };
-            let got = raw::start(&lent(&header_bytes(header), record), &image, 0, &mut bytes, &mut told);
-            assert_eq!(got, number.into(), "a record of {record} bytes, {session}, {outcome}");
+            let got = raw::start(&lent(&header_bytes(header), told_length), &image, 0, &mut bytes, &mut told);
+            assert_eq!(got, number.into(), "a header of {told_length} bytes, {session}, {outcome}");
             assert_eq!(bytes, put(before, &given));
             assert_eq!(told, put(vec![LEFT; outcome], &outcome_bytes(expected)));
             *reached.entry(("start", got)).or_default() += 1;
@@ -200,11 +200,11 @@ fn step(case: &Case, reached: &mut Reached) {
     }
 }
 
-/// A start with a record of 16 bytes over a session that asks for a line reset: the next step is refused, and asks for nothing.
+/// A start with a header of 16 bytes over a session that asks for a line reset: the next step is refused, and asks for nothing.
 fn refused_over_a_live_session(case: &Case) {
     let (mut bytes, mut told) = (started(&case.header), [LEFT; raw::OUTCOME]);
     assert_eq!(raw::step(&mut bytes, &case.image, RESET_DONE, &mut told), 0);
-    assert_eq!(told, outcome_bytes(Outcome::Request(Request::LineReset)));
+    assert_eq!(told, outcome_bytes(Outcome::Ask(Packet::LineReset)));
     assert_eq!(raw::start(&header_bytes(&case.header)[..16], &case.image, 1, &mut bytes, &mut told), 12);
     assert_eq!((bytes, told), ([0; BYTES], outcome_bytes(Outcome::Refused(12))));
     assert_eq!(raw::step(&mut bytes, &case.image, RESET_DONE, &mut told), 13);
