@@ -13,7 +13,7 @@ use Rattle.flow.specs.declared.LineEvent.{LineEvent}
 use Rattle.bench_calls.specs.declared.Change.{Change}
 use Rattle.bench_calls.specs.declared.Registers.{Registers}
 use Rattle.flow.specs.declared.Place.{Place}
-use Rattle.bench_memory.specs.Acts.{buffersAfter}
+use Rattle.bench_effects.specs.Acts.{buffersAfter}
 use Rattle.flow.specs.Exchange.{decode, fetch, store, carry, guarded, overDrw, carriedOut, gives, killed, silentReply, replyTo, barred, met, transferred, meetOn, meet}
 use Rattle.flow.specs.Exchange as Flow
 use Rattle.flow.specs.Map.{place}

@@ -15,9 +15,9 @@ use Rattle.bench_calls.specs.declared.Running.{Running}
 use Rattle.bench_calls.specs.declared.Running.the-variants.{Idle, Busy}
 use Rattle.flow.specs.declared.Place.{Place}
 use Rattle.flow.specs.declared.Place.the-variants.{InFlash, InLocks, InParams, AtLevel, AtSysreq, AtSysarg, AtTestMode, Elsewhere}
-use Rattle.bench_memory.specs.Acts.{buffersAfter}
-use Rattle.bench_memory.specs.declared.Act.{Act}
-use Rattle.bench_memory.specs.declared.Act.the-variants.{PutWord}
+use Rattle.bench_effects.specs.Acts.{buffersAfter}
+use Rattle.bench_effects.specs.declared.Act.{Act}
+use Rattle.bench_effects.specs.declared.Act.the-variants.{PutWord}
 use Rattle.flow.specs.Calls.{finish}
 use Rattle.flow.specs.Exchange.{levelWord, tick, fetch, isCall, begin, store}
 use Rattle.flow.specs.Target.{Target, busy, setPosted, setSysarg, setTestMode}
@@ -39,7 +39,7 @@ module _ (g : Geometry) (fs ps : List ℕ) (r : Registers) (other : ℕ) (o : Ca
       ∙ sym (ap (λ (k : ℕ). tick g other (busy k (o .succeeds) (residueOf x o) c) (targetOf x r b)) e)
 
   pub still-busy : ¬ (o .«busy_reads» ≡ 0)
-      → MakesOf fs ps r (keeping (asking (r .sysreq) (2147483648 + other % 2147483648) (Busy (leftOf (o .«busy_reads» - 1) o) c) r))
+      → MakesOf fs ps r (keeping (asking (r .sysreq) (0x80000000 + other % 0x80000000) (Busy (leftOf (o .«busy_reads» - 1) o) c) r))
       (λ x t. tick g other (runningOf x (Busy o c)) t)
   still-busy n x b hf hp =
       let e : o .«busy_reads» ≡ suc (o .«busy_reads» - 1) = omega arith in
@@ -84,11 +84,11 @@ module _ (g : Geometry) (fs ks ps : List ℕ) (r : Registers) (other : ℕ) (n :
 
 -- a write of SYSREQ
 module _ (r : Registers) (w : ℕ) (o : CallOutcome) where
-  pub call-begun : 2147483648 ≤ w → Makes r (keeping (asking w (r .posted) (Busy o (w % 256)) r)) (λ x t. begin (isCall w) w (callOutcomeOf x o) t)
-  call-begun h x b = rw (le-leb 2147483648 w h)
+  pub call-begun : 0x80000000 ≤ w → Makes r (keeping (asking w (r .posted) (Busy o (w % 256)) r)) (λ x t. begin (isCall w) w (callOutcomeOf x o) t)
+  call-begun h x b = rw (le-leb 0x80000000 w h)
 
-  pub sysreq-written : w < 2147483648 → Makes r (keeping (asking w (r .posted) (r .running) r)) (λ x t. begin (isCall w) w (callOutcomeOf x o) t)
-  sysreq-written h x b = rw (lt-leb 2147483648 w h)
+  pub sysreq-written : w < 0x80000000 → Makes r (keeping (asking w (r .posted) (r .running) r)) (λ x t. begin (isCall w) w (callOutcomeOf x o) t)
+  sysreq-written h x b = rw (lt-leb 0x80000000 w h)
 
 -- a word written at TAR
 module _ (r : Registers) (w : ℕ) (o : CallOutcome) (at : Place) where

@@ -4,7 +4,7 @@ use mathlib.Core.List.{List, [], _∷_}
 use mathlib.Core.Path.{_≡_}
 use Prim.Native.Nat.{ℕ}
 use Rattle.bench_calls.specs.Board.{Buffers, Left, callOutcomeOf, targetOf}
-use Rattle.bench_memory.specs.declared.Act.the-variants.{Keep}
+use Rattle.bench_effects.specs.declared.Act.the-variants.{Keep}
 use Rattle.bench_calls.specs.declared.CallOutcome.{CallOutcome}
 use Rattle.bench_board.specs.declared.Decision.{Decision}
 use Rattle.flow.specs.declared.LineEvent.{LineEvent}
@@ -13,7 +13,7 @@ use Rattle.bench_board.specs.declared.Met.{Met}
 use Rattle.bench_calls.specs.declared.Registers.{Registers}
 use Rattle.bench_calls.specs.declared.Running.{Running}
 use Rattle.flow.specs.declared.Place.{Place}
-use Rattle.bench_memory.specs.Acts.{buffersAfter}
+use Rattle.bench_effects.specs.Acts.{buffersAfter}
 use Rattle.flow.specs.Exchange as Flow
 use Rattle.flow.specs.Exchange.{carry, gives, callsOn, killed, silentReply, replyTo}
 use Rattle.flow.specs.Map.{place}

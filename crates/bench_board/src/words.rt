@@ -12,7 +12,7 @@ use bench_calls::CallOutcome;
 use bench_calls::Change;
 use bench_calls::Registers;
 use bench_calls::Running;
-use bench_memory::Act;
+use bench_effects::Act;
 use flow::Place;
 use parts::Geometry;
 
@@ -66,7 +66,7 @@ fn shown_level(stored: u8) -> u32
 fn level_word(stored: u8, other: u32) -> u32
     ensures { λ w. ⌜ w ≡ levelWord (stored % 16) other ⌝ }
 {
-    other / 268435456 * 268435456 + shown_level(stored) * 16777216 + other % 16777216
+    other / 0x10000000 * 0x10000000 + shown_level(stored) * 0x1000000 + other % 0x1000000
 }
 
 // Another SYSREQ, another posted word, and what is under way.
@@ -118,7 +118,7 @@ fn tick_busy(
     ask(
         r,
         r.sysreq,
-        2147483648 + other % 2147483648,
+        0x80000000 + other % 0x80000000,
         Running::Busy(one_less(o), c),
     )
 }
@@ -149,7 +149,7 @@ pub(crate) fn read_word(
     match at {
         Place::InFlash(a) => post(r, lent::word_at(flash, a)),
         Place::InLocks(a) => post(r, lent::word_at(locks, a)),
-        Place::InParams(k) => post(r, bench_memory::word_of(params, k)),
+        Place::InParams(k) => post(r, bench_effects::word_of(params, k)),
         Place::AtLevel => post(r, level_word(r.stored, other)),
         Place::AtSysreq => read_sysreq(g, r, flash, params, other),
         Place::AtSysarg => post(r, r.sysarg),
@@ -162,7 +162,7 @@ pub(crate) fn read_word(
 fn write_sysreq(r: Registers, w: u32, o: CallOutcome) -> Change
     ensures { λ n. ⌜ Makes r n (λ x t. begin (isCall w) w (callOutcomeOf x o) t) ⌝ }
 {
-    if 2147483648 <= w {
+    if 0x80000000 <= w {
         return ask(r, w, r.posted, Running::Busy(o, (w % 256) as u8));
     }
     let running = r.running;

@@ -8,16 +8,16 @@ use borrow.Author.Tests.{eqb-true, not-true, not-false}
 use lib.Dec.{eqb}
 use lib.ListN.{length, set, length-set, length-append}
 use lib.Seq.{sets, length-sets}
-use Rattle.bench_calls.specs.Board.{Left, lent, targetOf, runningOf}
+use Rattle.bench_calls.specs.Board.{Left, targetOf, runningOf}
 use Rattle.bench_board.specs.Meets.{listsOf, metOf}
 use Rattle.bench_calls.specs.declared.CallOutcome.{CallOutcome}
 use Rattle.bench_board.specs.declared.Met.{Met}
 use Rattle.bench_calls.specs.declared.Registers.{Registers}
 use Rattle.bench_calls.specs.declared.Running.{Running}
 use Rattle.bench_calls.specs.declared.Running.the-variants.{Idle, Busy}
-use Rattle.bench_c.specs.BoardAsked.{askedFor, askedOf, numberOf}
+use Rattle.bench_c.specs.BoardAsked.{askedFor, askedOf}
 use Rattle.bench_c.specs.BoardBytes.{callOutcomeAt, isCallOutcome, registersIn, isBoard, eventIn, isEvent, packetIn, isPacket, siliconBytes, runBytes, runningBytes, wordsBytes, boardBytes, replyBytes, answerBytes, usedOf, emptied, RunningPut, BoardPut}
-use Rattle.bench_c.specs.BoardCalls.{Bench, benchOf, Benched, benched, benchAfter, isBench, sizesFit, meetFor, meetCall}
+use Rattle.bench_c.specs.BoardCalls.{Bench, benchOf, buffersOf, Handed, Benched, benched, benchAfter, isBench, sizesFit, meetFor, meetCall}
 use Rattle.bench_c.specs.declared.Asked.{Asked}
 use Rattle.bench_c.specs.declared.Asked.the-variants.{Returned, Meets}
 use Rattle.flow.specs.Exchange as Flow
@@ -38,13 +38,9 @@ use Rattle.parts.specs.declared.Geometry.{Geometry}
 use Rattle.parts.specs.declared.Lookup.{Lookup}
 use Rattle.parts.specs.declared.Lookup.the-variants.{Found, Refused}
 
--- a request met, as flow's board meets it
-abbrev pub metWith : Geometry → Registers → Packet → LineEvent → CallOutcome → Left → Bench → Bench
-metWith g r p e o x b = benchAfter (Flow.meet g p (listsOf x e o) (targetOf x r (lent (b .flash) (b .locks) (b .latch) (b .params))))
-
 abbrev pub answeredFor : Asked → Left → Bench → Benched
 answeredFor (Returned n) x b = benched n b
-answeredFor (Meets g r p e o) x b = benched 0 (metWith g r p e o x b)
+answeredFor (Meets g r p e o) x b = benched 0 (benchAfter (Flow.meet g p (listsOf x e o) (targetOf x r (buffersOf b))))
 
 -- ---- putting
 
@@ -161,17 +157,16 @@ used-same true false a b = refl
 used-same false true a b = refl
 used-same false false a b = refl
 
-module _ (g : Geometry) (r : Registers) (p : Packet) (e : LineEvent) (o : CallOutcome) (x : Left) (b b′ : Bench) (m : Met) where
-  pub met-bench : metOf x e o m (lent (b′ .flash) (b′ .locks) (b′ .latch) (b′ .params))
-      ≡ Flow.meet g p (listsOf x e o) (targetOf x r (lent (b .flash) (b .locks) (b .latch) (b .params)))
-      → BoardPut (m .registers) (b′ .board)
+-- m is what flow's board gives, met
+module _ (x : Left) (e : LineEvent) (o : CallOutcome) (b′ : Bench) (m : Met) (met : Flow.Met) where
+  pub met-bench : metOf x e o m (buffersOf b′) ≡ met → BoardPut (m .registers) (b′ .board)
       → b′ .answer ≡ answerBytes (m .answer) (usedOf (m .«line_used») (m .«call_used»))
-      → b′ ≡ metWith g r p e o x b
+      → b′ ≡ benchAfter met
   unfolding benchAfter
-  met-bench met put says =
-      ap (λ (n : List ℕ). benchOf n (b′ .flash) (b′ .locks) (b′ .latch) (b′ .params) (b′ .answer)) (put x (lent (b′ .flash) (b′ .locks) (b′ .latch) (b′ .params)))
-      ∙ ap (λ (n : List ℕ). benchOf (boardBytes (targetOf x (m .registers) (lent (b′ .flash) (b′ .locks) (b′ .latch) (b′ .params)))) (b′ .flash) (b′ .locks) (b′ .latch) (b′ .params) n) (says ∙ ap (answerBytes (m .answer)) (used-same (m .«line_used») (m .«call_used») _ _))
-      ∙ ap benchAfter met
+  met-bench is put says =
+      ap (λ (n : List ℕ). benchOf n (b′ .flash) (b′ .locks) (b′ .latch) (b′ .params) (b′ .answer)) (put x (buffersOf b′))
+      ∙ ap (λ (n : List ℕ). benchOf (boardBytes (targetOf x (m .registers) (buffersOf b′))) (b′ .flash) (b′ .locks) (b′ .latch) (b′ .params) n) (says ∙ ap (answerBytes (m .answer)) (used-same (m .«line_used») (m .«call_used») _ _))
+      ∙ ap benchAfter is
 
 -- a test that said no, one that said yes
 pub says-no : (r t : Bool) → r ≡ t → not r ≡ true → t ≡ false
@@ -180,49 +175,34 @@ says-no r t e h = sym e ∙ not-true r h
 pub says-yes : (r t : Bool) → r ≡ t → not r ≡ false → t ≡ true
 says-yes r t e h = sym e ∙ not-false r h
 
-module _ (b e c q : List ℕ) where
-  pub no-board : (t : Bool) → t ≡ isBoard b → not t ≡ true → false ≡ isBench b e c q
-  no-board t k h = rw (says-no t (isBoard b) k h)
+-- lengths that fit
+pub record Sized (b : List ℕ) (h : Handed) (a : List ℕ) : Type 0 where
+  pub board : length b ≡ 46
+  pub event : length (h .event) ≡ 11
+  pub call : length (h .call) ≡ 10
+  pub request : length (h .request) ≡ 8
+  pub answer : length a ≡ 8
 
-  pub no-event : (t u : Bool) → t ≡ isBoard b → not t ≡ false → u ≡ isEvent e → not u ≡ true → false ≡ isBench b e c q
-  no-event t u k h l i = rw (says-yes t (isBoard b) k h, says-no u (isEvent e) l i)
-
-  pub no-call : (t u v : Bool) → t ≡ isBoard b → not t ≡ false → u ≡ isEvent e → not u ≡ false → v ≡ isCallOutcome c 0 → not v ≡ true
-      → false ≡ isBench b e c q
-  no-call t u v k h l i m j = rw (says-yes t (isBoard b) k h, says-yes u (isEvent e) l i, says-no v (isCallOutcome c 0) m j)
-
-  pub by-request : (t u v w : Bool) → t ≡ isBoard b → not t ≡ false → u ≡ isEvent e → not u ≡ false → v ≡ isCallOutcome c 0 → not v ≡ false → w ≡ isPacket q
-      → w ≡ isBench b e c q
-  by-request t u v w k h l i m j n =
-      rw (says-yes t (isBoard b) k h, says-yes u (isEvent e) l i, says-yes v (isCallOutcome c 0) m j) n
-
-pub sized : (b e c q a : List ℕ) → sizesFit b e c q a ≡ true
-    → (length b ≡ 46) × ((length e ≡ 11) × ((length c ≡ 10) × ((length q ≡ 8) × (length a ≡ 8))))
-sized b e c q a h =
-    let s = both (eqb (length b) 46) _ h in
-    let t = both (eqb (length e) 11) _ (s .1) in
-    let u = both (eqb (length c) 10) _ (t .1) in
-    let v = both (eqb (length q) 8) _ (u .1) in
-    (eqb-true _ _ (s .0), (eqb-true _ _ (t .0), (eqb-true _ _ (u .0), (eqb-true _ _ (v .0), eqb-true _ _ (v .1)))))
+pub sized : (b : List ℕ) (h : Handed) (a : List ℕ) → sizesFit b h a ≡ true → Sized b h a
+sized b h a e =
+    let s = both (eqb (length b) 46) _ e in
+    let t = both (eqb (length (h .event)) 11) _ (s .1) in
+    let u = both (eqb (length (h .call)) 10) _ (t .1) in
+    let v = both (eqb (length (h .request)) 8) _ (u .1) in
+    record { board = eqb-true _ _ (s .0); event = eqb-true _ _ (t .0); call = eqb-true _ _ (u .0); request = eqb-true _ _ (v .0); answer = eqb-true _ _ (v .1) }
 
 -- ---- what is asked for
 
-module _ (b e c q : List ℕ) where
-  pub asked-other : (g : Geometry) → isBench b e c q ≡ false → Returned 13 ≡ askedFor (Found g) b e c q
-  asked-other g h = rw h
+pub asked-meeting : (b : List ℕ) (h : Handed) (g : Geometry) (r : Registers) (p : Packet) (v : LineEvent) (o : CallOutcome) → isBench b h ≡ true → r ≡ registersIn b
+    → p ≡ packetIn (h .request)
+    → v ≡ eventIn (h .event)
+    → o ≡ callOutcomeAt (h .call) 0
+    → Meets g r p v o ≡ askedFor (Found g) b h
+asked-meeting b h g r p v o is er ep ev eo = rw (er, ep, ev, eo, is)
 
-  pub asked-meeting : (g : Geometry) (r : Registers) (p : Packet) (v : LineEvent) (o : CallOutcome) → isBench b e c q ≡ true → r ≡ registersIn b → p ≡ packetIn q
-      → v ≡ eventIn e
-      → o ≡ callOutcomeAt c 0
-      → Meets g r p v o ≡ askedFor (Found g) b e c q
-  asked-meeting g r p v o h er ep ev eo = rw (er, ep, ev, eo, h)
-
-module _ (part macros : ℕ) (b e c q a : List ℕ) where
-  pub asked-wrong : sizesFit b e c q a ≡ false → Returned 12 ≡ askedOf part macros b e c q a
-  asked-wrong h = rw h
-
-  pub asked-right : (l : Lookup) (y : Asked) → sizesFit b e c q a ≡ true → lookupOf part macros ≡ l → y ≡ askedFor l b e c q → y ≡ askedOf part macros b e c q a
-  asked-right l y h f k = k ∙ ap (λ (z : Lookup). askedFor z b e c q) (sym f) ∙ rw h
+pub asked-right : (part macros : ℕ) (b : List ℕ) (h : Handed) (a : List ℕ) (l : Lookup) (y : Asked) → sizesFit b h a ≡ true → lookupOf part macros ≡ l → y ≡ askedFor l b h
+    → y ≡ askedOf part macros b h a
+asked-right part macros b h a l y fits f k = k ∙ ap (λ (z : Lookup). askedFor z b h) (sym f) ∙ rw fits
 
 -- ---- what is asked for, answered
 
@@ -231,41 +211,29 @@ meets (Returned n) = false
 meets (Meets g r p e o) = true
 
 -- only bytes of the right lengths ask for a request to be met
-pub meets-sized : (part macros : ℕ) (b e c q a : List ℕ) (y : Asked) → y ≡ askedOf part macros b e c q a → meets y ≡ true
-    → (length b ≡ 46) × ((length e ≡ 11) × ((length c ≡ 10) × ((length q ≡ 8) × (length a ≡ 8))))
-meets-sized part macros b e c q a y h k = sized b e c q a (by (sizesFit b e c q a) (sym k ∙ ap meets h))
+pub meets-sized : (part macros : ℕ) (b : List ℕ) (h : Handed) (a : List ℕ) (y : Asked) → y ≡ askedOf part macros b h a → meets y ≡ true → Sized b h a
+meets-sized part macros b h a y is k = sized b h a (by (sizesFit b h a) (sym k ∙ ap meets is))
   where
-    by : (t : Bool) → true ≡ meets (cond t (askedFor (lookupOf part macros) b e c q) (Returned 12)) → t ≡ true
+    by : (t : Bool) → true ≡ meets (cond t (askedFor (lookupOf part macros) b h) (Returned 12)) → t ≡ true
     by true k = refl
     by false k = absurd (false≢true (sym k))
 
-module _ (e c q : List ℕ) (x : Left) (b : Bench) where
-  answered-test : (k : Bool) (g : Geometry) (r : Registers) (p : Packet) (v : LineEvent) (o : CallOutcome)
-      → cond k (benched 0 (metWith g r p v o x b)) (benched 13 b) ≡ answeredFor (cond k (Meets g r p v o) (Returned 13)) x b
-  answered-test true g r p v o = refl
-  answered-test false g r p v o = refl
+module _ (h : Handed) (x : Left) (b : Bench) where
+  answered-test : (k : Bool) (y : Asked) → cond k (answeredFor y x b) (benched 13 b) ≡ answeredFor (cond k y (Returned 13)) x b
+  answered-test true y = refl
+  answered-test false y = refl
 
-  answered-lookup : (l : Lookup) → meetFor l e c q x b ≡ answeredFor (askedFor l (b .board) e c q) x b
+  answered-lookup : (l : Lookup) → meetFor l h x b ≡ answeredFor (askedFor l (b .board) h) x b
   answered-lookup (Refused n) = refl
-  answered-lookup (Found g) = answered-test (isBench (b .board) e c q) g _ _ _ _
+  answered-lookup (Found g) = answered-test (isBench (b .board) h) (Meets g _ _ _ _)
 
   answered-sizes : (k : Bool) (l : Lookup)
-      → cond k (meetFor l e c q x b) (benched 12 b) ≡ answeredFor (cond k (askedFor l (b .board) e c q) (Returned 12)) x b
+      → cond k (meetFor l h x b) (benched 12 b) ≡ answeredFor (cond k (askedFor l (b .board) h) (Returned 12)) x b
   answered-sizes true l = answered-lookup l
   answered-sizes false l = refl
 
-  call-answered : (part macros : ℕ) → answeredFor (askedOf part macros (b .board) e c q (b .answer)) x b ≡ meetCall part macros e c q x b
+  -- what the call returns and leaves is the answer to what is asked
+  pub call-answered : (part macros : ℕ) (y z : Asked) → y ≡ askedOf part macros (b .board) h (b .answer) → y ≡ z → answeredFor z x b ≡ meetCall part macros h x b
   unfolding meetCall
-  call-answered part macros = sym (answered-sizes (sizesFit (b .board) e c q (b .answer)) (lookupOf part macros))
-
-  pub call-returned : (part macros : ℕ) (y : Asked) (n k : ℕ) → y ≡ askedOf part macros (b .board) e c q (b .answer) → y ≡ Returned k → n ≡ numberOf y
-      → benched n b ≡ meetCall part macros e c q x b
-  call-returned part macros y n k h i j =
-      ap (λ (m : ℕ). benched m b) (j ∙ ap numberOf i) ∙ ap (λ (z : Asked). answeredFor z x b) (sym i ∙ h) ∙ call-answered part macros
-
-  pub call-met : (part macros : ℕ) (y : Asked) (g : Geometry) (r : Registers) (p : Packet) (v : LineEvent) (o : CallOutcome) (b′ : Bench)
-      → y ≡ askedOf part macros (b .board) e c q (b .answer)
-      → y ≡ Meets g r p v o
-      → b′ ≡ metWith g r p v o x b
-      → benched 0 b′ ≡ meetCall part macros e c q x b
-  call-met part macros y g r p v o b′ h k m = ap (benched 0) m ∙ ap (λ (z : Asked). answeredFor z x b) (sym k ∙ h) ∙ call-answered part macros
+  call-answered part macros y z e f =
+      ap (λ (w : Asked). answeredFor w x b) (sym f ∙ e) ∙ sym (answered-sizes (sizesFit (b .board) h (b .answer)) (lookupOf part macros))

@@ -3,19 +3,20 @@ use mathlib.Core.Bool.{cond}
 use mathlib.Core.List.{List}
 use Prim.Native.Nat.{ℕ}
 use Rattle.bench_c.specs.BoardBytes.{registersIn, eventIn, callOutcomeAt, packetIn}
-use Rattle.bench_c.specs.BoardCalls.{isBench, sizesFit}
+use Rattle.bench_c.specs.BoardCalls.{Handed, isBench, sizesFit}
 use Rattle.bench_c.specs.declared.Asked.{Asked}
 use Rattle.bench_c.specs.declared.Asked.the-variants.{Returned, Meets}
 use Rattle.parts.specs.Parts.{lookupOf}
 use Rattle.parts.specs.declared.Lookup.{Lookup}
 use Rattle.parts.specs.declared.Lookup.the-variants.{Found, Refused}
 
-abbrev pub askedFor : Lookup → (board event call request : List ℕ) → Asked
-askedFor (Refused n) b e c q = Returned n
-askedFor (Found g) b e c q = cond (isBench b e c q) (Meets g (registersIn b) (packetIn q) (eventIn e) (callOutcomeAt c 0)) (Returned 13)
+abbrev pub askedFor : Lookup → (board : List ℕ) → Handed → Asked
+askedFor (Refused n) b h = Returned n
+askedFor (Found g) b h =
+    cond (isBench b h) (Meets g (registersIn b) (packetIn (h .request)) (eventIn (h .event)) (callOutcomeAt (h .call) 0)) (Returned 13)
 
-abbrev pub askedOf : (part macros : ℕ) (board event call request answer : List ℕ) → Asked
-askedOf part macros b e c q a = cond (sizesFit b e c q a) (askedFor (lookupOf part macros) b e c q) (Returned 12)
+abbrev pub askedOf : (part macros : ℕ) → (board : List ℕ) → Handed → (answer : List ℕ) → Asked
+askedOf part macros b h a = cond (sizesFit b h a) (askedFor (lookupOf part macros) b h) (Returned 12)
 
 abbrev pub numberOf : Asked → ℕ
 numberOf (Returned n) = n

@@ -4,7 +4,7 @@ use mathlib.Core.List.{List}
 use Prim.Native.Nat.{ℕ}
 use lib.Dec.{eqb}
 use lib.ListN.{length}
-use Rattle.bench_calls.specs.Board.{Left, lent, targetOf}
+use Rattle.bench_calls.specs.Board.{Buffers, Left, targetOf}
 use Rattle.bench_board.specs.Meets.{listsOf}
 use Rattle.bench_calls.specs.declared.CallOutcome.{CallOutcome}
 use Rattle.flow.specs.declared.LineEvent.{LineEvent}
@@ -28,6 +28,18 @@ pub record Bench : Type 0 where
 abbrev pub benchOf : (board flash locks latch params answer : List ℕ) → Bench
 benchOf b f l t p a = record { board = b; flash = f; locks = l; latch = t; params = p; answer = a }
 
+abbrev pub buffersOf : Bench → Buffers
+buffersOf b = record { flash = b .flash; locks = b .locks; latch = b .latch; params = b .params }
+
+-- what is handed in with a request, lent for reading
+pub record Handed : Type 0 where
+  pub event : List ℕ
+  pub call : List ℕ
+  pub request : List ℕ
+
+abbrev pub handed : (event call request : List ℕ) → Handed
+handed e c q = record { event = e; call = c; request = q }
+
 -- the number that the call returns, and what was lent to it at its end
 pub record Benched : Type 0 where
   pub number : ℕ
@@ -44,22 +56,23 @@ benchAfter m =
 
 -- a packet met, as flow's board meets it
 abbrev pub meetInto : Geometry → Packet → LineEvent → CallOutcome → Left → Bench → Bench
-meetInto g p e o x b = benchAfter (Flow.meet g p (listsOf x e o) (targetOf x (registersIn (b .board)) (lent (b .flash) (b .locks) (b .latch) (b .params))))
+meetInto g p e o x b = benchAfter (Flow.meet g p (listsOf x e o) (targetOf x (registersIn (b .board)) (buffersOf b)))
 
 -- bytes that a board, an event, a call and a request have
-abbrev pub isBench : (board event call request : List ℕ) → Bool
-isBench b e c q = isBoard b && (isEvent e && (isCallOutcome c 0 && isPacket q))
+abbrev pub isBench : (board : List ℕ) → Handed → Bool
+isBench b h = isBoard b && (isEvent (h .event) && (isCallOutcome (h .call) 0 && isPacket (h .request)))
 
 -- 12: bytes of a wrong length
-abbrev pub sizesFit : (board event call request answer : List ℕ) → Bool
-sizesFit b e c q a = eqb (length b) 46 && (eqb (length e) 11 && (eqb (length c) 10 && (eqb (length q) 8 && eqb (length a) 8)))
+abbrev pub sizesFit : (board : List ℕ) → Handed → (answer : List ℕ) → Bool
+sizesFit b h a =
+    eqb (length b) 46
+    && (eqb (length (h .event)) 11 && (eqb (length (h .call)) 10 && (eqb (length (h .request)) 8 && eqb (length a) 8)))
 
 -- 11 for what is not in the table, then 13: nothing is written
-abbrev pub meetFor : Lookup → (event call request : List ℕ) → Left → Bench → Benched
-meetFor (Refused n) e c q x b = benched n b
-meetFor (Found g) e c q x b =
-    cond (isBench (b .board) e c q) (benched 0 (meetInto g (packetIn q) (eventIn e) (callOutcomeAt c 0) x b)) (benched 13 b)
+abbrev pub meetFor : Lookup → Handed → Left → Bench → Benched
+meetFor (Refused n) h x b = benched n b
+meetFor (Found g) h x b =
+    cond (isBench (b .board) h) (benched 0 (meetInto g (packetIn (h .request)) (eventIn (h .event)) (callOutcomeAt (h .call) 0) x b)) (benched 13 b)
 
-unfoldable pub meetCall : (part macros : ℕ) (event call request : List ℕ) → Left → Bench → Benched
-meetCall part macros e c q x b =
-    cond (sizesFit (b .board) e c q (b .answer)) (meetFor (lookupOf part macros) e c q x b) (benched 12 b)
+unfoldable pub meetCall : (part macros : ℕ) → Handed → Left → Bench → Benched
+meetCall part macros h x b = cond (sizesFit (b .board) h (b .answer)) (meetFor (lookupOf part macros) h x b) (benched 12 b)

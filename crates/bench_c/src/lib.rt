@@ -4,7 +4,7 @@ ghost use lib.ListN.{length};
 ghost use Rattle.bench_calls.specs.Board.{left};
 ghost use Rattle.bench_c.specs.BoardAsked.{askedFor, askedOf, numberOf};
 ghost use Rattle.bench_c.specs.BoardBytes.{answerBytes, usedOf, BoardPut};
-ghost use Rattle.bench_c.specs.BoardCalls.{benchOf, benched, isBench, sizesFit, meetCall};
+ghost use Rattle.bench_c.specs.BoardCalls.{benchOf, handed, benched, isBench, sizesFit, meetCall};
 
 mod board_in;
 mod board_out;
@@ -29,7 +29,7 @@ use parts::Lookup;
 
 // Whether all that is of a fixed size is of it.
 fn sizes_fit(board: &[u8], event: &[u8], call: &[u8], request: &[u8], answer: &[u8]) -> bool
-    ensures { λ r. ⌜ r ≡ sizesFit (now (board .entry)) (now (event .entry)) (now (call .entry)) (now (request .entry)) (now (answer .entry)) ⌝ }
+    ensures { λ r. ⌜ r ≡ sizesFit (now (board .entry)) (handed (now (event .entry)) (now (call .entry)) (now (request .entry))) (now (answer .entry)) ⌝ }
 {
     if board.len() != 46 {
         return false;
@@ -49,7 +49,7 @@ fn sizes_fit(board: &[u8], event: &[u8], call: &[u8], request: &[u8], answer: &[
 // Whether bytes are ones that a board, an event, a call and a request have.
 fn is_bench(board: &[u8], event: &[u8], call: &[u8], request: &[u8]) -> bool
     requires { ⌜ (length (now board) ≡ 46) × ((length (now event) ≡ 11) × ((length (now call) ≡ 10) × (length (now request) ≡ 8))) ⌝ }
-    ensures { λ r. ⌜ r ≡ isBench (now (board .entry)) (now (event .entry)) (now (call .entry)) (now (request .entry)) ⌝ }
+    ensures { λ r. ⌜ r ≡ isBench (now (board .entry)) (handed (now (event .entry)) (now (call .entry)) (now (request .entry))) ⌝ }
 {
     if !is_board(board) {
         return false;
@@ -72,7 +72,7 @@ enum Asked {
 // What bytes of the right lengths ask for.
 fn asked_on(g: Geometry, board: &[u8], event: &[u8], call: &[u8], request: &[u8]) -> Asked
     requires { ⌜ (length (now board) ≡ 46) × ((length (now event) ≡ 11) × ((length (now call) ≡ 10) × (length (now request) ≡ 8))) ⌝ }
-    ensures { λ r. ⌜ r ≡ askedFor (Lookup.Found g) (now (board .entry)) (now (event .entry)) (now (call .entry)) (now (request .entry)) ⌝ }
+    ensures { λ r. ⌜ r ≡ askedFor (Lookup.Found g) (now (board .entry)) (handed (now (event .entry)) (now (call .entry)) (now (request .entry))) ⌝ }
 {
     if !is_bench(board, event, call, request) {
         return Asked::Returned(13);
@@ -93,7 +93,7 @@ fn asked_of(
     request: &[u8],
     answer: &[u8],
 ) -> Asked
-    ensures { λ r. ⌜ r ≡ askedOf part macros (now (board .entry)) (now (event .entry)) (now (call .entry)) (now (request .entry)) (now (answer .entry)) ⌝ }
+    ensures { λ r. ⌜ r ≡ askedOf part macros (now (board .entry)) (handed (now (event .entry)) (now (call .entry)) (now (request .entry))) (now (answer .entry)) ⌝ }
 {
     if !sizes_fit(board, event, call, request, answer) {
         return Asked::Returned(12);
@@ -144,7 +144,7 @@ pub extern "C" fn halzuqeen_bench_meet(
     request: &[u8],
     answer: &mut [u8],
 ) -> u32
-    ensures met { λ r. ⌜ benched r (benchOf (now (board .exit)) (now (flash .exit)) (now (locks .exit)) (now (latch .exit)) (now (params .exit)) (now (answer .exit))) ≡ meetCall part macros (now (event .entry)) (now (call .entry)) (now (request .entry)) (left (now («left_flash» .entry)) (now («left_locks» .entry)) (now («left_latch» .entry))) (benchOf (now (board .entry)) (now (flash .entry)) (now (locks .entry)) (now (latch .entry)) (now (params .entry)) (now (answer .entry))) ⌝ }
+    ensures met { λ r. ⌜ benched r (benchOf (now (board .exit)) (now (flash .exit)) (now (locks .exit)) (now (latch .exit)) (now (params .exit)) (now (answer .exit))) ≡ meetCall part macros (handed (now (event .entry)) (now (call .entry)) (now (request .entry))) (left (now («left_flash» .entry)) (now («left_locks» .entry)) (now («left_latch» .entry))) (benchOf (now (board .entry)) (now (flash .entry)) (now (locks .entry)) (now (latch .entry)) (now (params .entry)) (now (answer .entry))) ⌝ }
 {
     let asked = asked_of(part, macros, board, event, call, request, answer);
     let Asked::Meets(g, r, p, e, o) = asked else {

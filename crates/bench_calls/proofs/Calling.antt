@@ -14,10 +14,10 @@ use Rattle.bench_calls.specs.declared.Registers.{Registers}
 use Rattle.bench_calls.specs.declared.Running.{Running}
 use Rattle.bench_calls.specs.declared.Running.the-variants.{Idle, Busy}
 use Rattle.flow.specs.declared.Silicon.{Silicon}
-use Rattle.bench_memory.specs.Acts.{buffersAfter, Effects}
-use Rattle.bench_memory.specs.declared.Act.{Act}
-use Rattle.bench_memory.specs.declared.Act.the-variants.{Keep, Leave}
-use Rattle.bench_memory.specs.declared.Effect.{Effect}
+use Rattle.bench_effects.specs.Acts.{buffersAfter, Effects}
+use Rattle.bench_effects.specs.declared.Act.{Act}
+use Rattle.bench_effects.specs.declared.Act.the-variants.{Keep, PutResidue}
+use Rattle.bench_effects.specs.declared.Effect.{Effect}
 use Rattle.flow.specs.Calls.{dropped, reset, levelSent, macroSent, failedArg, listAt, effectOf, sysargAfter, sysreqAfter, afterFailure, finish}
 use Rattle.flow.specs.Target.{Memory, Target, idle, setReset}
 use Rattle.lent.specs.Words.{total}
@@ -33,18 +33,18 @@ module _ (r : Registers) (o : CallOutcome) (c arg : ℕ) (a : arg ≡ failedArg 
   failed-quiet q g x b = rw (q, a)
 
   pub failed-left : quiet c ≡ false → (l : ℕ) → l ≡ cond (o .«new_level» && eqb c 0x0D && eqb (macroSent (r .sysarg)) 0) (levelSent (r .sysarg)) (r .stored % 16)
-      → l < 16 → Fails o c r (ended r l arg 0 Leave)
+      → l < 16 → Fails o c r (ended r l arg 0 PutResidue)
   unfolding finish afterFailure
   failed-left q l e h g x b = let f : l % 16 ≡ l = omega arith in rw (q, a, f, e)
 
 -- SYSARG after a success
 module _ (c : ℕ) (s : Silicon) (fs : List ℕ) where
-  pub ids-told : c ≡ 0 → Answers c s fs (0xA0000000 + s .revision * 65536 + s .high * 256 + s .low)
+  pub ids-told : c ≡ 0 → Answers c s fs (0xA0000000 + s .revision * 0x10000 + s .high * 256 + s .low)
   unfolding sysargAfter
   ids-told e m f = rw e
 
-  pub sum-told : c ≡ 0x0B → (t : ℕ) → t ≡ total fs % 268435456
-      → Answers c s fs (0xA0000000 + (s .«privileged_sum» % 268435456 + t) % 268435456)
+  pub sum-told : c ≡ 0x0B → (t : ℕ) → t ≡ total fs % 0x100000000
+      → Answers c s fs (0xA0000000 + (s .«privileged_sum» % 0x10000000 + t % 0x10000000) % 0x10000000)
   unfolding sysargAfter
   sum-told e t g m f = rw (e, g, f) (ap (λ (n : ℕ). 0xA0000000 + n) (omega arith))
 

@@ -6,8 +6,8 @@ use Rattle.bench_calls.specs.declared.Running.{Running}
 use Rattle.bench_calls.specs.declared.Running.the-variants.{Idle, Busy}
 use Rattle.flow.specs.Target.{Target, Residue, idle, busy}
 use Rattle.flow.specs.Target as Flow
--- the lent buffers and what is left in them stand in bench_memory
-pub use Rattle.bench_memory.specs.Lent.{Buffers, Left, lent, left, memoryOf}
+-- the lent buffers and what is left in them stand in bench_effects
+pub use Rattle.bench_effects.specs.Lent.{Buffers, Left, lent, left, memoryOf}
 
 abbrev pub residueOf : Left → CallOutcome → Residue
 residueOf x o = record { flash = x .flash; locks = x .locks; latch = x .latch; sysarg = o .sysarg; newLevel = o .«new_level» }

@@ -9,8 +9,8 @@ use Rattle.bench_calls.specs.declared.CallOutcome.{CallOutcome}
 use Rattle.bench_calls.specs.declared.Change.{Change}
 use Rattle.bench_calls.specs.declared.Registers.{Registers}
 use Rattle.bench_calls.specs.declared.Running.the-variants.{Idle}
-use Rattle.bench_memory.specs.Acts.{buffersAfter}
-use Rattle.bench_memory.specs.declared.Act.{Act}
+use Rattle.bench_effects.specs.Acts.{buffersAfter}
+use Rattle.bench_effects.specs.declared.Act.{Act}
 use Rattle.flow.specs.Calls.{sysargAfter, finish, reset}
 use Rattle.flow.specs.Target.{Memory, Target}
 use Rattle.flow.specs.declared.Silicon.{Silicon}

@@ -7,7 +7,7 @@ ghost use Rattle.bench_calls.specs.Board.{residueOf};
 ghost use Rattle.bench_calls.specs.Ends.{ended, MakesOf, Fails, Succeeds, Answers, Resets, Alters};
 ghost use Rattle.flow.specs.Calls.{failedArg, sysreqAfter, finish};
 ghost use Rattle.flow.specs.Target.{setReset};
-use bench_memory::Act;
+use bench_effects::Act;
 use flow::Silicon;
 use parts::Geometry;
 
@@ -68,7 +68,11 @@ fn end(r: Registers, stored: u8, sysarg: u32, sysreq: u32, act: Act) -> Change
 fn failed_arg(word: u32) -> u32
     ensures { λ r. ⌜ r ≡ failedArg word ⌝ }
 {
-    if word / 268435456 % 16 == 10 { 0 } else { word }
+    if word / 0x10000000 % 16 == 10 {
+        0
+    } else {
+        word
+    }
 }
 
 // Whether a call leaves the memory alone even when it fails.
@@ -94,18 +98,18 @@ fn fail(r: Registers, o: CallOutcome, c: u8) -> Change
     }
     end(
         r,
-        bench_memory::level_left(r.sysarg, r.stored, o.new_level, c),
+        bench_effects::level_left(r.sysarg, r.stored, o.new_level, c),
         arg,
         0,
-        Act::Leave,
+        Act::PutResidue,
     )
 }
 
 // The IDs as step 2 reads them in SYSARG.
 fn ids_of(s: Silicon) -> u32
-    ensures { λ w. ⌜ w ≡ 0xA0000000 + s .revision * 65536 + s .high * 256 + s .low ⌝ }
+    ensures { λ w. ⌜ w ≡ 0xA0000000 + s .revision * 0x10000 + s .high * 256 + s .low ⌝ }
 {
-    0xA0000000 + (s.revision as u32) * 65536 + (s.high as u32) * 256 + (s.low as u32)
+    0xA0000000 + (s.revision as u32) * 0x10000 + (s.high as u32) * 256 + (s.low as u32)
 }
 
 // SYSARG after a successful call.
@@ -117,7 +121,7 @@ fn sysarg_after(s: Silicon, flash: &[u8], c: u8) -> u32
     }
     if c == 0x0B {
         return 0xA0000000
-            + (s.privileged_sum % 268435456 + bench_memory::sum_of(flash)) % 268435456;
+            + (s.privileged_sum % 0x10000000 + lent::whole_sum(flash) % 0x10000000) % 0x10000000;
     }
     0xA0000000
 }
@@ -137,7 +141,7 @@ fn succeed(g: Geometry, r: Registers, flash: &[u8], params: &[u32], c: u8) -> Ch
     ensures { λ n. ⌜ Succeeds g (now (flash .entry)) (now (params .entry)) c r n ⌝ }
 {
     let s = r.silicon;
-    let e = bench_memory::effect_of(g, r.effect, r.sysarg, r.stored, params, c);
+    let e = bench_effects::effect_of(g, r.effect, r.sysarg, r.stored, params, c);
     let arg = sysarg_after(s, flash, c);
     let act = e.act;
     end(r, e.stored, arg, sysreq_after(s, r.effect, c), act)

@@ -4,6 +4,7 @@ ghost use mathlib.Core.Path.{_≡_};
 ghost use Rattle.flow.specs.Exchange.{replyWith, silentReply, noisyAck, noisyReply, okayReply, wrongParityReply, replyTo, carriedOut};
 use flow::Reply;
 use flow::TransferOutcome;
+use wire::Ack;
 
 // An acknowledgement with what is free beside it.
 fn reply_with(ack: u8, filler: Reply) -> Reply
@@ -27,9 +28,13 @@ pub fn silent_reply(filler: Reply) -> Reply
 fn noisy_ack(n: u8) -> u8
     ensures { λ r. ⌜ r ≡ noisyAck n ⌝ }
 {
-    match n {
-        1 | 2 | 4 | 7 => 0,
-        0 | 3 | 5 | 6 | 8..=255 => n,
+    let told = wire::read_ack(n);
+    match told {
+        Ack::Okay => 0,
+        Ack::Wait => 0,
+        Ack::Fault => 0,
+        Ack::Silence => 0,
+        Ack::Noise => n,
     }
 }
 

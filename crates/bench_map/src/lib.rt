@@ -132,7 +132,7 @@ fn at_sysreq(at: Place) -> bool
 pub fn is_call(w: u32, at: Place) -> bool
     ensures call { λ t. ⌜ t ≡ (isCall w && isSysreq at) ⌝ }
 {
-    if 2147483648 <= w {
+    if 0x80000000 <= w {
         return at_sysreq(at);
     }
     false

@@ -4,10 +4,10 @@ use mathlib.Core.Path.{_≡_, _∙_}
 use Prim.Native.Nat.{ℕ}
 use lib.ListN.{length, take, drop}
 use lib.Seq.{take-length}
-use Rattle.bench_memory.specs.Acts.{buffersAfter}
-use Rattle.bench_memory.specs.Lent.{Left, lent}
-use Rattle.bench_memory.specs.declared.Act.{Act}
-use Rattle.bench_memory.specs.declared.Act.the-variants.{Keep, PutWord, Leave, Erase, FillLatch, ProgramRow, WriteLocks}
+use Rattle.bench_effects.specs.Acts.{buffersAfter}
+use Rattle.bench_effects.specs.Lent.{Left, lent}
+use Rattle.bench_effects.specs.declared.Act.{Act}
+use Rattle.bench_effects.specs.declared.Act.the-variants.{Keep, PutWord, PutResidue, Erase, FillLatch, ProgramRow, WriteLocks}
 use Rattle.flow.specs.Calls.{bytesIn}
 use Rattle.flow.specs.Target.{lay, sized}
 use Rattle.bench_memory.proofs.Laying.{fit-zeros}
@@ -19,7 +19,7 @@ module _ (x : Left) (f l t p : List ℕ) {act : Act} where
   pub put : {k w : ℕ} {p′ : List ℕ} → act ≡ PutWord k w → p′ ≡ lay p k (w ∷ []) → lent f l t p′ ≡ buffersAfter x act (lent f l t p)
   put e h = rw (e, h)
 
-  pub replaced : {f′ l′ t′ : List ℕ} → act ≡ Leave → f′ ≡ sized f (x .flash) → l′ ≡ sized l (x .locks) → t′ ≡ sized t (x .latch)
+  pub replaced : {f′ l′ t′ : List ℕ} → act ≡ PutResidue → f′ ≡ sized f (x .flash) → l′ ≡ sized l (x .locks) → t′ ≡ sized t (x .latch)
       → lent f′ l′ t′ p ≡ buffersAfter x act (lent f l t p)
   replaced e hf hl ht = rw (e, hf, hl, ht)
 

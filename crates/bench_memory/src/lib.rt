@@ -1,60 +1,14 @@
-// The lent memory: words and sums of it, what calls do to it, and what an act leaves there.
+// The lent memory, and what an act leaves there.
 ghost use mathlib.Core.List.{[], _∷_};
 ghost use mathlib.Core.Path.{_≡_};
-ghost use Prim.Native.Nat.{_-_, _*_, _%_, min};
+ghost use Prim.Native.Nat.{_-_, _*_, min};
 ghost use lib.ListN.{getD, take, drop};
-ghost use Rattle.bench_memory.specs.Acts.{buffersAfter};
-ghost use Rattle.bench_memory.specs.Lent.{lent, left};
+ghost use Rattle.bench_effects.specs.Acts.{buffersAfter};
+ghost use Rattle.bench_effects.specs.Lent.{lent, left};
 ghost use Rattle.flow.specs.Calls.{bytesIn};
 ghost use Rattle.flow.specs.Target.{lay, sized};
-ghost use Rattle.lent.specs.Words.{total, lowFirst};
-
-mod effects;
-
-pub use effects::effect_of;
-pub use effects::level_left;
-
-// What a request does to the lent memory.
-pub enum Act {
-    Keep,
-    // A word of PARAMS.
-    PutWord(usize, u32),
-    // What a failed call leaves.
-    Leave,
-    Erase,
-    // So many bytes of the list, from the latch's byte 0 on.
-    FillLatch(usize),
-    // The latch, from this byte of the flash on.
-    ProgramRow(usize),
-    // So many bytes of the latch, from this byte of the locks on.
-    WriteLocks(usize, usize),
-}
-
-// What a successful call does to the memory, and the level stored after it.
-pub struct Effect {
-    pub act: Act,
-    pub stored: u8,
-}
-
-// A word of PARAMS, and 0 past its end.
-pub fn word_of(params: &[u32], k: usize) -> u32
-    ensures word { λ w. ⌜ w ≡ getD (now (params .entry)) k 0 ⌝ }
-{
-    if k < params.len() { params[k] } else { 0 }
-}
-
-// All bytes together, modulo 2^28.
-pub fn sum_of(bytes: &[u8]) -> u32
-    ensures sum { λ r. ⌜ r ≡ total (now (bytes .entry)) % 268435456 ⌝ }
-{
-    let mut sum: u32 = 0;
-    let mut place: usize = 0;
-    while place < bytes.len() {
-        sum = (sum + (bytes[place] as u32)) % 268435456;
-        place += 1;
-    }
-    sum
-}
+ghost use Rattle.lent.specs.Words.{lowFirst};
+use bench_effects::Act;
 
 // Puts a word into PARAMS, where it has the place.
 fn put_word(params: &mut [u32], k: usize, w: u32)
@@ -86,7 +40,7 @@ fn fit(dst: &mut [u8], src: &[u8])
 {
     let mut i: usize = 0;
     while i < dst.len() {
-        dst[i] = byte_at(src, i);
+        dst[i] = lent::byte_at(src, i);
         i += 1;
     }
 }
@@ -120,13 +74,6 @@ fn held(words: usize, n: usize) -> usize
     if n / 4 < most { n } else { most * 4 }
 }
 
-// A byte of src, and 0 past its end.
-fn byte_at(src: &[u8], i: usize) -> u8
-    ensures { λ b. ⌜ b ≡ getD (now (src .entry)) i 0 ⌝ }
-{
-    if i < src.len() { src[i] } else { 0 }
-}
-
 // Byte k of a word, byte 0 the low one.
 fn byte_of(w: u32, k: usize) -> u8
     ensures { λ b. ⌜ b ≡ getD (lowFirst 4 w) k 0 ⌝ }
@@ -138,10 +85,10 @@ fn byte_of(w: u32, k: usize) -> u8
         return (w / 256 % 256) as u8;
     }
     if k == 2 {
-        return (w / 65536 % 256) as u8;
+        return (w / 0x10000 % 256) as u8;
     }
     if k == 3 {
-        return (w / 16777216 % 256) as u8;
+        return (w / 0x1000000 % 256) as u8;
     }
     0
 }
@@ -162,7 +109,7 @@ pub fn perform(
     match act {
         Act::Keep => {}
         Act::PutWord(k, w) => put_word(params, k, w),
-        Act::Leave => {
+        Act::PutResidue => {
             fit(flash, left_flash);
             fit(locks, left_locks);
             fit(latch, left_latch);

@@ -11,12 +11,12 @@ use Rattle.cases.specs.Fnv.{fnvStep, fnvFrom}
 
 -- the factor, 2^40 + 435, by halves of the number
 pub times-factor : (x : ℕ)
-    → ((x % 4294967296 * 435 + x / 4294967296 * 435 % 4294967296 * 4294967296) % 2 ^ 64 + x % 16777216 * 1099511627776) % 2 ^ 64 ≡ x * 1099511628211 % 2 ^ 64
+    → ((x % 0x100000000 * 435 + x / 0x100000000 * 435 % 0x100000000 * 0x100000000) % 2 ^ 64 + x % 0x1000000 * 0x10000000000) % 2 ^ 64 ≡ x * 0x100000001B3 % 2 ^ 64
 times-factor x =
-    let low = x % 4294967296 * 435 + x / 4294967296 * 435 % 4294967296 * 4294967296 in
-    let top = x % 16777216 * 1099511627776 in
-    let over = x / 4294967296 * 435 / 4294967296 + x / 16777216 in
-    let e : low + top + 2 ^ 64 * over ≡ x * 1099511628211 = omega arith in
+    let low = x % 0x100000000 * 435 + x / 0x100000000 * 435 % 0x100000000 * 0x100000000 in
+    let top = x % 0x1000000 * 0x10000000000 in
+    let over = x / 0x100000000 * 435 / 0x100000000 + x / 0x1000000 in
+    let e : low + top + 2 ^ 64 * over ≡ x * 0x100000001B3 = omega arith in
     mod-add-mod low (2 ^ 64) top ∙ sym (add-mul-mod-self-left (low + top) (2 ^ 64) over) ∙ ap (λ (n : ℕ). n % 2 ^ 64) e
 
 pub fnv-turn : (bytes : List ℕ) (h i : ℕ) → i < length bytes → fnvFrom (fnvStep h (getD bytes i 0)) (drop (i + 1) bytes) ≡ fnvFrom h (drop i bytes)

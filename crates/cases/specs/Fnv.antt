@@ -5,7 +5,7 @@ use lib.Bits.{bitXor}
 
 -- one byte more: 'exclusive or, then times the factor 0x100000001B3'
 unfoldable pub fnvStep : ℕ → ℕ → ℕ
-fnvStep h b = bitXor h b * 1099511628211 % 2 ^ 64
+fnvStep h b = bitXor h b * 0x100000001B3 % 2 ^ 64
 
 unfoldable pub fnvFrom : ℕ → List ℕ → ℕ
 fnvFrom h [] = h
@@ -13,4 +13,4 @@ fnvFrom h (b ∷ bs) = fnvFrom (fnvStep h b) bs
 
 -- 'start 0xCBF29CE484222325'
 abbrev pub fnv : List ℕ → ℕ
-fnv bs = fnvFrom 14695981039346656037 bs
+fnv bs = fnvFrom 0xCBF29CE484222325 bs

@@ -66,11 +66,11 @@ pub fn read_number(most: u32) -> Number
 
 // x times 2^40 + 435, modulo 2^64.
 fn scaled(x: u64) -> u64
-    ensures { λ r. ⌜ r ≡ x * 1099511628211 % 2 ^ 64 ⌝ }
+    ensures { λ r. ⌜ r ≡ x * 0x100000001B3 % 2 ^ 64 ⌝ }
 {
-    let low = x % 4294967296 * 435;
-    let high = x / 4294967296 * 435 % 4294967296 * 4294967296;
-    let top = x % 16777216 * 1099511627776;
+    let low = x % 0x100000000 * 435;
+    let high = x / 0x100000000 * 435 % 0x100000000 * 0x100000000;
+    let top = x % 0x1000000 * 0x10000000000;
     let sum = std::num::wrapping_add_u64(low, high);
     std::num::wrapping_add_u64(sum, top)
 }
@@ -86,7 +86,7 @@ pub fn mixed(h: u64, b: u8) -> u64
 pub fn digest(bytes: &[u8]) -> u64
     ensures digest { λ r. ⌜ r ≡ fnv (now (bytes .entry)) ⌝ }
 {
-    let mut h: u64 = 14695981039346656037;
+    let mut h: u64 = 0xCBF29CE484222325;
     let mut i: usize = 0;
     while i < bytes.len() {
         h = mixed(h, bytes[i]);

@@ -18,8 +18,8 @@ pub(crate) fn is_transfer(packet: Packet) -> bool {
 fn mixed_word(h: u64, w: u32) -> u64 {
     let one = cases::mixed(h, (w % 256) as u8);
     let two = cases::mixed(one, (w / 256 % 256) as u8);
-    let three = cases::mixed(two, (w / 65536 % 256) as u8);
-    cases::mixed(three, (w / 16777216) as u8)
+    let three = cases::mixed(two, (w / 0x10000 % 256) as u8);
+    cases::mixed(three, (w / 0x1000000) as u8)
 }
 
 // The digest after a request more.

@@ -2,7 +2,7 @@
 
 // The next state of the sequence that images are made of.
 fn drawn(x: u32) -> u32 {
-    (((x as u64) * 1664525 + 1013904223) % 4294967296) as u32
+    (((x as u64) * 1664525 + 1013904223) % 0x100000000) as u32
 }
 
 fn fill_drawn(image: &mut [u8], seed: u32) {
@@ -10,7 +10,7 @@ fn fill_drawn(image: &mut [u8], seed: u32) {
     let mut i: usize = 0;
     while i < image.len() {
         x = drawn(x);
-        image[i] = (x / 16777216) as u8;
+        image[i] = (x / 0x1000000) as u8;
         i += 1;
     }
 }

@@ -198,7 +198,7 @@ fn play_on(c: Case, s: Session, packet: Packet, image: &[u8]) {
         registers: answering::blank(h, c.stored, c.privileged),
         session: s,
         packet: packet,
-        digest: 14695981039346656037,
+        digest: 0xCBF29CE484222325,
         transfers: 0,
         finished: false,
     };

@@ -76,15 +76,22 @@ pub fn part_word_is(bytes: &[u8], from: usize, n: usize, at: usize, word: u32) -
     word_is(&bytes[from..end], at, word)
 }
 
-// The sum of bytes, modulo 65536.
-pub fn sum_of(bytes: &[u8]) -> u16
-    ensures sum { λ r. ⌜ r ≡ total (now (bytes .entry)) % 65536 ⌝ }
+// The sum of bytes, modulo 2^32.
+pub fn whole_sum(bytes: &[u8]) -> u32
+    ensures sum { λ r. ⌜ r ≡ total (now (bytes .entry)) % 0x100000000 ⌝ }
 {
     let mut sum: u32 = 0;
     let mut place: usize = 0;
     while place < bytes.len() {
-        sum = (sum + wide(bytes[place])) % 65536;
+        sum = std::num::wrapping_add_u32(sum, wide(bytes[place]));
         place += 1;
     }
-    sum as u16
+    sum
+}
+
+// The sum of bytes, modulo 65536.
+pub fn sum_of(bytes: &[u8]) -> u16
+    ensures sum { λ r. ⌜ r ≡ total (now (bytes .entry)) % 65536 ⌝ }
+{
+    (whole_sum(bytes) % 65536) as u16
 }

@@ -8,5 +8,5 @@ pub failed-arg-spec : {M : Type 1} → statement M
 failed-arg-spec =
     tie.close
     (tie.spec
-    (λ c. simp (eq-eqb (c .before .args .word / 268435456 % 16) 0xA (c .if1 .taken)))
-    (λ c. simp (ne-eqb (c .before .args .word / 268435456 % 16) 0xA (c .if1 .left))))
+    (λ c. simp (eq-eqb (c .before .args .word / 0x10000000 % 16) 0xA (c .if1 .taken)))
+    (λ c. simp (ne-eqb (c .before .args .word / 0x10000000 % 16) 0xA (c .if1 .left))))

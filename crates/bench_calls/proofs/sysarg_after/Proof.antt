@@ -17,5 +17,5 @@ sysarg-after-spec =
     (λ c. search needs)
     (λ c. search needs)
     (λ c. let a = c .before .before .before .before .before .args in
-    sum-told (a .c) (a .s) (a .flash .now) (c .before .before .if2 .taken) _ (c .sum-of .ensures))
+    sum-told (a .c) (a .s) (a .flash .now) (c .before .before .if2 .taken) _ (c .whole-sum .ensures))
     (λ c. let a = c .before .before .before .args in mark-told (a .c) (a .s) (a .flash .now) (c .before .if1 .left) (c .if2 .left)))

@@ -1,37 +1,35 @@
--- Each number decides the tests of `isAck Noise`. Assumes nothing.
-use mathlib.Core.Bool.{Bool, true, false}
-use mathlib.Core.Logic.{inl, inr}
+-- By what `read_ack` says of the number. Assumes nothing.
+use mathlib.Core.Bool.{true}
 use mathlib.Core.Path.{_≡_, refl}
-use Prim.Native.Nat.{ℕ, _≤_}
-use native.Mathlib.Omega.{arith}
-use borrow.Author.Tests.{eq-eqb, ne-eqb, eqb-false}
+use Prim.Native.Nat.{ℕ}
+use borrow.Author.Needs.{needs}
+use borrow.Author.Tests.{eqb-true}
 use lib.Dec.{eqb}
 use Rattle.bench_lines.proofs.noisy_ack.Statement.{statement}
 use Rattle.bench_lines.proofs.noisy_ack.Tie as tie
 use Rattle.flow.specs.Exchange.{noisyAck}
+use Rattle.wire.specs.Wire.{isAck}
+use Rattle.wire.specs.declared.Ack.{Ack}
+use Rattle.wire.specs.declared.Ack.the-variants.{Okay, Wait, Fault, Silence, Noise}
 
--- 1 and 2
-one-or-two : (n : ℕ) → 1 ≤ n → n ≤ 2 → 0 ≡ noisyAck n
-one-or-two n low high = by (eqb n 1) refl
-  where
-    by : (t : Bool) → eqb n 1 ≡ t → 0 ≡ noisyAck n
-    by true e = simp e
-    by false e = simp (e, eq-eqb n 2 (let other = eqb-false n 1 e in omega (arith, other)))
+said : (a : Ack) (n : ℕ) → isAck a n ≡ true → (b : Ack) → a ≡ b → isAck b n ≡ true
+said a n h b e = rw e at h
 
-noise : (n : ℕ) → (n ≡ 1 → ⊥) → (n ≡ 2 → ⊥) → (n ≡ 4 → ⊥) → (n ≡ 7 → ⊥) → n ≡ noisyAck n
-noise n a b c d = simp (ne-eqb n 1 a, ne-eqb n 2 b, ne-eqb n 4 c, ne-eqb n 7 d)
+lost : (n k : ℕ) → noisyAck k ≡ 0 → eqb n k ≡ true → 0 ≡ noisyAck n
+lost n k z t = rw (eqb-true n k t, z)
 
 pub noisy-ack-spec : {M : Type 1} → statement M
 noisy-ack-spec =
     tie.close
     (tie.spec
-    (λ c. elim (c .match .keys1) [ inl e ↦ simp e | inr e ↦ simp e ])
-    (λ c.
-    let n = c .before .before .args .n in
-    let some : n ≡ 0 → ⊥ = λ e. c .before .match .rest .1 (inl e) in
-    one-or-two n (omega (arith, some)) (omega (arith, c .if1 .taken)))
-    (λ c. elim (c .match .keys2) [ inl e ↦ simp e | inr e ↦ simp e ])
-    (λ c.
-    let over = c .if1 .left in
-    let none = c .before .match .rest .0 .1 in
-    noise (c .before .before .args .n) (λ e. omega (arith, e, over)) (λ e. omega (arith, e, over)) (λ e. none (inl e)) (λ e. none (inr e))))
+    (λ c κs. search needs)
+    (λ c. search needs)
+    (λ c. search needs)
+    (λ c. search needs)
+    (λ c. search needs)
+    (λ c. search needs)
+    (λ c. lost (c .before .before .before .args .n) 1 refl (said _ _ (c .before .before .read-ack .ensures .1) Okay (c .enum-told .given .1)))
+    (λ c. lost (c .before .before .before .args .n) 2 refl (said _ _ (c .before .before .read-ack .ensures .1) Wait (c .enum-told2 .given .1)))
+    (λ c. lost (c .before .before .before .args .n) 4 refl (said _ _ (c .before .before .read-ack .ensures .1) Fault (c .enum-told3 .given .1)))
+    (λ c. lost (c .before .before .before .args .n) 7 refl (said _ _ (c .before .before .read-ack .ensures .1) Silence (c .enum-told4 .given .1)))
+    (λ c. simp (said _ _ (c .before .before .read-ack .ensures .1) Noise (c .enum-told5 .given .1))))

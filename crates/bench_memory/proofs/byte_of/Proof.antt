@@ -11,13 +11,13 @@ use Rattle.bench_memory.proofs.byte_of.Tie as tie
 returns-3 : tie.Need-returns-3
 returns-3 c =
     let w = c .before .before .before .args .w in
-    let e : w / 65536 % 256 ≡ w / 256 / 256 % 256 = omega arith in
+    let e : w / 0x10000 % 256 ≡ w / 256 / 256 % 256 = omega arith in
     rw (c .if3 .taken) e
 
 returns-4 : tie.Need-returns-4
 returns-4 c =
     let w = c .before .before .before .before .args .w in
-    let e : w / 16777216 % 256 ≡ w / 256 / 256 / 256 % 256 = omega arith in
+    let e : w / 0x1000000 % 256 ≡ w / 256 / 256 / 256 % 256 = omega arith in
     rw (c .if4 .taken) e
 
 returns-5 : tie.Need-returns-5

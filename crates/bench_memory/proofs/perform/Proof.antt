@@ -1,5 +1,5 @@
 -- Each act by its own law. Assumes nothing.
-use Rattle.bench_memory.specs.Lent.{left}
+use Rattle.bench_effects.specs.Lent.{left}
 use Rattle.bench_memory.proofs.Acting.{kept, put, replaced, erased, latched, programmed, locked}
 use borrow.Author.Needs.{needs}
 use Rattle.bench_memory.proofs.perform.Statement.{statement}

@@ -1,0 +1,48 @@
+-- What a request does to the lent buffers, apart from what it does to the registers. Assumes nothing.
+use mathlib.Core.List.{List, [], _∷_}
+use mathlib.Core.Path.{_≡_}
+use Prim.Native.Nat.{ℕ, _%_}
+use lib.ListN.{length, take, drop, replicate}
+use Rattle.bench_effects.specs.Lent.{Buffers, Left, memoryOf}
+use Rattle.bench_effects.specs.declared.Act.{Act}
+use Rattle.bench_effects.specs.declared.Act.the-variants.{Keep, PutWord, PutResidue, Erase, FillLatch, ProgramRow, WriteLocks}
+use Rattle.bench_effects.specs.declared.Effect.{Effect}
+use Rattle.flow.specs.Calls.{bytesIn, effectOf, listAt}
+use Rattle.flow.specs.Target.{lay, sized}
+use Rattle.parts.specs.declared.Geometry.{Geometry}
+
+-- each act is one line of what calls do in flow's Calls, and PutWord a write of PARAMS
+abbrev pub buffersAfter : Left → Act → Buffers → Buffers
+buffersAfter x Keep b = b
+buffersAfter x (PutWord k w) b = record { flash = b .flash; locks = b .locks; latch = b .latch; params = lay (b .params) k (w ∷ []) }
+buffersAfter x PutResidue b = record {
+  flash = sized (b .flash) (x .flash);
+  locks = sized (b .locks) (x .locks);
+  latch = sized (b .latch) (x .latch);
+  params = b .params;
+}
+buffersAfter x Erase b = record {
+  flash = replicate (length (b .flash)) 0;
+  locks = replicate (length (b .locks)) 0;
+  latch = b .latch;
+  params = b .params;
+}
+buffersAfter x (FillLatch n) b = record {
+  flash = b .flash;
+  locks = b .locks;
+  latch = lay (b .latch) 0 (take n (bytesIn (drop 2 (b .params))));
+  params = b .params;
+}
+buffersAfter x (ProgramRow s) b = record { flash = lay (b .flash) s (b .latch); locks = b .locks; latch = b .latch; params = b .params }
+buffersAfter x (WriteLocks s n) b = record { flash = b .flash; locks = lay (b .locks) s (take n (b .latch)); latch = b .latch; params = b .params }
+
+-- a successful call's effect on the memory, by the level in effect, SYSARG and the level stored; PARAMS stay
+abbrev pub Effects : Geometry → (effect sysarg stored : ℕ) → (params : List ℕ) → (c : ℕ) → Effect → Type 0
+Effects g l a s ps c e =
+    (x : Left) (b : Buffers) → b .params ≡ ps
+    → (memoryOf (buffersAfter x (e .act) b) (e .stored % 16) ≡ effectOf g c l a (listAt a (b .params)) (memoryOf b (s % 16)))
+    × ((buffersAfter x (e .act) b) .params ≡ b .params)
+
+-- 0x0D, whatever PARAMS hold
+abbrev pub Protects : Geometry → (effect sysarg stored : ℕ) → Effect → Type 0
+Protects g l a s e = (params : List ℕ) → Effects g l a s params 0x0D e
