@@ -15,8 +15,8 @@ use Rattle.encoding.specs.Outcomes.{outcomeBytes, numberOf}
 use Rattle.encoding.specs.Records.{recordBytes, recordIn}
 use Rattle.encoding.specs.Sessions.{sessionBytes, sessionIn, isSession}
 use Rattle.flow.specs.declared.Answer.{Answer}
-use Rattle.hex.specs.HexFormat.{hexFormat}
-use Rattle.hex.specs.Texts.{contentOf, hexReading}
+use Rattle.hex_format.specs.HexFormat.{hexFormat}
+use Rattle.hex_format.specs.Texts.{contentOf, hexReading}
 use Rattle.hex_writer.specs.Writing.{writing, writeOf, textAfter}
 use Rattle.image.specs.Checks.{faultIn, imageFault}
 use Rattle.image.specs.Refusals.{firstRefusal}
@@ -33,7 +33,7 @@ use Rattle.session.specs.declared.Outcome.the-variants.{Refused}
 use Rattle.session.specs.declared.Session.{Session}
 use Rattle.text.proofs.Entries.{refused-eleven}
 use Rattle.text.specs.Reading.{Untouched, readFor, answerOf, bufferAfter}
-use Rattle.text.specs.Storing.{cleared}
+use Rattle.storing.specs.Storing.{cleared}
 use Rattle.text.specs.Writing.{Unwritten, writeFor}
 use Rattle.text.specs.declared.ReadAnswer.{ReadAnswer}
 use Rattle.text.specs.declared.WriteAnswer.{WriteAnswer}

@@ -16,9 +16,9 @@ use Rattle.encoding.specs.Buffers.{putInto, Kept}
 use Rattle.encoding.specs.Values.{Twelve}
 use Rattle.calls.specs.Claims.{Zeroed, ReadClaims, WriteClaims}
 use Rattle.encoding.specs.Records.{recordBytes, recordIn}
-use Rattle.hex.specs.HexFormat.{hexFormat}
-use Rattle.hex.specs.Texts.{hexReading}
-use Rattle.hex.specs.Written.{textLength}
+use Rattle.hex_format.specs.HexFormat.{hexFormat}
+use Rattle.hex_format.specs.Texts.{hexReading}
+use Rattle.hex_format.specs.Written.{textLength}
 use Rattle.hex_writer.specs.Writing.{writing}
 use Rattle.image.specs.Refusals.{firstRefusal}
 use Rattle.sections.specs.Sections.{sectionsOf, headerOf}

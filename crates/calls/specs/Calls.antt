@@ -11,7 +11,7 @@ use Rattle.encoding.specs.Records.{recordBytes, recordIn}
 use Rattle.encoding.specs.Sessions.{sessionBytes, sessionIn, isSession}
 use Rattle.flow.specs.declared.Answer.{Answer}
 use Rattle.flow.specs.declared.Answer.the-variants.{ResetDone, Transferred}
-use Rattle.hex.specs.Texts.{hexReading}
+use Rattle.hex_format.specs.Texts.{hexReading}
 use Rattle.hex_writer.specs.Writing.{writing}
 use Rattle.image.specs.Refusals.{_unless_, firstRefusal}
 use Rattle.lent.specs.Words.{lowFirst}

@@ -12,8 +12,8 @@ use Rattle.encoding.specs.Records.{recordBytes, recordIn}
 use Rattle.encoding.specs.Sessions.{sessionBytes, sessionIn, isSession}
 use Rattle.encoding.specs.Values.{Bytes, Twelve, InWords, outcomeWord}
 use Rattle.flow.specs.declared.Answer.{Answer}
-use Rattle.hex.specs.Texts.{hexReading}
-use Rattle.hex.specs.Written.{textLength}
+use Rattle.hex_format.specs.Texts.{hexReading}
+use Rattle.hex_format.specs.Written.{textLength}
 use Rattle.hex_writer.specs.Writing.{writeOf, textAfter}
 use Rattle.lent.specs.Words.{lowFirst}
 use Rattle.image.specs.declared.Header.{Header}

@@ -36,7 +36,7 @@ fn refuse_start(bytes: &mut [u8], outcome: &mut [u8], n: u8) -> u32
     ensures { λ _. ⌜ now (bytes .exit) ≡ startInto (startRefused n) (now (bytes .entry)) (now (outcome .entry)) .first ⌝ }
     ensures { λ _. ⌜ now (outcome .exit) ≡ startInto (startRefused n) (now (bytes .entry)) (now (outcome .entry)) .second ⌝ }
 {
-    text::clear(bytes, 45);
+    storing::clear(bytes, 45);
     put_outcome(outcome, Outcome::Refused(n));
     n as u32
 }

@@ -11,8 +11,8 @@ use lib.ListN.{length, take, drop, length-append}
 use lib.Seq.{sets, sets-eq, length-take-le, take-length, drop-at, drop-drop}
 use Rattle.dry.specs.Runs.{Spells}
 use Rattle.io.specs.Digits.{digits, Fewest}
-use Rattle.text.proofs.Storing.{stored}
-use Rattle.text.specs.Storing.{storedAt}
+use Rattle.storing.proofs.Storing.{stored}
+use Rattle.storing.specs.Storing.{storedAt}
 
 take-front : (a b : List ℕ) (n : ℕ) → length a ≡ n → take n (a ++ b) ≡ a
 take-front [] b n e = rw (sym e) refl

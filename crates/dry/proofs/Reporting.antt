@@ -16,7 +16,7 @@ use Rattle.dry.specs.declared.Ran.the-variants.{Refused}
 use Rattle.dry.proofs.Taking.{TakenWell, GoodReading, reading-good}
 use Rattle.flow.specs.Terms.{Passes}
 use Rattle.flow.specs.Examples.{partOne}
-use Rattle.hex.specs.Texts.{hexReading}
+use Rattle.hex_format.specs.Texts.{hexReading}
 use Rattle.image.proofs.Refusals.{Passed, all-passed}
 use Rattle.image.specs.Checks.{metadataAt, imageFault}
 use Rattle.image.specs.declared.Header.{Header}
@@ -29,7 +29,7 @@ use Rattle.parts.specs.declared.Lookup.the-variants as Lookups
 use Rattle.session.specs.Given.{startOf}
 use Rattle.session.specs.declared.Given.{Given}
 use Rattle.session.specs.declared.Report.{Report}
-use Rattle.text.proofs.Capitals.{all-bytes}
+use Rattle.pairs.proofs.Capitals.{all-bytes}
 use Rattle.text.specs.Reading.{Reading, Untouched, Cleared, Taken, answerOf, bufferAfter}
 use Rattle.text.specs.declared.ReadAnswer.{ReadAnswer}
 

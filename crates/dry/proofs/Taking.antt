@@ -9,8 +9,8 @@ use lib.Dec.{eqb, leb}
 use lib.ListN.{length, getD, take, drop}
 use Rattle.dry.specs.Runs.{room}
 use Rattle.flow.specs.Examples.{partOne}
-use Rattle.hex.specs.Records.{Record, BadRecord, DataRecord, ExtendedAddress, EndRecord, highFirst, typed, recordOf, ofSpelt, ofBody, lineRecord}
-use Rattle.hex.specs.Texts.{upperAfter, eventOf, events, contentOf, hexReading}
+use Rattle.hex_records.specs.Records.{Record, BadRecord, DataRecord, ExtendedAddress, EndRecord, highFirst, typed, recordOf, ofSpelt, ofBody, lineRecord}
+use Rattle.hex_format.specs.Texts.{upperAfter, eventOf, events, contentOf, hexReading}
 use Rattle.image.specs.Checks.{imageFault}
 use Rattle.sections.specs.Sections.{sectionsOf, headerOf}
 use Rattle.lent.specs.Words.{total}
@@ -19,10 +19,10 @@ use Rattle.sections.specs.declared.Location.the-variants.{InHeader}
 use Rattle.sections.specs.declared.Section.{Section}
 use Rattle.parts.specs.Parts.{lookIn}
 use Rattle.parts.specs.Sizes.{rowsOf, flashSize, lockTotal, imageSize}
-use Rattle.text.proofs.Capitals.{AllBytes, bytes-append, bytes-take, bytes-drop, bytes-spelt}
+use Rattle.pairs.proofs.Capitals.{AllBytes, bytes-append, bytes-take, bytes-drop, bytes-spelt}
 use Rattle.text.proofs.Pieces.{gathered-bytes, image-bytes}
-use Rattle.text.specs.Digits.{Spelt, Unreadable, Spells, spelt}
-use Rattle.text.specs.Lines.{Line, Ended, Open, withoutCR, linesOf}
+use Rattle.pairs.specs.Digits.{Spelt, Unreadable, Spells, spelt}
+use Rattle.pairs.specs.Lines.{Line, Ended, Open, withoutCR, linesOf}
 use Rattle.text.specs.Placing.{Event, Bad, Other, Data, End, Content, Refusal, Stream, prepend, fits, dueAfter, placing, gathered}
 use Rattle.text.specs.Reading.{Reading, Untouched, Cleared, Taken, imageIn, judged}
 

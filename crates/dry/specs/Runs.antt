@@ -10,7 +10,7 @@ use Rattle.dry.specs.declared.Ran.the-variants.{Done, Refused}
 use Rattle.flow.specs.Examples.{partOne}
 use Rattle.flow.specs.Plan.{plan}
 use Rattle.flow.specs.declared.Entry.the-variants.{FromOpen}
-use Rattle.hex.specs.Texts.{hexReading}
+use Rattle.hex_format.specs.Texts.{hexReading}
 use Rattle.io.specs.Digits.{digits, Fewest}
 use Rattle.session.specs.declared.Report.{Report}
 use Rattle.text.specs.Reading.{answerOf}

@@ -15,7 +15,7 @@ fn put(line: &mut [u8], at: usize, bytes: &[u8]) -> usize
     ensures { λ r. ⌜ drop r (now (line .exit)) ≡ drop r (now (line .entry)) ⌝ }
 {
     let n = bytes.len();
-    text::fill(line, at, bytes, 0, n);
+    storing::fill(line, at, bytes, 0, n);
     at + n
 }
 

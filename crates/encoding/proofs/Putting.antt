@@ -19,8 +19,8 @@ use Rattle.layout.proofs.Bytes.{put-in}
 use Rattle.lent.specs.Words.{lowFirst}
 use Rattle.layout.specs.Bytes.{wordPut}
 use Rattle.session.specs.declared.Session.{Session}
-use Rattle.text.proofs.Storing.{stored, part-short, sets-append}
-use Rattle.text.specs.Storing.{storedAt}
+use Rattle.storing.proofs.Storing.{stored, part-short, sets-append}
+use Rattle.storing.specs.Storing.{storedAt}
 
 -- bytes that fit are stored from the start on, and others are not
 pub put-front : (b vs : List ℕ) → length vs ≤ length b → putInto b vs ≡ vs ++ drop (length vs) b

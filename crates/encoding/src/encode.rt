@@ -75,12 +75,12 @@ fn row_of(h: Header) -> [u8; 17]
     )
 }
 
-// Puts a record; `text::fill` leaves bytes that are too few.
+// Puts a record; `storing::fill` leaves bytes that are too few.
 pub fn put_record(bytes: &mut [u8], h: Header)
     ensures put { λ _. ⌜ now (bytes .exit) ≡ putInto (now (bytes .entry)) (recordBytes h) ⌝ }
 {
     let row = row_of(h);
-    text::fill(bytes, 0, &row, 0, 17);
+    storing::fill(bytes, 0, &row, 0, 17);
 }
 
 fn entry_byte(y: Entry) -> u8
@@ -128,7 +128,7 @@ pub fn put_session(bytes: &mut [u8], s: Session)
     if bytes.len() < 45 {
         return;
     }
-    text::fill(bytes, 0, &head, 0, 17);
+    storing::fill(bytes, 0, &head, 0, 17);
     put_singles(bytes, s);
     put_standing(bytes, p.at, c);
     put_word(bytes, 41, s.transfers);

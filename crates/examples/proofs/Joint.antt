@@ -5,12 +5,12 @@ use lib.Dec.{lit<}
 use Rattle.examples.specs.Table.{paperExamples}
 use Rattle.flow.specs.Plan.{plan, lockPlan}
 use Rattle.flow.specs.Sequence.{write, read, call, writes, listed, privileged, programRow}
-use Rattle.hex.specs.Records.{lineRecord, ofBody, ofSpelt, recordOf, typed}
-use Rattle.hex.specs.Texts.{upperAfter}
+use Rattle.hex_records.specs.Records.{lineRecord, ofBody, ofSpelt, recordOf, typed}
+use Rattle.hex_format.specs.Texts.{upperAfter}
 use Rattle.lent.specs.Words.{total, wordAt, wordsAt}
 use Rattle.parts.specs.Sizes.{rowsOf, locksIn}
-use Rattle.text.specs.Digits.{digitOf, spelt, withByte}
-use Rattle.text.specs.Lines.{withoutCR}
+use Rattle.pairs.specs.Digits.{digitOf, spelt, withByte}
+use Rattle.pairs.specs.Lines.{withoutCR}
 use Rattle.wire.proofs.Laws.{parity-word}
 use Rattle.wire.specs.Examples.{Each, none, more}
 

@@ -8,13 +8,13 @@ use Rattle.flow.specs.Plan.{plan}
 use Rattle.flow.specs.Sequence.{privileged, programRow}
 use Rattle.flow.specs.declared.Entry.the-variants.{FromOpen}
 use Rattle.flow.specs.declared.Purpose.the-variants.{Keep}
-use Rattle.hex.specs.HexFormat.{payloadOf}
-use Rattle.hex.specs.Records.{lineRecord}
-use Rattle.hex.specs.Texts.{upperAfter}
+use Rattle.hex_format.specs.HexFormat.{payloadOf}
+use Rattle.hex_records.specs.Records.{lineRecord}
+use Rattle.hex_format.specs.Texts.{upperAfter}
 use Rattle.lent.specs.Words.{total}
 use Rattle.parts.specs.Levels.{isLevel}
 use Rattle.parts.specs.declared.Level.the-variants.{Open}
-use Rattle.text.specs.Lines.{Ended}
+use Rattle.pairs.specs.Lines.{Ended}
 use Rattle.wire.specs.Examples.{Example, _gives_}
 use Rattle.wire.specs.Wire.{parity, requestByte}
 use Rattle.wire.specs.declared.Access.the-variants.{Read, Write}

@@ -3,12 +3,11 @@ use mathlib.Core.List.{List}
 use mathlib.Core.Path.{_≡_}
 use Prim.Native.Nat.{ℕ, _+_, _≤_, _<_}
 use native.Mathlib.Omega.{arith}
-use lib.Dec.{lit<}
 use lib.ListN.{length, getD}
-use Rattle.hex.specs.HexFormat.{hexFormat}
-use Rattle.hex.specs.Steps.{contentAt, TurnAt}
-use Rattle.hex.specs.declared.Turn.{Turn}
-use Rattle.hex.specs.declared.Turn.the-variants.{Stop, Done, Moved, Store}
+use Rattle.hex_format.specs.HexFormat.{hexFormat}
+use Rattle.hex_format.specs.Turns.{contentAt, TurnAt}
+use Rattle.hex_format.specs.declared.Turn.{Turn}
+use Rattle.hex_format.specs.declared.Turn.the-variants.{Stop, Done, Moved, Store}
 use Rattle.sections.specs.Sections.{sectionsOf, noSection}
 use Rattle.sections.specs.declared.Section.{Section}
 use Rattle.parts.specs.declared.Geometry.{Geometry}
@@ -20,12 +19,11 @@ use Rattle.text.specs.declared.Scanned.the-variants.{Bad, Whole}
 
 pub record Here (g : Geometry) (text image₀ header₀ image header : List ℕ) (at upper : ℕ) (due : Due) : Type 0 where
   pub at-le : at ≤ length text
-  pub upper-lt : upper < 65536
   pub there : scans.Here hexFormat text g (contentAt text at upper) image₀ header₀ image header due
 
 module _ (g : Geometry) (text image₀ header₀ : List ℕ) (z : ToFill g image₀ header₀) where
   pub here-start : (s : Section) → s ≡ getD (sectionsOf g) 0 noSection → Here g text image₀ header₀ image₀ header₀ 0 0 (record { section = s; next = 1 })
-  here-start s e = record { at-le = omega arith; upper-lt = lit< tt; there = scans.here-start hexFormat text g image₀ header₀ z s e }
+  here-start s e = record { at-le = omega arith; there = scans.here-start hexFormat text g image₀ header₀ z s e }
 
   module _ {image header : List ℕ} {at upper : ℕ} {due : Due} (h : Here g text image₀ header₀ image header at upper due)
       (t : Turn) (row : List ℕ) (turn : TurnAt text at upper (due .section) t row) where
@@ -39,14 +37,14 @@ module _ (g : Geometry) (text image₀ header₀ : List ℕ) (z : ToFill g image
       pub here-moved : Here g text image₀ header₀ image header next new due
       here-moved =
           let u = rw e at turn in
-          record { at-le = u .2; upper-lt = u .3; there = scans.here-moved hexFormat text g image₀ header₀ z (h .there) (contentAt text next new) (u .0) }
+          record { at-le = u .2; there = scans.here-moved hexFormat text g image₀ header₀ z (h .there) (contentAt text next new) (u .0) }
 
       pub moved-less : (at < next) × (next ≤ length text)
       moved-less = let u = rw e at turn in (u .1, u .2)
 
     module _ (count next : ℕ) (e : t ≡ Store count next) where
-      pub store-bounds : (at < next) × (next ≤ length text) × (1 ≤ count) × (count ≤ 255) × (count ≤ due .section .size)
-      store-bounds = let u = rw e at turn in (u .1, u .2, u .3, u .4, u .5)
+      pub store-bounds : (at < next) × (next ≤ length text) × (1 ≤ count) × (count ≤ 255) × (4 + count ≤ length row) × (count ≤ due .section .size)
+      store-bounds = let u = rw e at turn in (u .1, u .2, u .3, u .4, u .5, u .6)
 
       pub store-asks : (due .section .offset + due .section .size ≤ 131072) × (due .section .address + due .section .size ≤ 4294967296) × (due .next ≤ 5)
           × (count ≤ 255)
@@ -54,19 +52,18 @@ module _ (g : Geometry) (text image₀ header₀ : List ℕ) (z : ToFill g image
       store-asks =
           let b = store-bounds in
           let r = h .there .roomy in
-          (r .end, omega (arith, r .addresses), h .there .next-le (omega (arith, b .2, b .4)), b .3, b .4)
+          (r .end, omega (arith, r .addresses), h .there .next-le (omega (arith, b .2, b .5)), b .3, b .5)
 
-      pub here-store : length row ≡ 260 → (image′ header′ : List ℕ) (due′ : Due) → length image′ ≡ length image → length header′ ≡ length header
+      pub here-store : (image′ header′ : List ℕ) (due′ : Due) → length image′ ≡ length image → length header′ ≡ length header
           → Stored g (due .section) row 4 count image header image′ header′
           → due′ ≡ advancedOf g due count
           → Here g text image₀ header₀ image′ header′ next upper due′
-      here-store wide image′ header′ due′ ki kh is ed =
+      here-store image′ header′ due′ ki kh is ed =
           let u = rw e at turn in
           let b = store-bounds in
           record {
             at-le = b .1;
-            upper-lt = h .upper-lt;
             there =
-                scans.here-store hexFormat text g image₀ header₀ z (h .there) (contentAt text next upper) row 4 count (u .0) (b .2) (b .4)
-                (omega (arith, wide, b .3)) image′ header′ due′ ki kh is ed;
+                scans.here-store hexFormat text g image₀ header₀ z (h .there) (contentAt text next upper) row 4 count (u .0) (b .2) (b .5)
+                (b .4) image′ header′ due′ ki kh is ed;
           }

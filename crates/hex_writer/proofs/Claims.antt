@@ -1,6 +1,6 @@
 -- Intel hex has the laws of writing, so the claims on writing hold of it. Assumes nothing.
-use Rattle.hex.proofs.Claims.{reading-laws}
-use Rattle.hex.specs.HexFormat.{hexFormat}
+use Rattle.hex_format.proofs.Claims.{reading-laws}
+use Rattle.hex_format.specs.HexFormat.{hexFormat}
 use Rattle.hex_writer.proofs.Lengths.{text-length}
 use Rattle.hex_writer.proofs.ReadBack.{text-says}
 use Rattle.text.proofs.Claims as every

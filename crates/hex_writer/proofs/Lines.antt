@@ -6,12 +6,12 @@ use native.Mathlib.Omega.{arith}
 use borrow.Author.Tests.{eq-eqb, ne-eqb}
 use lib.ListN.{length, length-append}
 use lib.Seq.{sets, length-sets}
-use Rattle.hex.specs.Written.{sumByte, lineText, dataLine, extendedLine, newUpper, upperOf, lowOf, linesFrom}
+use Rattle.hex_format.specs.Written.{sumByte, lineText, dataLine, extendedLine, newUpper, upperOf, lowOf, linesFrom}
 use Rattle.hex_writer.specs.Lines.{onePiece, upperPast, positionAfter}
 use Rattle.hex_writer.specs.declared.Position.{Position}
 use Rattle.hex_writer.proofs.Pairs.{length-pairs}
-use Rattle.text.proofs.Storing.{sets-append}
-use Rattle.text.specs.Digits.{pairsOf}
+use Rattle.storing.proofs.Storing.{sets-append}
+use Rattle.pairs.specs.Digits.{pairsOf}
 use Rattle.text.specs.Placing.{Piece}
 
 pub line-length : (bs : List ℕ) → length (lineText bs) ≡ 5 + 2 * length bs

@@ -7,10 +7,10 @@ use native.Mathlib.Nat.{add-zero}
 use lib.ListN.{length, getD, set, drop, length-set, drop-of-length-le}
 use lib.Seq.{sets, drop-cons}
 use Rattle.hex_writer.specs.Lines.{capitalsFrom}
-use Rattle.hex.specs.Written.{sumByte, lineText}
+use Rattle.hex_format.specs.Written.{sumByte, lineText}
 use Rattle.lent.specs.Words.{total}
-use Rattle.text.proofs.Storing.{sets-append}
-use Rattle.text.specs.Digits.{capital, pairsOf}
+use Rattle.storing.proofs.Storing.{sets-append}
+use Rattle.pairs.specs.Digits.{capital, pairsOf}
 
 -- the table's entry is the capital
 pub capitals-at : (n i k : ℕ) → k < n → getD (capitalsFrom i n) k 0 ≡ capital (i + k)

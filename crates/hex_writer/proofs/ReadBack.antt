@@ -8,18 +8,18 @@ use borrow.Author.Tests.{eq-eqb, le-leb, eqb-true, eqb-false}
 use lib.Dec.{eqb}
 use lib.ListN.{length, length-append}
 use lib.Seq.{take-at}
-use Rattle.hex.specs.Records.{Record, DataRecord, ExtendedAddress, typed, recordOf, ofSpelt, ofBody, lineRecord}
-use Rattle.hex.specs.Texts.{upperAfter, eventOf, events}
-use Rattle.hex.specs.Written.{sumByte, lineText, dataLine, extendedLine, endLine, newUpper, upperOf, lowOf, linesFrom, writtenText}
+use Rattle.hex_records.specs.Records.{Record, DataRecord, ExtendedAddress, typed, recordOf, ofSpelt, ofBody, lineRecord}
+use Rattle.hex_format.specs.Texts.{upperAfter, eventOf, events}
+use Rattle.hex_format.specs.Written.{sumByte, lineText, dataLine, extendedLine, endLine, newUpper, upperOf, lowOf, linesFrom, writtenText}
 use Rattle.hex_writer.proofs.Pairs.{total-append}
 use Rattle.hex_writer.proofs.Lines.{upper-same, upper-new}
 use Rattle.lent.specs.Words.{total}
-use Rattle.text.proofs.Capitals.{AllBytes, bytes-append, pairs-digits, spelt-pairs}
+use Rattle.pairs.proofs.Capitals.{AllBytes, bytes-append, pairs-digits, spelt-pairs}
 use Rattle.text.proofs.Formats.{FitsRecord, AllFitRecords}
-use Rattle.text.proofs.Lines.{lines-cut, digits-no-lf, no-lf-append, cr-bare}
+use Rattle.pairs.proofs.Lines.{lines-cut, digits-no-lf, no-lf-append, cr-bare}
 use Rattle.text.proofs.Pieces.{Says}
-use Rattle.text.specs.Digits.{pairsOf, digitOf, spelt, withByte}
-use Rattle.text.specs.Lines.{Ended, linesOf, onto, withoutCR}
+use Rattle.pairs.specs.Digits.{pairsOf, digitOf, spelt, withByte}
+use Rattle.pairs.specs.Lines.{Ended, linesOf, onto, withoutCR}
 use Rattle.text.specs.Placing.{Other, Data, End, Piece}
 
 abbrev withSum : List ℕ → List ℕ

@@ -8,7 +8,7 @@ use borrow.Author.Tests.{leb-true, leb-false}
 use lib.Dec.{leb}
 use lib.ListN.{length, take, drop, length-drop, length-take, drop-of-length-le}
 use lib.Seq.{sets, take-all, drop-drop}
-use Rattle.hex.specs.Written.{linesFrom}
+use Rattle.hex_format.specs.Written.{linesFrom}
 use Rattle.hex_writer.specs.Lines.{onePiece, positionAfter}
 use Rattle.text.specs.Sized.{Laid, piecesOf}
 use Rattle.hex_writer.specs.declared.Position.{Position}
@@ -19,7 +19,7 @@ use Rattle.sections.specs.declared.Location.the-variants.{InFlash, InProtection
 use Rattle.sections.specs.declared.Section.{Section}
 use Rattle.parts.specs.Sizes.{flashSize}
 use Rattle.parts.specs.declared.Geometry.{Geometry}
-use Rattle.text.proofs.Storing.{tail-part}
+use Rattle.storing.proofs.Storing.{tail-part}
 use Rattle.text.specs.Placing.{Piece, cut, piecesIn}
 
 -- some pieces were put, from a position on

@@ -5,7 +5,7 @@ use Prim.Native.Nat.{ℕ, suc, _+_, _*_, _≤_, _<_}
 use native.Mathlib.Omega.{arith}
 use lib.ListN.{length, getD, drop, length-append, drop-of-length-le}
 use lib.Seq.{sets, drop-cons}
-use Rattle.hex.specs.Written.{extendedLine, endLine, linesFrom, writtenText, textOf, uppersIn, writtenLength, textLength}
+use Rattle.hex_format.specs.Written.{extendedLine, endLine, linesFrom, writtenText, textOf, uppersIn, writtenLength, textLength}
 use Rattle.hex_writer.specs.Lines.{positionAfter}
 use Rattle.hex_writer.specs.declared.Position.{Position}
 use Rattle.hex_writer.proofs.Lines as lines
@@ -15,7 +15,7 @@ use Rattle.sections.specs.declared.Section.{Section}
 use Rattle.parts.specs.Sizes.{flashSize, imageSize}
 use Rattle.parts.specs.declared.Geometry.{Geometry}
 use Rattle.text.proofs.Laid.{roomy-at, laid-at}
-use Rattle.text.proofs.Storing.{sets-append}
+use Rattle.storing.proofs.Storing.{sets-append}
 use Rattle.text.specs.Placing.{Piece, cut, piecesIn, pieces, overall}
 use Rattle.text.specs.Sized.{TableSizes, Sized, Laid}
 

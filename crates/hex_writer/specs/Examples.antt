@@ -1,7 +1,7 @@
 -- Lines of document 01 and READINGS 34, as they are written.
 use mathlib.Core.List.{[], _∷_}
 use mathlib.Core.Path.{_≡_}
-use Rattle.hex.specs.Written.{lineText, extendedLine, endLine}
+use Rattle.hex_format.specs.Written.{lineText, extendedLine, endLine}
 
 pub record LineExamples : Type 0 where
   -- 'the last record is :00000001FF exactly': the fixed string is the line of an end record

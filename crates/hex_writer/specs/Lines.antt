@@ -2,9 +2,9 @@
 use mathlib.Core.List.{List, [], _∷_}
 use Prim.Native.Nat.{ℕ, zero, suc, _+_}
 use lib.ListN.{length}
-use Rattle.hex.specs.Written.{linesFrom, upperOf}
+use Rattle.hex_format.specs.Written.{linesFrom, upperOf}
 use Rattle.hex_writer.specs.declared.Position.{Position}
-use Rattle.text.specs.Digits.{capital}
+use Rattle.pairs.specs.Digits.{capital}
 use Rattle.text.specs.Placing.{Piece}
 
 -- the capitals of the n numbers from i on

@@ -1,7 +1,7 @@
 -- What writing an Intel hex text gives: text's specs/Writing.antt, for this format. Assumes nothing.
 use mathlib.Core.List.{List}
 use Prim.Native.Nat.{ℕ}
-use Rattle.hex.specs.HexFormat.{hexFormat}
+use Rattle.hex_format.specs.HexFormat.{hexFormat}
 use Rattle.image.specs.declared.Header.{Header}
 use Rattle.text.specs.Writing.{Writing, writingIn, writeIn, textAfterIn}
 use Rattle.text.specs.declared.WriteAnswer.{WriteAnswer}

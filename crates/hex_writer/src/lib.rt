@@ -5,8 +5,8 @@ ghost use Prim.Native.Nat.{min, _+_, _-_, _*_, _/_, _%_, _≤_, _<_};
 ghost use lib.ListN.{length};
 ghost use lib.Seq.{sets};
 ghost use Rattle.lent.specs.Words.{total};
-ghost use Rattle.text.specs.Digits.{capital as capitalOf, pairsOf};
-ghost use Rattle.hex.specs.Written.{lineText, dataLine, extendedLine, endLine, newUpper, linesFrom, textOf, textLength};
+ghost use Rattle.pairs.specs.Digits.{capital as capitalOf, pairsOf};
+ghost use Rattle.hex_format.specs.Written.{lineText, dataLine, extendedLine, endLine, newUpper, linesFrom, textOf, textLength};
 ghost use Rattle.hex_writer.specs.Lines.{capitalsFrom, onePiece, positionAfter};
 ghost use Rattle.hex_writer.specs.Writing.{writeOf, textAfter};
 ghost use Rattle.sections.specs.Sections.{sectionsOf, headerBytes, locationBytes, sectionBytes};
@@ -223,7 +223,7 @@ fn put_end(text: &mut [u8], at: usize)
     requires { ⌜ at + 13 ≤ length (now text) ⌝ }
     ensures { λ _. ⌜ now (text .exit) ≡ sets (now (text .entry)) at endLine ⌝ }
 {
-    text::fill(text, at, b":00000001FF\r\n", 0, 13);
+    storing::fill(text, at, b":00000001FF\r\n", 0, 13);
 }
 
 // The length of a section's lines.

@@ -14,7 +14,7 @@ use Rattle.parts.specs.Parts.{lookupOf}
 use Rattle.parts.specs.Sizes.{imageSize}
 use Rattle.parts.specs.declared.Geometry.{Geometry}
 use Rattle.parts.specs.declared.Lookup.the-variants.{Found}
-use Rattle.text.proofs.Capitals.{AllBytes, all-bytes, bytes-take, bytes-drop}
+use Rattle.pairs.proofs.Capitals.{AllBytes, all-bytes, bytes-take, bytes-drop}
 use Rattle.text.proofs.Formats.{ReadingLaws, WritingLaws}
 use Rattle.text.proofs.Pieces.{gathered-bytes, image-bytes}
 use Rattle.text.proofs.Placing.{placing-length, placing-followed, image-length, header-length}

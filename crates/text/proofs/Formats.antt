@@ -9,7 +9,7 @@ use lib.ListN.{length, drop, length-take, length-drop}
 use Rattle.image.specs.declared.Header.{Header}
 use Rattle.sections.specs.declared.Section.{Section}
 use Rattle.parts.specs.declared.Geometry.{Geometry}
-use Rattle.text.proofs.Capitals.{AllBytes, bytes-take, bytes-drop}
+use Rattle.pairs.proofs.Capitals.{AllBytes, bytes-take, bytes-drop}
 use Rattle.text.proofs.Pieces.{Says, Filled}
 use Rattle.text.specs.Formats.{Format, contentIn, textIn, lengthIn}
 use Rattle.text.specs.Placing.{Event, Stream, Piece, cut, piecesIn, pieces}

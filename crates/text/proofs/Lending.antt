@@ -12,9 +12,9 @@ use Rattle.sections.specs.declared.Location.the-variants.{InFlash, InProtection
 use Rattle.sections.specs.declared.Section.{Section}
 use Rattle.parts.specs.Sizes.{flashSize}
 use Rattle.parts.specs.declared.Geometry.{Geometry}
-use Rattle.text.proofs.Storing.{stored-length, tail-part, put-tail}
+use Rattle.storing.proofs.Storing.{stored-length, tail-part, put-tail}
 use Rattle.text.specs.Scanning.{filledIn}
-use Rattle.text.specs.Storing.{storedAt}
+use Rattle.storing.specs.Storing.{storedAt}
 
 -- what storing payload leaves of the parts, as the contract has it, and of every location
 module _ (g : Geometry) (due : Section) (row : List ℕ) (from count : ℕ) (image header image′ header′ : List ℕ) where

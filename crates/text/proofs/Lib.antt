@@ -1,12 +1,6 @@
-pub mod Spelling
-pub mod Ends
-pub mod Storing
-pub mod Lines
-pub mod Positions
 pub mod Settling
 pub mod Placing
 pub mod Pieces
-pub mod Capitals
 pub mod Entries
 pub mod Laid
 pub mod Lending

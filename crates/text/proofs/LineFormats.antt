@@ -6,11 +6,11 @@ use mathlib.Core.Path.{_≡_, sym, ap, _∙_, subst}
 use Prim.Native.Nat.{ℕ}
 use lib.ListN.{length}
 use Rattle.sections.specs.declared.Section.{Section}
-use Rattle.text.proofs.Capitals.{AllBytes, bytes-append}
-use Rattle.text.proofs.Lines.{AllEnded, lines-append, some-line}
+use Rattle.pairs.proofs.Capitals.{AllBytes, bytes-append}
+use Rattle.pairs.proofs.Lines.{AllEnded, lines-append, some-line}
 use Rattle.text.proofs.Pieces.{dataOf, placing-data}
 use Rattle.text.proofs.Placing.{prepend-stream, no-content}
-use Rattle.text.specs.Lines.{Line, Ended, Open, linesOf}
+use Rattle.pairs.specs.Lines.{Line, Ended, Open, linesOf}
 use Rattle.text.specs.Placing.{Event, Bad, Other, Data, End, Refusal, Stream, prepend, fits, dueAfter, placing}
 
 -- ---- a text that is taken has no refused record

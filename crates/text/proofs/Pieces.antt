@@ -14,7 +14,7 @@ use Rattle.sections.specs.declared.Section.{Section}
 use Rattle.parts.specs.declared.Geometry.{Geometry}
 use Rattle.text.specs.Placing.{Event, Bad, Other, Data, End, Content, Refusal, Stream, prepend, restOf, fits, dueAfter, placing, sameLocation, gathered, Piece, cut, piecesIn, pieces}
 use Rattle.text.specs.Reading.{imageIn}
-use Rattle.text.proofs.Capitals.{AllBytes, bytes-append, bytes-take, bytes-drop}
+use Rattle.pairs.proofs.Capitals.{AllBytes, bytes-append, bytes-take, bytes-drop}
 use Rattle.text.proofs.Placing.{no-content, prepend-stream, prepend-append}
 
 -- the records of a text say just these pieces, then end

@@ -18,8 +18,8 @@ use Rattle.parts.specs.Sizes.{flashSize, lockTotal, imageSize}
 use Rattle.parts.specs.declared.Geometry.{Geometry}
 use Rattle.text.specs.Placing.{Event, Bad, Other, Data, End, Content, Refusal, Stream, prepend, restOf, dueAfter, placing, sameLocation, gathered, overall}
 use Rattle.text.specs.Reading.{imageIn}
-use Rattle.text.specs.Storing.{storedAt}
-use Rattle.text.proofs.Storing.{sets-past, sets-append, stored}
+use Rattle.storing.specs.Storing.{storedAt}
+use Rattle.storing.proofs.Storing.{sets-past, sets-append, stored}
 
 -- Taken: each byte of each section once.
 

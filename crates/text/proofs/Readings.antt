@@ -23,7 +23,8 @@ use Rattle.text.specs.Formats.{Format, contentIn, readingIn}
 use Rattle.text.specs.Placing.{Content, Refusal, Stream, gathered}
 use Rattle.text.specs.Reading.{Reading, Untouched, Cleared, Taken, checked, imageIn, judged, answerOf, bufferAfter}
 use Rattle.text.specs.Scanning.{Filled, ScannedAs}
-use Rattle.text.specs.Storing.{cleared, settled}
+use Rattle.storing.specs.Storing.{cleared}
+use Rattle.text.specs.Settling.{settled}
 use Rattle.text.specs.declared.ReadAnswer.{ReadAnswer}
 use Rattle.text.specs.declared.Scanned.{Scanned}
 use Rattle.text.specs.declared.Scanned.the-variants.{Bad, Whole}

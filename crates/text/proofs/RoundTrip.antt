@@ -20,7 +20,7 @@ use Rattle.parts.specs.Sizes.{flashSize, lockTotal, imageSize}
 use Rattle.parts.specs.declared.Geometry.{Geometry}
 use Rattle.parts.specs.declared.Lookup.{Lookup}
 use Rattle.parts.specs.declared.Lookup.the-variants.{Found}
-use Rattle.text.proofs.Capitals.{AllBytes, bytes-all, bytes-append, bytes-take, bytes-drop}
+use Rattle.pairs.proofs.Capitals.{AllBytes, bytes-all, bytes-append, bytes-take, bytes-drop}
 use Rattle.text.proofs.Formats.{WritingLaws, Aligned, pieces-fit}
 use Rattle.text.proofs.Laid.{all-filled, header-size, room-at}
 use Rattle.text.proofs.Pieces.{Filled, joined, placed, gathered-joined}

@@ -11,7 +11,8 @@ use Rattle.image.specs.Image.{noHeader}
 use Rattle.sections.specs.Sections.{headerOf}
 use Rattle.image.specs.declared.Header.{Header}
 use Rattle.text.specs.Reading.{Taken, Cleared, answerOf, bufferAfter}
-use Rattle.text.specs.Storing.{cleared, settled}
+use Rattle.storing.specs.Storing.{cleared}
+use Rattle.text.specs.Settling.{settled}
 
 module _ (part macros : ℕ) (header image : List ℕ) where
   taken : imageFault (headerOf part macros header) image ≡ 0 → settled part macros header image ≡ Taken (headerOf part macros header) image

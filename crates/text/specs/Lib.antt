@@ -1,11 +1,8 @@
-pub mod Digits
-pub mod Lines
 pub mod Placing
 pub mod Reading
 pub mod Formats
 pub mod Writing
 pub mod Claims
 pub mod Sized
-pub mod Spelling
-pub mod Storing
+pub mod Settling
 pub mod Scanning

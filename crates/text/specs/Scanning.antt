@@ -13,7 +13,7 @@ use Rattle.parts.specs.declared.Geometry.{Geometry}
 use Rattle.text.specs.Formats.{Format, contentIn}
 use Rattle.text.specs.Placing.{Refusal, Stream, restOf, sameLocation, gathered}
 use Rattle.text.specs.Sized.{TableSizes}
-use Rattle.text.specs.Storing.{storedAt}
+use Rattle.storing.specs.Storing.{storedAt}
 use Rattle.text.specs.declared.Due.{Due}
 use Rattle.text.specs.declared.Scanned.{Scanned}
 use Rattle.text.specs.declared.Scanned.the-variants.{Bad, Whole}

@@ -2,7 +2,7 @@
 use native.Mathlib.Omega.{arith}
 use mathlib.Core.Path.{sym, _∙_}
 use lib.Seq.{length-take-le}
-use Rattle.hex.specs.HexFormat.{hexFormat}
+use Rattle.hex_format.specs.HexFormat.{hexFormat}
 use Rattle.text.proofs.Readings.{no-part, no-room, in-room}
 use borrow.Author.Needs.{needs}
 use Rattle.hex.proofs.read.Statement.{statement}

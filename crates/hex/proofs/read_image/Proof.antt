@@ -1,6 +1,6 @@
 -- Refused and zeroed, or settled. Assumes nothing.
 use mathlib.Core.Path.{refl}
-use Rattle.hex.specs.HexFormat.{hexFormat}
+use Rattle.hex_format.specs.HexFormat.{hexFormat}
 use Rattle.text.proofs.Readings.{refused, whole}
 use Rattle.text.proofs.Entries.{sized}
 use borrow.Author.Needs.{needs}

@@ -6,7 +6,7 @@ use borrow.Author.Needs.{needs}
 use lib.ListN.{getD}
 use Prim.Native.Nat.{ℕ}
 use Rattle.hex_writer.proofs.Pairs.{capitals-at}
-use Rattle.text.specs.Digits.{capital as capitalOf}
+use Rattle.pairs.specs.Digits.{capital as capitalOf}
 use Rattle.hex_writer.proofs.capital.Statement.{statement}
 use Rattle.hex_writer.proofs.capital.Tie as tie
 

@@ -2,7 +2,7 @@
 use mathlib.Core.Path.{sym, _∙_}
 use native.Mathlib.Omega.{arith}
 use borrow.Author.Needs.{needs}
-use Rattle.text.proofs.Storing.{stored}
+use Rattle.storing.proofs.Storing.{stored}
 use Rattle.hex_writer.proofs.put_end.Statement.{statement}
 use Rattle.hex_writer.proofs.put_end.Tie as tie
 

@@ -4,7 +4,7 @@ use Prim.Native.Nat.{_-_}
 use native.Mathlib.Omega.{arith}
 use lib.ListN.{length, length-set}
 use Rattle.hex_writer.specs.Lines.{capitalsFrom}
-use Rattle.text.specs.Digits.{capital as capitalOf}
+use Rattle.pairs.specs.Digits.{capital as capitalOf}
 use Rattle.hex_writer.proofs.Pairs.{Putting, start, turn, ended}
 use Rattle.hex_writer.proofs.put_pairs.Statement.{statement}
 use Rattle.hex_writer.proofs.put_pairs.Tie as tie

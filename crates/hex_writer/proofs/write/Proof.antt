@@ -1,7 +1,7 @@
 -- The look-up decides. Assumes nothing.
 use mathlib.Core.Path.{sym, _∙_}
 use borrow.Author.Needs.{needs}
-use Rattle.hex.specs.HexFormat.{hexFormat}
+use Rattle.hex_format.specs.HexFormat.{hexFormat}
 use Rattle.text.proofs.Answers.{unknown}
 use Rattle.hex_writer.proofs.write.Statement.{statement}
 use Rattle.hex_writer.proofs.write.Tie as tie

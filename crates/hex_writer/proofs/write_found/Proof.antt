@@ -3,7 +3,7 @@ use mathlib.Core.Path.{sym, _∙_}
 use Prim.Native.Nat.{ℕ}
 use native.Mathlib.Omega.{arith}
 use borrow.Author.Needs.{needs, length-unmapped}
-use Rattle.hex.specs.HexFormat.{hexFormat}
+use Rattle.hex_format.specs.HexFormat.{hexFormat}
 use Rattle.hex_writer.proofs.Lengths.{text-length}
 use Rattle.text.proofs.Answers.{wrong-size, no-room, faulty, done}
 use Rattle.text.proofs.Entries.{sized}

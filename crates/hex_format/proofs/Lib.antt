@@ -1,0 +1,5 @@
+pub mod Examples
+pub mod Types
+pub mod Turns
+pub mod Data
+pub mod Claims

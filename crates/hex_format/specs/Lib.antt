@@ -1,0 +1,5 @@
+pub mod Texts
+pub mod Written
+pub mod HexFormat
+pub mod Examples
+pub mod Turns

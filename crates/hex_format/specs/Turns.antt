@@ -1,0 +1,40 @@
+-- What the reader's private functions give, at a position of the text; `read`'s own contract needs none of it. Assumes nothing.
+use mathlib.Core.Bool.{_&&_, cond}
+use mathlib.Core.List.{List, [], _∷_}
+use mathlib.Core.Path.{_≡_}
+use Prim.Native.Nat.{ℕ, _+_, _*_, _≤_, _<_}
+use lib.Dec.{eqb, leb}
+use lib.ListN.{length, take, drop}
+use Rattle.hex_format.specs.Texts.{events}
+use Rattle.hex_format.specs.declared.Turn.{Turn}
+use Rattle.hex_format.specs.declared.Turn.the-variants.{Stop, Done, Moved, Store}
+use Rattle.pairs.specs.Lines.{linesOf}
+use Rattle.sections.specs.declared.Section.{Section}
+use Rattle.text.specs.Placing.{Content, Refusal, Stream, placing, prepend, dueAfter}
+use Rattle.text.specs.Scanning.{dues}
+
+-- what the lines from a position on come to
+abbrev pub contentAt : (text : List ℕ) (at upper : ℕ) (due : List Section) → Content
+contentAt text at upper due = placing due (events upper (linesOf (drop at text)))
+
+unfoldable pub dataTurn : Section → (upper low count next : ℕ) → Turn
+dataTurn due upper low count next =
+    cond (leb (low + count) 65536 && (eqb (65536 * upper + low) (due .address) && leb count (due .size))) (Store count next) (Stop 4)
+
+unfoldable pub endTurn : Section → (next len : ℕ) → Turn
+endTurn due next len = cond (eqb (due .size) 0 && eqb next len) Done (Stop 5)
+
+-- what a turn does to the content, whatever sections follow the one that is due
+abbrev pub TurnAt : (text : List ℕ) (at upper : ℕ) → Section → Turn → (row : List ℕ) → Type 0
+TurnAt text at upper due (Stop n) row = (ss : List Section) → contentAt text at upper (dues due ss) ≡ Refusal n
+TurnAt text at upper due Done row = ((ss : List Section) → contentAt text at upper (dues due ss) ≡ Stream []) × (due .size ≡ 0)
+TurnAt text at upper due (Moved next new) row =
+    ((ss : List Section) → contentAt text at upper ss ≡ contentAt text next new ss) × (at < next) × (next ≤ length text)
+TurnAt text at upper due (Store count next) row =
+    ((ss : List Section) → contentAt text at upper (due ∷ ss) ≡ prepend (take count (drop 4 row)) (contentAt text next upper (dueAfter count due ss)))
+    × (at < next)
+    × (next ≤ length text)
+    × (1 ≤ count)
+    × (count ≤ 255)
+    × (4 + count ≤ length row)
+    × (count ≤ due .size)

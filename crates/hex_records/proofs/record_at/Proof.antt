@@ -1,0 +1,37 @@
+-- The end of the text; else the frame, the sum, then the type. Assumes nothing.
+use native.Mathlib.Omega.{arith}
+use Rattle.hex_records.proofs.Bodies.{frame-broken, frame-sum, frame-found}
+use borrow.Author.Needs.{needs}
+use Rattle.hex_records.proofs.record_at.Statement.{statement}
+use Rattle.hex_records.proofs.record_at.Tie as tie
+
+returns-2 : tie.Need-returns-2
+returns-2 c =
+    let f = c .before .before .before .before in
+    let a = f .before .before .before .before .args in
+    frame-sum (a .text .now) (a .at) _ _ (f .frame-at .ensures) _ _ _ (c .before .before .frame .given .1) (omega arith) (c .if2 .taken)
+
+returns-3 : tie.Need-returns-3
+returns-3 c =
+    let f = c .before .before in
+    let a = f .before .before .before .before .args in
+    frame-broken (a .text .now) (a .at) _ _ (f .frame-at .ensures) (c .enum-told .given .1)
+
+returns-4 : tie.Need-returns-4
+returns-4 c =
+    let f = c .before .before .before .before .before .before .before in
+    let a = f .before .before .before .before .args in
+    frame-found (a .text .now) (a .at) _ _ (f .frame-at .ensures) _ _ _ (c .before .before .before .before .before .frame .given .1) (omega arith) _ (c .typed-in .ensures) (c .before .before .before .if2 .left)
+
+pub record-at-spec : {M : Type 1} → statement M
+record-at-spec =
+    tie.close
+    (tie.spec
+    (λ c. c .if1 .taken)
+    (λ c κs. search needs)
+    (λ c. search needs)
+    (λ c. search needs)
+    returns-2
+    (λ c κs. search needs)
+    returns-3
+    returns-4)

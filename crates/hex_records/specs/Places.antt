@@ -1,0 +1,59 @@
+-- The line at a position of the text, as the reader finds it; `read`'s own contract needs none of it. Assumes nothing.
+use mathlib.Core.Bool.{_&&_, cond}
+use mathlib.Core.List.{List, _∷_}
+use mathlib.Core.Path.{_≡_}
+use Prim.Native.Nat.{ℕ, _+_, _*_, _≤_, _<_}
+use lib.Dec.{eqb, leb}
+use lib.ListN.{length, getD, take, drop}
+use Rattle.hex_records.specs.Records.{Record, BadRecord, DataRecord, ExtendedAddress, EndRecord, lineRecord, recordOf}
+use Rattle.hex_records.specs.declared.Found.{Found}
+use Rattle.hex_records.specs.declared.Found.the-variants.{Missing, Refused, Payload, Extended, Ended}
+use Rattle.hex_records.specs.declared.Frame.{Frame}
+use Rattle.hex_records.specs.declared.Frame.the-variants.{Broken, Framed}
+use Rattle.lent.specs.Words.{total}
+use Rattle.pairs.specs.Lines.{Line, linesOf}
+
+-- the first line at a position is such a record
+pub record LineAt (text : List ℕ) (at : ℕ) (r : Record) : Type 0 where
+  pub line : Line
+  pub rest : List Line
+  pub is : linesOf (drop at text) ≡ line ∷ rest
+  pub says : lineRecord line ≡ r
+
+-- and the next line begins at `next`
+pub record LineTo (text : List ℕ) (at next : ℕ) (r : Record) : Type 0 where
+  pub line : Line
+  pub is : linesOf (drop at text) ≡ line ∷ linesOf (drop next text)
+  pub says : lineRecord line ≡ r
+  pub more : at < next
+  pub inside : next ≤ length text
+
+-- a line's bytes are in the row: the count, and four and as many as it says
+pub record Spelled (row : List ℕ) (count sum : ℕ) : Type 0 where
+  pub small : count ≤ 255
+  pub counts : getD row 0 0 ≡ count
+  pub sums : total (take (count + 5) row) ≡ sum
+
+abbrev pub FrameAt : (text : List ℕ) (at : ℕ) → Frame → (row : List ℕ) → Type 0
+FrameAt text at Broken row = LineAt text at (BadRecord 1)
+FrameAt text at (Framed count sum next) row = LineTo text at next (recordOf (take (count + 5) row)) × Spelled row count sum
+
+-- a record by its type, size and address
+unfoldable pub foundOf : (kind low count upper : ℕ) → Found
+foundOf kind low count upper =
+    cond (eqb kind 0) (cond (leb 1 count) (Payload low count) (Refused 3))
+    (cond (eqb kind 4) (cond (eqb count 2 && eqb low 0) (Extended upper) (Refused 3))
+    (cond (eqb kind 1) (cond (eqb count 0 && eqb low 0) Ended (Refused 3))
+    (Refused 3)))
+
+abbrev pub foundIn : (row : List ℕ) (count : ℕ) → Found
+foundIn row count = foundOf (getD row 3 0) (256 * getD row 1 0 + getD row 2 0) count (256 * getD row 4 0 + getD row 5 0)
+
+-- what is found at a position: no line, or its record
+abbrev pub FoundAt : (text : List ℕ) (at next : ℕ) → Found → (row : List ℕ) → Type 0
+FoundAt text at next Missing row = length text ≤ at
+FoundAt text at next (Refused n) row = LineAt text at (BadRecord n)
+FoundAt text at next (Payload low count) row =
+    LineTo text at next (DataRecord low (take count (drop 4 row))) × (1 ≤ count) × (count ≤ 255) × (4 + count ≤ length row)
+FoundAt text at next (Extended upper) row = LineTo text at next (ExtendedAddress upper)
+FoundAt text at next Ended row = LineTo text at next EndRecord

@@ -1,0 +1,5 @@
+pub mod Spelling
+pub mod Ends
+pub mod Lines
+pub mod Positions
+pub mod Capitals
