@@ -7,9 +7,6 @@ ghost use Rattle.flow.specs.Packets.{isAttempt, isRead, heard, replyIn};
 ghost use Rattle.flow.specs.Session.{tryAgain, waitAgain, settled, heardBy, nextOf};
 ghost use Rattle.image.specs.Image.{imageOf};
 ghost use Rattle.wire.specs.Wire.{ackOf};
-
-mod word;
-
 use flow::Answer;
 use flow::Counters;
 use flow::Move;
@@ -19,8 +16,8 @@ use flow::Request;
 use flow::Way;
 use image::Header;
 use parts::Geometry;
+use purposes::on_word;
 use wire::Ack;
-use word::on_word;
 
 // Another attempt, at most thirty.
 fn try_again(c: Counters) -> Next

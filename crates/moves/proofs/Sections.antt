@@ -6,17 +6,21 @@ use native.Mathlib.Nat.{mul-le-mul, mul-le-mul-right, mod-lt, div-lt-iff-lt-mul}
 use native.Mathlib.Omega.{arith}
 use lib.ListN.{length, getD, take, drop}
 use Rattle.flow.specs.Sequence.{key, read, call, listed, inTurn, latchList, programRow, compareWord, compareWords, verifyRow, lockMacro, verifyMacro, macroDown, lockAndVerify, endMove}
+use Rattle.flow.specs.declared.Move.{Move}
 use Rattle.flow.specs.declared.Purpose.{Purpose}
 use Rattle.flow.specs.declared.Purpose.the-variants.{FlashWord, LockWord}
 use Rattle.image.specs.Image.{Image, imageOf}
 use Rattle.image.specs.declared.Header.{Header}
-use Rattle.moves.proofs.Counts.{length-row, length-lock, length-alike, length-compared}
-use Rattle.moves.proofs.Joined.{at-first, at-second, at-piece, div-low, part-ends}
-use Rattle.moves.proofs.Steps.{length-read}
-use Rattle.moves.proofs.Words.{front-latch, back-latch}
+use Rattle.move_counts.proofs.Counts.{length-row, length-lock, length-alike, length-compared}
+use Rattle.call_moves.proofs.Joined.{at-first, at-second, at-piece, div-low, part-ends}
+use Rattle.call_moves.proofs.Lengths.{length-read}
+use Rattle.call_moves.specs.MoveAt.{inReach}
+use Rattle.latch_moves.proofs.Guards.{unguarded}
+use Rattle.latch_moves.proofs.Words.{part-length, front-latch, back-latch}
+use Rattle.latch_moves.specs.Latched.{upTo1024}
 use Rattle.moves.specs.Handled.{Handled}
 use Rattle.parts.proofs.Locks.{locks-most, locks-some, locks-alike, locks-end}
-use Rattle.parts.specs.Sizes.{rowBytes, macrosOf, rowsPerMacro, rowsOf, flashSize, locksIn, lockStart, lockTotal, imageSize, locksAt}
+use Rattle.parts.specs.Sizes.{rowBytes, macrosOf, rowsPerMacro, rowsOf, flashSize, locksIn, lockStart, lockTotal, imageSize, locksAt, sysreqOf}
 use Rattle.parts.specs.declared.Geometry.{Geometry}
 
 -- ---- sizes
@@ -85,6 +89,13 @@ lock-place g ok bytes exact m l =
       most = omega (arith, ok .macroHigh, locks-most g m);
     }
 
+-- what is sent of a row in step 5, of a macro's locks in step 7
+abbrev rowSent : Geometry → (row : ℕ) → List ℕ → List Move
+rowSent g r bs = listed g 5 4 (latchList (r / rowsPerMacro g) (length bs) bs 0) ++ listed g 5 6 ((key 6 + r * 0x10000) ∷ [])
+
+abbrev locksSent : Geometry → (m level : ℕ) → List ℕ → List Move
+locksSent g m level bs = listed g 7 4 (latchList m (length bs) bs 0) ++ call g 7 0x0D (key 0x0D + level * 0x10000 + m * 0x1000000)
+
 -- ---- step 5
 
 module _ (g : Geometry) (ok : Handled g) (h : Header) (bytes : List ℕ) (exact : length bytes ≡ imageSize g) where
@@ -103,11 +114,12 @@ module _ (g : Geometry) (ok : Handled g) (h : Header) (bytes : List ℕ) (exact 
     row-place = row-found g ok bytes exact (j / b) row-low
 
     pub rows-at : (bs : List ℕ) → bs ≡ take (j / b * rowBytes g + rowBytes g - j / b * rowBytes g) (drop (j / b * rowBytes g) bytes)
-        → getD (listed g 5 4 (latchList (j / b / rowsPerMacro g) (length bs) bs 0) ++ listed g 5 6 ((key 6 + j / b * 0x10000) ∷ [])) (j % b) endMove
-        ≡ getD (inTurn (programRow i) 0 (rowsOf g)) j endMove
+        → {t : Move} → t ≡ upTo1024 bs (inReach (sysreqOf g) (getD (rowSent g (j / b) bs) (j % b) endMove)) → t ≡ getD (inTurn (programRow i) 0 (rowsOf g)) j endMove
     unfolding programRow
-    rows-at bs is =
-        rw (front-latch bytes bs (j / b * rowBytes g) (rowBytes g) is (row-place .end) (flashSize g) (j / b / rowsPerMacro g) row-fits)
+    rows-at bs is has =
+        let n = part-length bytes bs (j / b * rowBytes g) (rowBytes g) is (row-place .end) in
+        unguarded (sysreqOf g) bs (getD (rowSent g (j / b) bs) (j % b) endMove) (omega (arith, n, ok .rowHigh)) (ok .sysreq) has
+        ∙ rw (front-latch bytes bs (j / b * rowBytes g) (rowBytes g) is (row-place .end) (flashSize g) (j / b / rowsPerMacro g) row-fits)
         (sym (at-piece (programRow i) b (λ r. length-row i r ∙ sym e) endMove (rowsOf g) j (omega arith) (rw e low)))
 
   -- ---- steps 7 and 8 of a macro
@@ -116,12 +128,14 @@ module _ (g : Geometry) (ok : Handled g) (h : Header) (bytes : List ℕ) (exact 
     pub lock-at : (start size : ℕ) → start ≡ flashSize g + lockStart g m → size ≡ locksIn g m → m < macrosOf g → (bs : List ℕ)
         → bs ≡ take (start + size - start) (drop start bytes)
         → j < n
-        → getD (listed g 7 4 (latchList m (length bs) bs 0) ++ call g 7 0x0D (key 0x0D + h .level * 0x10000 + m * 0x1000000)) j endMove
-        ≡ getD (lockAndVerify i m) j endMove
+        → {t : Move} → t ≡ upTo1024 bs (inReach (sysreqOf g) (getD (locksSent g m (h .level) bs) j endMove)) → t ≡ getD (lockAndVerify i m) j endMove
     unfolding lockMacro
-    lock-at start size s z room bs is low =
-        let fits : start + size ≤ length bytes = rw (s, z) (lock-place g ok bytes exact m room .end) in
-        rw (back-latch bytes bs start size is fits (flashSize g) m (lockStart g m) s, z)
+    lock-at start size s z room bs is low has =
+        let p = lock-place g ok bytes exact m room in
+        let fits : start + size ≤ length bytes = rw (s, z) (p .end) in
+        let len = part-length bytes bs start size is fits in
+        unguarded (sysreqOf g) bs (getD (locksSent g m (h .level) bs) j endMove) (omega (arith, len, z, p .most)) (ok .sysreq) has
+        ∙ rw (back-latch bytes bs start size is fits (flashSize g) m (lockStart g m) s, z)
         (sym (at-first (lockMacro i m) (verifyMacro g m) endMove n j (length-lock i m ∙ sym e) low))
 
     pub check-at : n ≤ j → getD (verifyMacro g m) (j - n) endMove ≡ getD (lockAndVerify i m) j endMove

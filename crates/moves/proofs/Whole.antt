@@ -10,10 +10,10 @@ use Rattle.flow.specs.declared.Entry.the-variants.{FromOpen, FromProtected}
 use Rattle.flow.specs.declared.Move.{Move}
 use Rattle.flow.specs.declared.Purpose.the-variants.{Keep, EntryLevel, Reopened, StoredLevel, LastSum}
 use Rattle.image.specs.Image.{Image}
-use Rattle.moves.proofs.Counts.{length-privileged, length-rows, length-verify, length-macros, length-listed, opening-counted}
-use Rattle.moves.proofs.Joined.{at-first, at-second, within, onward}
-use Rattle.moves.proofs.Steps.{length-call, length-read, length-silicon}
-use Rattle.moves.specs.Moves.{openingCount}
+use Rattle.move_counts.proofs.Counts.{length-rows, length-verify, length-macros}
+use Rattle.call_moves.proofs.Joined.{at-first, at-second, within, onward}
+use Rattle.call_moves.proofs.Lengths.{length-call, length-read, length-listed, length-privileged, length-silicon, opening-counted}
+use Rattle.call_moves.specs.MoveAt.{openingCount}
 use Rattle.parts.specs.Sizes.{rowBytes, macrosOf, rowsOf, locksIn, levelAt}
 use Rattle.parts.specs.declared.Geometry.{Geometry}
 

@@ -1,4 +1,3 @@
 pub mod Handled
 pub mod Ended
-pub mod Stands
 pub mod Moves

@@ -1,11 +1,11 @@
--- The move at an index of the sequence, and how many moves its parts have. Assumes nothing.
+-- The move at an index of the sequence. Assumes nothing.
 use mathlib.Core.Bool.{cond, _&&_}
 use mathlib.Core.List.{List}
 use Prim.Native.Nat.{ℕ}
 use lib.Dec.{eqb}
 use lib.ListN.{length}
-use Rattle.flow.specs.Sequence.{opening, program, endMove}
-use Rattle.flow.specs.Session.{position, moveAt, bare}
+use Rattle.flow.specs.Sequence.{endMove}
+use Rattle.flow.specs.Session.{position, moveAt}
 use Rattle.flow.specs.declared.Entry.{Entry}
 use Rattle.flow.specs.declared.Move.{Move}
 use Rattle.image.specs.Image.{imageOf}
@@ -17,11 +17,3 @@ use Rattle.parts.specs.declared.Geometry.{Geometry}
 -- the sequence's move at an index where the geometry is handled and the image of exact size; else, and past the end, the end move
 abbrev pub moveOf : Geometry → Header → List ℕ → Entry → (index : ℕ) → Move
 moveOf g h bytes y n = cond (handles g && eqb (length bytes) (imageSize g)) (moveAt (imageOf g h bytes) (position y n)) endMove
-
--- the moves of steps 1 and 2, after which the entries part
-abbrev pub openingCount : Geometry → ℕ
-openingCount g = length (opening (bare g))
-
--- the moves of steps 4 to 9
-abbrev pub programCount : Geometry → ℕ
-programCount g = length (program (bare g))

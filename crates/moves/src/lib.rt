@@ -3,25 +3,23 @@ ghost use mathlib.Core.Path.{_≡_};
 ghost use Prim.Native.Nat.{_+_, _*_, _/_, _<_, _≤_};
 ghost use lib.ListN.{length, getD};
 ghost use Rattle.flow.specs.Sequence.{program, afterwards, sequence, endMove};
-ghost use Rattle.flow.specs.Session.{moveCount};
 ghost use Rattle.flow.specs.declared.Entry.the-variants.{FromOpen, FromProtected};
 ghost use Rattle.image.specs.Image.{imageOf};
 ghost use Rattle.moves.specs.Ended.{Ended};
 ghost use Rattle.moves.specs.Handled.{sizesHandled, addressesHandled, Handled};
-ghost use Rattle.moves.specs.Moves.{moveOf, openingCount, programCount};
+ghost use Rattle.moves.specs.Moves.{moveOf};
 ghost use Rattle.parts.specs.Sizes.{imageSize};
 
-mod calls;
 mod rows;
 
-use calls::call_move;
-use calls::end_move;
-use calls::identify_move;
-use calls::imo_moves;
-use calls::key_of;
-use calls::one_move;
-use calls::privileged_move;
-use calls::read_move;
+use call_moves::call_move;
+use call_moves::end_move;
+use call_moves::identify_move;
+use call_moves::key_of;
+use call_moves::one_move;
+use call_moves::opening_moves;
+use call_moves::privileged_move;
+use call_moves::read_move;
 use flow::Entry;
 use flow::Move;
 use flow::Purpose;
@@ -32,14 +30,6 @@ use rows::macros_move;
 use rows::row_moves;
 use rows::rows_move;
 use rows::verify_move;
-
-// The moves of steps 1 and 2, after which the entries part.
-fn opening_moves(g: Geometry) -> u32
-    ensures { λ n. ⌜ n ≡ openingCount g ⌝ ∗ ⌜ n ≤ 40 ⌝ }
-{
-    let p = g.part;
-    30 + imo_moves(p.imo)
-}
 
 // Where, among the moves of steps 4 to 9, the rows end, the flash's words, and the macros: steps 5, 6, and 7 with the locks of 8.
 struct Ends {
@@ -182,28 +172,4 @@ pub fn move_at(g: Geometry, h: Header, bytes: &[u8], entry: Entry, index: u32) -
         return end_move();
     }
     sequence_move(g, h, bytes, entry, index)
-}
-
-// The moves of steps 4 to 9.
-fn program_moves(g: Geometry) -> usize
-    ensures { λ n. ⌜ n ≡ programCount g ⌝ ∗ ⌜ n < 0x4000000000000 ⌝ }
-{
-    let p = g.part;
-    let rows = parts::rows(g) as usize;
-    let macros = g.macros as usize;
-    let words = (p.row_bytes as usize) / 4;
-    let locks = parts::locks_in(g, 0) / 4;
-    29 + rows * (26 + 5 * words) + macros * (24 + 5 * locks)
-}
-
-// The number of moves of the sequence.
-pub fn move_count(g: Geometry, entry: Entry) -> usize
-    ensures count { λ n. ⌜ n ≡ moveCount g entry ⌝ }
-{
-    let opening = opening_moves(g) as usize;
-    let rest = program_moves(g);
-    match entry {
-        Entry::FromOpen => opening + 12 + rest,
-        Entry::FromProtected => opening + 10 + opening + rest,
-    }
 }

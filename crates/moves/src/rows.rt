@@ -1,66 +1,18 @@
 // What is at an index of steps 5 to 8: in steps 5 and 7 rows and locks are lent on as middle parts of the image.
-ghost use mathlib.Core.List.{[], _∷_, _++_};
 ghost use mathlib.Core.Path.{_≡_};
-ghost use Prim.Native.Nat.{_+_, _*_, _/_, _<_, _≤_};
+ghost use Prim.Native.Nat.{_+_, _*_, _/_, _<_};
 ghost use lib.ListN.{length, getD};
-ghost use Rattle.flow.specs.Sequence.{key, call, listed, inTurn, latchList, programRow, verifyRow, verifyMacro, macroDown, lockAndVerify, endMove};
+ghost use Rattle.flow.specs.Sequence.{inTurn, programRow, verifyRow, verifyMacro, macroDown, lockAndVerify, endMove};
 ghost use Rattle.image.specs.Image.{imageOf};
 ghost use Rattle.moves.specs.Handled.{Handled};
-ghost use Rattle.moves.specs.Stands.{Stands};
 ghost use Rattle.parts.specs.Sizes.{rowBytes, macrosOf, rowsOf, locksIn, imageSize};
-use crate::calls::call_move;
-use crate::calls::drw;
-use crate::calls::key_of;
-use crate::calls::one_move;
-use crate::calls::read_move;
-use crate::calls::tar;
+use call_moves::read_move;
 use flow::Move;
 use flow::Purpose;
 use image::Header;
+use latch_moves::lock_move;
+use latch_moves::row_move;
 use parts::Geometry;
-use parts::PARAMS;
-
-// A word of the list of a latch call: the key, the number of bytes less one, the bytes' words.
-pub(crate) fn list_word(bytes: &[u8], m: u32, i: u32) -> u32
-    requires { ⌜ m < 256 ⌝ ∗ ⌜ 1 ≤ length (now bytes) ⌝ ∗ ⌜ length (now bytes) ≤ 1024 ⌝ ∗ ⌜ i < length (now bytes) / 4 + 2 ⌝ }
-    ensures { λ w. ⌜ w ≡ getD (latchList m (length (now (bytes .entry))) (now (bytes .entry)) 0) i 0 ⌝ }
-{
-    if i == 0 {
-        return key_of(4) + m * 0x1000000;
-    }
-    if i == 1 {
-        return (bytes.len() - 1) as u32;
-    }
-    lent::word_at(bytes, (4 * (i - 2)) as usize)
-}
-
-// The latch call for some bytes.
-pub(crate) fn latch_move(bytes: &[u8], sysreq: u32, step: u8, m: u32, j: u32) -> Move
-    requires { ⌜ sysreq ≤ 0x7FFFFFFF ⌝ ∗ ⌜ m < 256 ⌝ ∗ ⌜ 1 ≤ length (now bytes) ⌝ ∗ ⌜ length (now bytes) ≤ 1024 ⌝ }
-    ensures { λ r. ⌜ Stands sysreq (λ g. listed g step 4 (latchList m (length (now (bytes .entry))) (now (bytes .entry)) 0)) j r ⌝ }
-{
-    let n = 2 * ((bytes.len() / 4) as u32) + 4;
-    if n <= j {
-        return call_move(sysreq, step, 4, PARAMS, j - n);
-    }
-    let i = j / 2;
-    if j % 2 == 0 {
-        return tar(step, PARAMS + 4 * i);
-    }
-    drw(step, list_word(bytes, m, i))
-}
-
-// A row of step 5.
-pub(crate) fn row_move(row: &[u8], sysreq: u32, r: u32, m: u32, j: u32) -> Move
-    requires { ⌜ sysreq ≤ 0x7FFFFFFF ⌝ ∗ ⌜ m < 256 ⌝ ∗ ⌜ 1 ≤ length (now row) ⌝ ∗ ⌜ length (now row) ≤ 1024 ⌝ ∗ ⌜ r < 65536 ⌝ }
-    ensures { λ t. ⌜ Stands sysreq (λ g. listed g 5 4 (latchList m (length (now (row .entry))) (now (row .entry)) 0) ++ listed g 5 6 ((key 6 + r * 0x10000) ∷ [])) j t ⌝ }
-{
-    let n = 2 * ((row.len() / 4) as u32) + 14;
-    if j < n {
-        return latch_move(row, sysreq, 5, m, j);
-    }
-    one_move(sysreq, 5, 6, key_of(6) + r * 0x10000, j - n)
-}
 
 // The moves of a row in step 5.
 pub(crate) fn row_moves(g: Geometry) -> u32
@@ -84,8 +36,8 @@ pub(crate) fn rows_move(g: Geometry, h: Header, bytes: &[u8], j: u32) -> Move
     row_move(
         &bytes[start..end],
         p.sysreq,
-        r,
-        r / (p.rows_per_macro as u32),
+        r as u16,
+        (r / (p.rows_per_macro as u32)) as u8,
         j % each,
     )
 }
@@ -101,24 +53,6 @@ pub(crate) fn verify_move(g: Geometry, j: u32) -> Move
     let r = j / each;
     let at = 4 * (j % each / 3);
     read_move(6, r * size + at, Purpose::FlashWord(r, at), j % each % 3)
-}
-
-// A macro of step 7.
-pub(crate) fn lock_move(locks: &[u8], sysreq: u32, m: u32, level: u8, j: u32) -> Move
-    requires { ⌜ sysreq ≤ 0x7FFFFFFF ⌝ ∗ ⌜ m < 256 ⌝ ∗ ⌜ 1 ≤ length (now locks) ⌝ ∗ ⌜ length (now locks) ≤ 1024 ⌝ }
-    ensures { λ t. ⌜ Stands sysreq (λ g. listed g 7 4 (latchList m (length (now (locks .entry))) (now (locks .entry)) 0) ++ call g 7 0x0D (key 0x0D + level * 0x10000 + m * 0x1000000)) j t ⌝ }
-{
-    let n = 2 * ((locks.len() / 4) as u32) + 14;
-    if j < n {
-        return latch_move(locks, sysreq, 7, m, j);
-    }
-    call_move(
-        sysreq,
-        7,
-        0x0D,
-        key_of(0x0D) + (level as u32) * 0x10000 + m * 0x1000000,
-        j - n,
-    )
 }
 
 // The moves of macro m in step 7.
@@ -162,7 +96,7 @@ pub(crate) fn macro_move(g: Geometry, h: Header, bytes: &[u8], m: u32, j: u32) -
     let p = g.part;
     let start = parts::flash_size(g) + parts::lock_start(g, m);
     let end = start + parts::locks_in(g, m);
-    lock_move(&bytes[start..end], p.sysreq, m, h.level, j)
+    lock_move(&bytes[start..end], p.sysreq, m as u8, h.level, j)
 }
 
 // Steps 7 and 8 but for the level, from the highest macro down to 0: all have as many moves as macro 0.

@@ -16,7 +16,8 @@ use Rattle.flow.specs.declared.Move.{Move}
 use Rattle.flow.specs.declared.Purpose.the-variants.{Sent, Keep, Reopened, StoredLevel, LastSum}
 use Rattle.flow.specs.declared.Request.the-variants.{ReadDrw, WriteTar}
 use Rattle.image.specs.Image.{Image}
-use Rattle.moves.proofs.Counts.{counted, opening-counted, count-open, count-reopen}
+use Rattle.call_moves.proofs.Lengths.{opening-counted}
+use Rattle.move_counts.proofs.Counts.{counted, count-open, count-reopen}
 use Rattle.parts.specs.Sizes.{macrosOf, rowsOf, sysargOf, levelAt}
 use Rattle.parts.specs.declared.Geometry.{Geometry}
 

@@ -24,7 +24,7 @@ fn running_fits(g: Geometry, p: Position, c: Counters) -> bool
     ensures { λ r. ⌜ r ≡ runningFits g p c ⌝ }
 {
     let y = p.entry;
-    if (p.at as usize) < moves::move_count(g, y) {
+    if (p.at as usize) < move_counts::move_count(g, y) {
         if c.waits <= 16 {
             if c.polls < 10000 {
                 return c.attempts < 30;

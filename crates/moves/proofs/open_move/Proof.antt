@@ -2,6 +2,7 @@
 use mathlib.Core.Path.{refl, sym, _∙_}
 use borrow.Author.Needs.{needs}
 use denote.Ref.{now}
+use Rattle.call_moves.proofs.Reach.{in-reach}
 use Rattle.image.specs.Image.{imageOf}
 use Rattle.moves.proofs.Whole.{open-call, open-rest}
 use Rattle.moves.proofs.open_move.Statement.{statement}
@@ -13,6 +14,6 @@ open-move-spec =
     (tie.spec
     (λ c κs. search needs)
     (λ c κs. search needs)
-    (λ c. let s = c .before .before .before .before .before in (rw (c .before .key-of .ensures .0) at (c .one-move .ensures (s .args .g) refl)) ∙ sym (open-call (imageOf (s .args .g) (s .args .h) (now (s .args .bytes))) (s .args .j) (c .before .before .if1 .taken)))
+    (λ c. let s = c .before .before .before .before .before in (rw (c .before .key-of .ensures) at (c .one-move .ensures (s .args .g) refl)) ∙ in-reach _ _ (s .pre .0 .sysreq) ∙ sym (open-call (imageOf (s .args .g) (s .args .h) (now (s .args .bytes))) (s .args .j) (c .before .before .if1 .taken)))
     (λ c κs. search needs)
     (λ c. let s = c .before .before .before .before in c .program-move .ensures ∙ sym (open-rest (imageOf (s .args .g) (s .args .h) (now (s .args .bytes))) (s .args .j) (c .before .if1 .left))))

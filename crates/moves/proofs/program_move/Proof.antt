@@ -3,6 +3,7 @@ use mathlib.Core.Path.{refl, sym, _∙_}
 use native.Mathlib.Omega.{arith}
 use borrow.Author.Needs.{needs}
 use denote.Ref.{now}
+use Rattle.call_moves.proofs.Reach.{in-reach}
 use Rattle.image.specs.Image.{imageOf}
 use Rattle.moves.proofs.Whole.{program-sum, program-rows, program-verify, program-macros, program-level, program-last}
 use Rattle.moves.proofs.program_move.Statement.{statement}
@@ -14,7 +15,7 @@ program-move-spec =
     (tie.spec
     (λ c κs. search needs)
     (λ c κs. search needs)
-    (λ c. let s = c .before .before .before .before .before in c .privileged-move .ensures (s .args .g) refl ∙ sym (program-sum (imageOf (s .args .g) (s .args .h) (now (s .args .bytes))) (s .args .j) (c .before .if1 .taken)))
+    (λ c. let s = c .before .before .before .before .before in c .privileged-move .ensures (s .args .g) refl ∙ in-reach _ _ (s .pre .0 .sysreq) ∙ sym (program-sum (imageOf (s .args .g) (s .args .h) (now (s .args .bytes))) (s .args .j) (c .before .if1 .taken)))
     (λ c κs. let s = c .before .before .before .before .before .before in (s .pre .0, (s .pre .1, omega (arith, (c .before .before .before .ends-of .ensures) .rows))))
     (λ c.
     let s = c .before .before .before .before .before .before .before in
@@ -45,10 +46,10 @@ program-move-spec =
     let i = imageOf (s .args .g) (s .args .h) (now (s .args .bytes)) in
     c .read-move .ensures ∙ sym (program-level i (s .args .j) (e .rows) (e .words) (o .rows) (o .words) (e .macros) (o .macros) (c .before .before .before .before .if4 .left) (c .before .before .if5 .taken)))
     (λ c. search needs)
-    (λ c κs. (c .before .before .before .before .before .before .before .before .before .before .before .before .before .pre .0) .sysreq)
+    (λ c κs. search needs)
     (λ c.
     let s = c .before .before .before .before .before .before .before .before .before .before .before .before .before .before in
     let e = c .before .before .before .before .before .before .before .before .before .before .before .ends-of .result in
     let o = c .before .before .before .before .before .before .before .before .before .before .before .ends-of .ensures in
     let i = imageOf (s .args .g) (s .args .h) (now (s .args .bytes)) in
-    c .privileged-move2 .ensures (s .args .g) refl ∙ sym (program-last i (s .args .j) (e .rows) (e .words) (o .rows) (o .words) (e .macros) (o .macros) (c .before .before .if5 .left))))
+    c .privileged-move2 .ensures (s .args .g) refl ∙ in-reach _ _ (s .pre .0 .sysreq) ∙ sym (program-last i (s .args .j) (e .rows) (e .words) (o .rows) (o .words) (e .macros) (o .macros) (c .before .before .if5 .left))))

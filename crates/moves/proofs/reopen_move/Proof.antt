@@ -3,6 +3,7 @@ use mathlib.Core.Path.{refl, sym, ap, _∙_}
 use Prim.Native.Nat.{ℕ, _+_}
 use borrow.Author.Needs.{needs}
 use denote.Ref.{now}
+use Rattle.call_moves.proofs.Reach.{in-reach}
 use Rattle.image.specs.Image.{imageOf}
 use Rattle.moves.proofs.Whole.{reopen-call, reopen-again, reopen-rest}
 use Rattle.moves.proofs.reopen_move.Statement.{statement}
@@ -15,10 +16,10 @@ reopen-move-spec =
     (λ c κs. search needs)
     (λ c. search needs)
     (λ c κs. search needs)
-    (λ c. let s = c .before .before .before .before .before in (rw (c .before .key-of .ensures .0) at (c .call-move .ensures (s .args .g) refl)) ∙ sym (reopen-call (imageOf (s .args .g) (s .args .h) (now (s .args .bytes))) (s .args .j) (c .before .before .if1 .taken)))
+    (λ c. let s = c .before .before .before .before .before in (rw (c .before .key-of .ensures) at (c .call-move .ensures (s .args .g) refl)) ∙ in-reach _ _ (s .pre .0 .sysreq) ∙ sym (reopen-call (imageOf (s .args .g) (s .args .h) (now (s .args .bytes))) (s .args .j) (c .before .before .if1 .taken)))
     (λ c κs. search needs)
     (λ c. search needs)
     (λ c κs. search needs)
-    (λ c. let s = c .before .before .before .before .before .before in c .identify-move .ensures ∙ sym (reopen-again (imageOf (s .args .g) (s .args .h) (now (s .args .bytes))) (s .args .j) _ (ap (λ (x : ℕ). 10 + x) (c .before .before .opening-moves .ensures .0)) (c .before .before .before .if1 .left) (c .before .if2 .taken)))
+    (λ c. let s = c .before .before .before .before .before .before in c .identify-move .ensures ∙ in-reach _ _ (s .pre .0 .sysreq) ∙ sym (reopen-again (imageOf (s .args .g) (s .args .h) (now (s .args .bytes))) (s .args .j) _ (ap (λ (x : ℕ). 10 + x) (c .before .before .opening-moves .ensures .0)) (c .before .before .before .if1 .left) (c .before .if2 .taken)))
     (λ c κs. search needs)
     (λ c. let s = c .before .before .before .before .before .before in c .program-move .ensures ∙ sym (reopen-rest (imageOf (s .args .g) (s .args .h) (now (s .args .bytes))) (s .args .j) _ (ap (λ (x : ℕ). 10 + x) (c .before .before .opening-moves .ensures .0)) (c .before .if2 .left))))

@@ -2,6 +2,7 @@
 use mathlib.Core.Path.{sym, _∙_}
 use borrow.Author.Needs.{needs}
 use denote.Ref.{now}
+use Rattle.call_moves.proofs.Reach.{in-reach}
 use Rattle.flow.specs.declared.Entry.the-variants.{FromOpen, FromProtected}
 use Rattle.image.specs.Image.{imageOf}
 use Rattle.moves.proofs.Whole.{sequence-opening, sequence-rest}
@@ -14,7 +15,7 @@ sequence-move-spec =
     (tie.spec
     (λ c κs. search needs)
     (λ c κs. search needs)
-    (λ c. let s = c .before .before .before .before in c .identify-move .ensures ∙ sym (sequence-opening (imageOf (s .args .g) (s .args .h) (now (s .args .bytes))) (s .args .j) (s .args .entry) _ (c .before .before .opening-moves .ensures .0) (c .before .if1 .taken)))
+    (λ c. let s = c .before .before .before .before in c .identify-move .ensures ∙ in-reach _ _ (s .pre .0 .sysreq) ∙ sym (sequence-opening (imageOf (s .args .g) (s .args .h) (now (s .args .bytes))) (s .args .j) (s .args .entry) _ (c .before .before .opening-moves .ensures .0) (c .before .if1 .taken)))
     (λ c. search needs)
     (λ c κs. search needs)
     (λ c. search needs)

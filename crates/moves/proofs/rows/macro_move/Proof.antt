@@ -6,7 +6,6 @@ use borrow.Author.Needs.{needs}
 use denote.Ref.{now}
 use lib.ListN.{length}
 use Rattle.moves.proofs.Sections.{LockPlace, lock-place, lock-at, check-at}
-use Rattle.moves.proofs.Words.{part-length}
 use Rattle.parts.specs.Sizes.{flashSize, lockStart}
 use Rattle.moves.proofs.rows.macro_move.Statement.{statement}
 use Rattle.moves.proofs.rows.macro_move.Tie as tie
@@ -41,15 +40,10 @@ macro-move-spec =
     (λ c. search needs)
     (λ c. search needs)
     (λ c. ends c)
-    (λ c κs.
-    let p = place (c .before) in
-    let s = at-start (c .before) in
-    let l = part-length (now (s .args .bytes)) _ (c .before .before .before .flash-size .result + c .before .before .lock-start .result) (c .before .locks-in .result) refl (ends (c .before)) in
-    let n = l ∙ c .before .locks-in .ensures .0 in
-    (s .pre .0 .sysreq, (omega (arith, p .low), (omega (arith, n, p .some), omega (arith, n, p .most)))))
+    (λ c. omega (arith, place (c .before) .low))
+    (λ c κs. search needs)
     (λ c.
     let b = c .before .before in
     let s = at-start b in
-    c .lock-move .ensures (s .args .g) refl
-    ∙ lock-at (s .args .g) (s .pre .0) (s .args .h) (now (s .args .bytes)) (s .pre .1 .0) (s .args .m) (s .args .j) _ (b .before .before .before .before .before .lock-moves .ensures .0)
-    _ _ (starts b) (b .locks-in .ensures .0) (s .pre .1 .1 .0) _ refl (b .before .before .before .before .if1 .left)))
+    lock-at (s .args .g) (s .pre .0) (s .args .h) (now (s .args .bytes)) (s .pre .1 .0) (s .args .m) (s .args .j) _ (b .before .before .before .before .before .lock-moves .ensures .0)
+    _ _ (starts b) (b .locks-in .ensures .0) (s .pre .1 .1 .0) _ refl (b .before .before .before .before .if1 .left) (c .lock-move .ensures (s .args .g) refl)))

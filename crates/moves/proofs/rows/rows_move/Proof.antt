@@ -1,12 +1,10 @@
 -- The row is a middle part of the image. Assumes nothing.
-use mathlib.Core.Path.{refl, _∙_}
-use Prim.Native.Nat.{_/_, _*_}
+use mathlib.Core.Path.{refl}
+use Prim.Native.Nat.{_/_}
 use native.Mathlib.Omega.{arith}
 use borrow.Author.Needs.{needs}
 use denote.Ref.{now}
 use Rattle.moves.proofs.Sections.{RowPlace, row-place, rows-at}
-use Rattle.moves.proofs.Words.{part-length}
-use Rattle.parts.specs.Sizes.{rowBytes}
 use Rattle.moves.proofs.rows.rows_move.Statement.{statement}
 use Rattle.moves.proofs.rows.rows_move.Tie as tie
 
@@ -29,17 +27,12 @@ rows-move-spec =
     (λ c. search needs)
     (λ c. search needs)
     (λ c. place c .end)
+    (λ c. omega (arith, place (c .before) .low))
     (λ c. search needs)
     (λ c. search needs)
+    (λ c. omega (arith, place (c .before .before) .macro))
     (λ c. search needs)
-    (λ c κs.
-    let p = place (c .before .before) in
-    let s = c .before .before .before .before .before .before in
-    let ok = s .pre .0 in
-    let r = s .args .j / c .before .before .row-moves .result in
-    let l = part-length (now (s .args .bytes)) _ (r * rowBytes (s .args .g)) (rowBytes (s .args .g)) refl (p .end) in
-    (ok .sysreq, (p .macro, (omega (arith, l, ok .rowLow), (omega (arith, l, ok .rowHigh), p .low)))))
+    (λ c κs. search needs)
     (λ c.
     let s = c .before .before .before .before .before .before .before in
-    c .row-move .ensures (s .args .g) refl
-    ∙ rows-at (s .args .g) (s .pre .0) (s .args .h) (now (s .args .bytes)) (s .pre .1 .0) (s .args .j) _ (c .before .before .before .row-moves .ensures .0) (s .pre .1 .1) _ refl))
+    rows-at (s .args .g) (s .pre .0) (s .args .h) (now (s .args .bytes)) (s .pre .1 .0) (s .args .j) _ (c .before .before .before .row-moves .ensures .0) (s .pre .1 .1) _ refl (c .row-move .ensures (s .args .g) refl)))

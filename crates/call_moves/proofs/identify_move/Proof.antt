@@ -1,0 +1,29 @@
+-- Step 1, then step 2. Assumes nothing.
+use mathlib.Core.Path.{refl, sym, _∙_}
+use native.Mathlib.Omega.{arith}
+use borrow.Author.Needs.{needs}
+use Rattle.call_moves.proofs.Joined.{at-first, at-second}
+use Rattle.call_moves.proofs.Lengths.{length-acquire}
+use Rattle.call_moves.proofs.Reach.{in-reach, out-of-reach}
+use Rattle.flow.specs.Sequence.{acquire, silicon, endMove}
+use Rattle.call_moves.proofs.identify_move.Statement.{statement}
+use Rattle.call_moves.proofs.identify_move.Tie as tie
+
+pub identify-move-spec : {M : Type 1} → statement M
+identify-move-spec =
+    tie.close
+    (tie.spec
+    (λ c κs. search needs)
+    (λ c. c .end-move .ensures ∙ sym (out-of-reach _ _ (c .before .if1 .taken)))
+    (λ c κs. search needs)
+    (λ c. search needs)
+    (λ c κs. search needs)
+    (λ c.
+    let g = c .before .before .before .before .before .before .args .g in
+    c .acquire-move .ensures g refl refl
+    ∙ sym (in-reach _ _ (c .before .before .before .if1 .left) ∙ at-first (acquire g) (silicon g _) endMove _ _ (omega (arith, length-acquire g, c .before .before .imo-moves .ensures .0 g)) (c .before .if2 .taken)))
+    (λ c κs. search needs)
+    (λ c.
+    let g = c .before .before .before .before .before .before .args .g in
+    c .silicon-move .ensures g refl
+    ∙ sym (in-reach _ _ (c .before .before .before .if1 .left) ∙ at-second (acquire g) (silicon g _) endMove _ _ (omega (arith, length-acquire g, c .before .before .imo-moves .ensures .0 g)) (c .before .if2 .left))))
