@@ -27,11 +27,11 @@ use Rattle.flow.proofs.Access.{Answering, admits, write-reaches, read-s
 use Rattle.flow.proofs.Attempts.{barred-off, xres-reaches, trying, attempts}
 use Rattle.flow.proofs.Calling.{Command, ordinary, calling, free-zero}
 use Rattle.flow.proofs.Decoding.{aCtrl, aSelect, aCsw}
-use Rattle.flow.proofs.Legs.{Core, core, Leg}
+use Rattle.flow.proofs.Legs.{Core, core, Leg, halt}
 use Rattle.flow.proofs.Phases.{call15, same-core}
 use Rattle.flow.proofs.Places.{place-sysreq, place-sysarg, place-test}
 use Rattle.flow.proofs.Polling.{idleAt, poll-idle}
-use Rattle.flow.proofs.Reaches.{Allowance, withTransfer, withRead, withRequest, withMoves, Env, sync, rightSilicon, Frame, Lasting, at-rest, Stood, Stands, less-room, without, same-running, Reaches, tally, seen, after}
+use Rattle.flow.proofs.Reaches.{Allowance, withTransfer, withRead, withRequest, withMoves, Env, sync, rightSilicon, Frame, Lasting, at-rest, OnPlan, OnPlanFor, less-room, without, same-running, Reaches, tally, seen, after}
 use Rattle.flow.proofs.Table.{Facts}
 use Rattle.flow.proofs.Transfer.{transfer}
 use Rattle.image.specs.Image.{Image}
@@ -83,7 +83,7 @@ module _ {i : Image} (f : Frame i) (fx : Facts (i .geometry)) (y : Entry) (m : M
   stays : (b : Target) → b .memory ≡ m → f .Safe false (b .memory)
   stays b e = rw e safe
 
-  imo-leg : (n : ℕ) → Leg f false false y (imoCall (i .geometry) n) (Acquired f m) (Acquired f m)
+  imo-leg : (n : ℕ) → Leg f y (imoCall (i .geometry) n) (halt false (Acquired f m)) (halt false (Acquired f m))
   unfolding imoCall withMoves
   imo-leg zero = record { along = λ n x k later κ e b p st next. next k b p n x e st }
   imo-leg (suc z) = record {
@@ -101,13 +101,13 @@ module _ {i : Image} (f : Frame i) (fx : Facts (i .geometry)) (y : Entry) (m : M
       ∷ move 1 (WriteSetup Csw 2) Sent
       ∷ (write 1 TEST-MODE 0x80000000 ++ (read 1 TEST-MODE TestBit ++ (poll (i .geometry) 1 ++ imoCall (i .geometry) (imoOf (i .geometry)))))
 
-  thirty : {n : ℕ} {ms : List Move} (κ : Allowance) {e : Env} → Stood f y n ms (withRequest LineReset Sent (withRequest ReadIdcode Idcode κ)) e → Stood f y n ms (trying f 29 κ) e
+  thirty : {n : ℕ} {ms : List Move} (κ : Allowance) {e : Env} → OnPlan f y n ms (withRequest LineReset Sent (withRequest ReadIdcode Idcode κ)) e → OnPlan f y n ms (trying f 29 κ) e
   thirty κ st = less-room (30 + κ .room) (omega arith) st
 
-  one-poll : {n : ℕ} {ms : List Move} (κ : Allowance) {e : Env} → Stood f y n ms (withTransfer (withTransfer (withRead Poll κ))) e → Stood f y n ms (withTransfer (withTransfer (withTransfer κ))) e
+  one-poll : {n : ℕ} {ms : List Move} (κ : Allowance) {e : Env} → OnPlan f y n ms (withTransfer (withTransfer (withRead Poll κ))) e → OnPlan f y n ms (withTransfer (withTransfer (withTransfer κ))) e
   one-poll κ st = less-room (17 + (17 + (17 + κ .room))) (omega arith) st
 
-  pub acquire-leg : Leg f false false y (acquire (i .geometry)) (Fresh f m) (Acquired f m)
+  pub acquire-leg : Leg f y (acquire (i .geometry)) (halt false (Fresh f m)) (halt false (Acquired f m))
   unfolding acquire write read withMoves carry judge testBitSet noticed noticeRead
   acquire-leg = record {
     along = λ n x k later κ e b p st next.
@@ -141,24 +141,24 @@ command0 = record { started = refl; number = refl }
 
 free-0 : (x : Silicon) (l : ℕ) → Bytes x → l < 16 → free (sysreqAfter 0 x l) ≡ true
 unfolding free sysreqAfter
-free-0 x l hb hl = rw (eq-eqb ((l * 4096 + x .family) / 2147483648 % 2) 0 (omega arith), eq-eqb ((l * 4096 + x .family) / 268435456 % 2) 0 (omega arith))
+free-0 x l hb hl = rw (eq-eqb ((l * 0x1000 + x .family) / 0x80000000 % 2) 0 (omega arith), eq-eqb ((l * 0x1000 + x .family) / 0x10000000 % 2) 0 (omega arith))
 
 good-0 : (x : Silicon) (m : Memory) → Bytes x → succeeded (sysargAfter 0 x m) ≡ true
 unfolding succeeded sysargAfter
-good-0 x m hb = eq-eqb ((0xA0000000 + x .revision * 65536 + x .high * 256 + x .low) / 268435456 % 16) 0xA (omega arith)
+good-0 x m hb = eq-eqb ((0xA0000000 + x .revision * 0x10000 + x .high * 0x100 + x .low) / 0x10000000 % 16) 0xA (omega arith)
 
 -- what step 2 reads is what the target is
 pub ids-read : (i : Image) (x : Silicon) (m : Memory) (l : ℕ) → Bytes x → idsFit (i .geometry) (i .header) (sysargAfter 0 x m) (sysreqAfter 0 x l) ≡ rightSilicon i x
 unfolding idsFit rightSilicon sysargAfter sysreqAfter
 ids-read i x m l hb = rw (high, low, family)
   where
-    high : (0xA0000000 + x .revision * 65536 + x .high * 256 + x .low) / 256 % 256 ≡ x .high
+    high : (0xA0000000 + x .revision * 0x10000 + x .high * 0x100 + x .low) / 256 % 256 ≡ x .high
     high = omega arith
 
-    low : (0xA0000000 + x .revision * 65536 + x .high * 256 + x .low) % 256 ≡ x .low
+    low : (0xA0000000 + x .revision * 0x10000 + x .high * 0x100 + x .low) % 256 ≡ x .low
     low = omega arith
 
-    family : (l * 4096 + x .family) % 256 ≡ x .family
+    family : (l * 0x1000 + x .family) % 256 ≡ x .family
     family = omega arith
 
 pub level-read : (x : Silicon) (l : ℕ) → Bytes x → l < 16 → levelIn (sysreqAfter 0 x l) ≡ l
@@ -173,8 +173,8 @@ module _ {i : Image} (f : Frame i) (fx : Facts (i .geometry)) (m : Memory) (answ
       (watching (seen noWaits 0 0 (idleAt (sysreqOf (i .geometry))) (e .delays))) e
 
   pub silicon-reaches : (u : Purpose) {y : Entry} {n x k : ℕ} {ms : List Move} {κ : Allowance} {e : Env} {b : Target} → Acquired f m k (core b)
-      → Stands f y n (call (i .geometry) 2 0 (key 0)) (read 2 (sysargOf (i .geometry)) Keep ++ (read 2 (sysreqOf (i .geometry)) u ++ ms)) (withTransfer (withTransfer (withTransfer (withTransfer (withTransfer (withTransfer κ)))))) e
-      → (next : (b′ : Target) → core b′ ≡ core b → (n′ : ℕ) (e′ : Env) → Stood f y (suc n′) ms κ e′ → Reaches f false (identified u y n′ k b′ e′))
+      → OnPlanFor f (position y n) (call (i .geometry) 2 0 (key 0)) (read 2 (sysargOf (i .geometry)) Keep ++ (read 2 (sysreqOf (i .geometry)) u ++ ms)) (withTransfer (withTransfer (withTransfer (withTransfer (withTransfer (withTransfer κ)))))) e
+      → (next : (b′ : Target) → core b′ ≡ core b → (n′ : ℕ) (e′ : Env) → OnPlan f y (suc n′) ms κ e′ → Reaches f false (identified u y n′ k b′ e′))
       → Reaches f false (sync (position y n) (tally 0 0 k) b (idleAt x) e)
   unfolding judge noticeRead
   silicon-reaches u {b = b} p st next =

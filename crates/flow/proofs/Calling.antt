@@ -22,7 +22,7 @@ use Rattle.flow.specs.declared.Purpose.the-variants.{Status}
 use Rattle.flow.proofs.Access.{aim, Answering, admits, write-reaches, call-reaches, read-still}
 use Rattle.flow.proofs.Places.{place-sysreq, place-sysarg}
 use Rattle.flow.proofs.Polling.{idleAt, during, looping, loopAt, poll-busy}
-use Rattle.flow.proofs.Reaches.{Allowance, withTransfer, withMoves, Env, sync, Frame, at-rest, Stood, Stands, less-room, Turn, without, reopening, sealing, and-false, Reaches, stop, tally}
+use Rattle.flow.proofs.Reaches.{Allowance, withTransfer, withMoves, Env, sync, Frame, at-rest, OnPlan, OnPlanFor, less-room, Turn, without, reopening, sealing, and-false, Reaches, stop, tally}
 use Rattle.flow.proofs.Table.{Facts}
 use Rattle.image.specs.Image.{Image}
 use Rattle.parts.specs.Sizes.{sysreqOf, sysargOf}
@@ -72,9 +72,9 @@ calm-idle (calmCall h h′ c) = h
 
 pub failed : (w : ℕ) → succeeded (failedArg w) ≡ false
 unfolding succeeded
-failed w = by (eqb (w / 268435456 % 16) 0xA) refl
+failed w = by (eqb (w / 0x10000000 % 16) 0xA) refl
   where
-    by : (t : Bool) → eqb (w / 268435456 % 16) 0xA ≡ t → eqb (failedArg w / 268435456 % 16) 0xA ≡ false
+    by : (t : Bool) → eqb (w / 0x10000000 % 16) 0xA ≡ t → eqb (failedArg w / 0x10000000 % 16) 0xA ≡ false
     by true h = rw h
     by false h = rw h h
 
@@ -104,12 +104,12 @@ end-turn g {c = c} {b = b} (locking h k e) good r a v a′ v′ = sealing {b = a
 module _ {i : Image} (f : Frame i) (fx : Facts (i .geometry)) where
   -- from the poll on
   call-tail : {z z′ : Bool} (s₀ : Bool) (r₀ : Residue) (q c s : ℕ) {y : Entry} {n : ℕ} {ms : List Move} {κ : Allowance} {e : Env} {k : ℕ} (b : Target) (x u : ℕ) {v : Bool}
-      → Stood f y n (poll (i .geometry) s ++ (read s (sysargOf (i .geometry)) Status ++ ms)) (looping 9999 (withTransfer (withTransfer (withTransfer κ)))) e
+      → OnPlan f y n (poll (i .geometry) s ++ (read s (sysargOf (i .geometry)) Status ++ ms)) (looping 9999 (withTransfer (withTransfer (withTransfer κ)))) e
       → Answering (b .effect) → f .Safe z (b .memory) → ((r : Residue) → f .Safe z′ ((finish (i .geometry) true r c b) .memory)) → ((r : Residue) → f .Safe z ((finish (i .geometry) false r c b) .memory))
       → Ends s c b z z′
       → (f .Still → q ≡ 0) → (f .Still → s₀ ≡ true)
       → free (sysreqAfter c (b .silicon) (b .effect)) ≡ true → succeeded (sysargAfter c (b .silicon) (b .memory)) ≡ true
-      → (next : (b′ : Target) → Returned (i .geometry) c (b .sysarg) b b′ → (n′ : ℕ) (e′ : Env) → Stood f y n′ ms κ e′
+      → (next : (b′ : Target) → Returned (i .geometry) c (b .sysarg) b b′ → (n′ : ℕ) (e′ : Env) → OnPlan f y n′ ms κ e′
       → Reaches f z′ (sync (position y n′) (tally 0 0 k) b′ (idleAt (sysargOf (i .geometry))) e′))
       → Reaches f z (sync (position y n) (tally 0 0 k) (aim x u (during (busy q s₀ r₀ c) b)) (loopAt x v true) e)
   unfolding finish judge noticeRead
@@ -132,17 +132,17 @@ module _ {i : Image} (f : Frame i) (fx : Facts (i .geometry)) where
   cut-asked c w b lost r = lost r
 
   -- what a call may cost
-  call-allowance : (s c w : ℕ) {y : Entry} {n : ℕ} (ms : List Move) (κ : Allowance) {e : Env} → Stands f y n (call (i .geometry) s c w) ms κ e
-      → Stood f y n (call (i .geometry) s c w ++ ms) (withTransfer (withTransfer (withTransfer (withTransfer (looping 9999 (withTransfer (withTransfer (withTransfer κ)))))))) e
+  call-allowance : (s c w : ℕ) {y : Entry} {n : ℕ} (ms : List Move) (κ : Allowance) {e : Env} → OnPlanFor f (position y n) (call (i .geometry) s c w) ms κ e
+      → OnPlan f y n (call (i .geometry) s c w ++ ms) (withTransfer (withTransfer (withTransfer (withTransfer (looping 9999 (withTransfer (withTransfer (withTransfer κ)))))))) e
   unfolding call write read withMoves
   call-allowance s c w ms κ st = less-room (17 + (17 + (17 + (17 + (51 * 10000 + (17 + (17 + (17 + κ .room)))))))) (omega arith) st
 
   pub calling : {z z′ : Bool} (s c w : ℕ) {y : Entry} {n : ℕ} {ms : List Move} {κ : Allowance} {e : Env} {k : ℕ} {b : Target} {t : Watch}
-      → Command c → Stands f y n (call (i .geometry) s c w) ms κ e
+      → Command c → OnPlanFor f (position y n) (call (i .geometry) s c w) ms κ e
       → Answering (b .effect) → b .running ≡ idle → f .Safe z (b .memory) → ((r : Residue) → f .Safe z′ ((finish (i .geometry) true r c (asked c w b)) .memory)) → ((r : Residue) → f .Safe z ((finish (i .geometry) false r c (asked c w b)) .memory))
       → Ends s c (asked c w b) z z′
       → free (sysreqAfter c (b .silicon) (b .effect)) ≡ true → succeeded (sysargAfter c (b .silicon) (b .memory)) ≡ true
-      → (next : (b′ : Target) → Returned (i .geometry) c w b b′ → (n′ : ℕ) (e′ : Env) → Stood f y n′ ms κ e′
+      → (next : (b′ : Target) → Returned (i .geometry) c w b b′ → (n′ : ℕ) (e′ : Env) → OnPlan f y n′ ms κ e′
       → Reaches f z′ (sync (position y n′) (tally 0 0 k) b′ (idleAt (sysargOf (i .geometry))) e′))
       → Reaches f z (sync (position y n) (tally 0 0 k) b t e)
   unfolding call write read withMoves

@@ -7,6 +7,7 @@ use Prim.Native.Nat.{ℕ, suc, _+_, _*_, _/_, _≤_}
 use native.Mathlib.Omega.{arith}
 use lib.Dec.{eqb}
 use lib.ListN.{length, drop, length-append}
+use lib.Seq.{length-sets}
 use Rattle.flow.specs.Calls.{finish, effectOf, sysargAfter, sysreqAfter}
 use Rattle.flow.specs.Sequence.{call, write, writes, listed}
 use Rattle.flow.specs.Session.{position}
@@ -17,10 +18,10 @@ use Rattle.flow.specs.declared.Move.{Move}
 use Rattle.flow.specs.declared.Place.the-variants.{InParams}
 use Rattle.flow.proofs.Access.{admits-open, write-reaches}
 use Rattle.flow.proofs.Calling.{Command, ordinary, calling}
-use Rattle.flow.proofs.Lists.{lay-next, length-lay}
+use Rattle.flow.proofs.Lists.{set-next}
 use Rattle.flow.proofs.Places.{place-params}
 use Rattle.flow.proofs.Polling.{idleAt}
-use Rattle.flow.proofs.Reaches.{Allowance, withMoves, Env, sync, Frame, at-rest, Stood, Stands, split, Reaches, tally}
+use Rattle.flow.proofs.Reaches.{Allowance, withMoves, Env, sync, Frame, at-rest, OnPlan, OnPlanFor, split, Reaches, tally}
 use Rattle.flow.proofs.Table.{Facts}
 use Rattle.image.specs.Image.{Image}
 use Rattle.parts.specs.Sizes.{rowBytes, sysargOf, PARAMS}
@@ -49,8 +50,8 @@ module _ {i : Image} (f : Frame i) (fx : Facts (i .geometry)) where
   -- the first word goes behind those of `pre`
   writes-from : (ws pre tl : List ℕ) (s a j : ℕ) {z : Bool} {y : Entry} {n : ℕ} {ms : List Move} {κ : Allowance} {e : Env} {k : ℕ} (b : Target) {x : ℕ}
       → b .params ≡ pre ++ tl → length pre ≡ j → a ≡ PARAMS + 4 * j → j + length ws ≤ 2 + rowBytes (i .geometry) / 4 → j + length ws ≤ length (b .params)
-      → Stands f y n (writes s a ws) ms κ e → b .effect ≡ 1 → b .running ≡ idle → f .Safe z (b .memory)
-      → (next : (b′ : Target) → Filled (pre ++ ws) b b′ → (n′ x′ : ℕ) (e′ : Env) → Stood f y n′ ms κ e′ → Reaches f z (sync (position y n′) (tally 0 0 k) b′ (idleAt x′) e′))
+      → OnPlanFor f (position y n) (writes s a ws) ms κ e → b .effect ≡ 1 → b .running ≡ idle → f .Safe z (b .memory)
+      → (next : (b′ : Target) → Filled (pre ++ ws) b b′ → (n′ x′ : ℕ) (e′ : Env) → OnPlan f y n′ ms κ e′ → Reaches f z (sync (position y n′) (tally 0 0 k) b′ (idleAt x′) e′))
       → Reaches f z (sync (position y n) (tally 0 0 k) b (idleAt x) e)
   unfolding writes write withMoves
   writes-from [] pre tl s a j {n = n} {e = e} b {x} hp hl ha fits room st he quiet safe next =
@@ -58,15 +59,15 @@ module _ {i : Image} (f : Frame i) (fx : Facts (i .geometry)) where
   writes-from (w ∷ ws) pre tl s a j {z = z} b hp hl ha fits room st he quiet safe next =
       write-reaches f s a w st (InParams j) (place-params (i .geometry) fx a j ha (omega arith)) (admits-open (b .effect) (InParams j) he) (at-rest (f .Safe z) b quiet safe) (record { now = safe; cut = λ r. rw quiet safe }) refl λ e₁ h₁ st₁.
       writes-from ws (pre ++ (w ∷ [])) (drop 1 tl) s (a + 4) (suc j) _
-      (rw (hp, ← hl) (lay-next pre tl w some)) (rw (length-append pre (w ∷ [])) (omega arith)) (omega arith) (omega arith)
-      (rw (length-lay (b .params) (w ∷ []) j) (omega arith)) st₁ he quiet safe λ b′ d n′ x′ e′ st′.
+      (rw (hp, ← hl) (set-next pre tl w some)) (rw (length-append pre (w ∷ [])) (omega arith)) (omega arith) (omega arith)
+      (rw (length-sets (b .params) j (w ∷ [])) (omega arith)) st₁ he quiet safe λ b′ d n′ x′ e′ st′.
       next b′ (record {
         behind = d .behind;
         silicon = d .silicon;
         effect = d .effect;
         memory = d .memory;
         params = d .params ∙ ap (λ (l : List ℕ). l ++ d .behind) (append-assoc pre (w ∷ []) ws);
-        room = d .room ∙ length-lay (b .params) (w ∷ []) j;
+        room = d .room ∙ length-sets (b .params) j (w ∷ []);
         quiet = d .quiet;
       }) n′ x′ e′ st′
     where
@@ -74,12 +75,12 @@ module _ {i : Image} (f : Frame i) (fx : Facts (i .geometry)) where
       some = omega (arith, ap length hp, length-append pre tl)
 
   pub listing : (s c : ℕ) (ws : List ℕ) {z : Bool} {y : Entry} {n : ℕ} {ms : List Move} {κ : Allowance} {e : Env} {k : ℕ} {b : Target} {x : ℕ}
-      → Command c → Stands f y n (listed (i .geometry) s c ws) ms κ e
+      → Command c → OnPlanFor f (position y n) (listed (i .geometry) s c ws) ms κ e
       → length ws ≤ 2 + rowBytes (i .geometry) / 4 → 2 + rowBytes (i .geometry) / 4 ≤ length (b .params) → b .effect ≡ 1 → b .running ≡ idle → f .Safe z (b .memory)
       → eqb c 0x0D ≡ false
       → ((y : Bool) (r : Residue) (b′ : Target) → b′ .effect ≡ b .effect → b′ .memory ≡ b .memory → b′ .sysarg ≡ PARAMS → f .Safe z ((finish (i .geometry) y r c b′) .memory))
       → free (sysreqAfter c (b .silicon) (b .effect)) ≡ true → succeeded (sysargAfter c (b .silicon) (b .memory)) ≡ true
-      → (next : (b′ : Target) → ListReturned (i .geometry) c ws b b′ → (n′ : ℕ) (e′ : Env) → Stood f y n′ ms κ e′
+      → (next : (b′ : Target) → ListReturned (i .geometry) c ws b b′ → (n′ : ℕ) (e′ : Env) → OnPlan f y n′ ms κ e′
       → Reaches f z (sync (position y n′) (tally 0 0 k) b′ (idleAt (sysargOf (i .geometry))) e′))
       → Reaches f z (sync (position y n) (tally 0 0 k) b (idleAt x) e)
   unfolding listed

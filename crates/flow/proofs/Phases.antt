@@ -48,7 +48,7 @@ pub record Opened {i : Image} (f : Frame i) (c : Core) : Type 0 where
 
 -- the first sum is kept
 abbrev pub Kept : {i : Image} → Frame i → ℕ → Type 0
-Kept f k = k % 268435456 ≡ f .silicon .«privileged_sum» % 268435456
+Kept f k = k % 0x10000000 ≡ f .silicon .«privileged_sum» % 0x10000000
 
 -- the target's sizes
 pub record Sized {i : Image} (f : Frame i) (m : Memory) : Type 0 where
