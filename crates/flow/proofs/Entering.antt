@@ -27,7 +27,7 @@ use Rattle.flow.proofs.Finishing.{Blank, nothing, program-reaches}
 use Rattle.flow.proofs.Legs.{core}
 use Rattle.flow.proofs.Listing.{ListReturned, listing}
 use Rattle.flow.proofs.Lists.{total-zero}
-use Rattle.flow.proofs.Phases.{Valid, Sized, callA, callD, steady-A}
+use Rattle.flow.proofs.Phases.{Valid, Sized, plain-call, callD}
 use Rattle.flow.proofs.Polling.{idleAt}
 use Rattle.flow.proofs.Reaches.{withMoves, Env, sync, rightSilicon, RightIds, Frame, at-rest, OnPlan, OnPlanFor, split, Reaches, stop, tally, seen, after}
 use Rattle.flow.proofs.Table.{Facts}
@@ -90,19 +90,18 @@ module _ {i : Image} (f : Frame i) (fx : Facts (i .geometry)) (v : Valid i) (hb 
       → Reaches f false (sync (position FromOpen n) (tally 0 0 k) b (idleAt x) e)
   unfolding afterwards
   open-reaches {b = b} right one p st =
-      listing f fx 3 0x0A (key 0x0A ∷ []) (callA .command) (split (listed (i .geometry) 3 0x0A (key 0x0A ∷ [])) (program i) [] nothing st) (omega arith)
-      (p .fresh .room) (p .effect ∙ one) (p .fresh .quiet) (rw (p .fresh .memory) safe) refl
-      (λ y r b′ _ hm _. f .safeOpen right _ (steady-A (i .geometry) y r b′ ∙ ap (λ (z : Memory). z .stored) (hm ∙ p .fresh .memory) ∙ one)) (callA .ready _ _) (callA .good _ _) λ b₁ r₁ n₁ e₁ st₁.
+      listing f fx 3 0x0A (key 0x0A ∷ []) (plain-call 0x0A (omega arith) refl refl) refl (omega arith) (split (listed (i .geometry) 3 0x0A (key 0x0A ∷ [])) (program i) [] nothing st)
+      (record { right = right; silicon = p .fresh .silicon; effect = p .effect ∙ one; room = p .fresh .room; quiet = p .fresh .quiet }) (rw (p .fresh .memory) one) λ b₁ r₁ n₁ e₁ st₁.
       program-reaches f fx v (blank b₁ r₁) st₁
     where
-      erased : (b₁ : Target) → ListReturned (i .geometry) 0x0A (key 0x0A ∷ []) b b₁ → b₁ .memory ≡ zeroed 1 m
+      erased : (b₁ : Target) → ListReturned f 0x0A (key 0x0A ∷ []) b b₁ → b₁ .memory ≡ zeroed 1 m
       erased b₁ r₁ = r₁ .memory ∙ effect-A _ _ _ _ _ ∙ rw (p .fresh .memory, one)
 
-      blank : (b₁ : Target) → ListReturned (i .geometry) 0x0A (key 0x0A ∷ []) b b₁ → {k : ℕ} → Blank f k (core b₁)
+      blank : (b₁ : Target) → ListReturned f 0x0A (key 0x0A ∷ []) b b₁ → {k : ℕ} → Blank f k (core b₁)
       blank b₁ r₁ = record {
-        opened = record { right = right; silicon = r₁ .silicon ∙ p .fresh .silicon; effect = r₁ .effect ∙ p .effect ∙ one; room = rw (r₁ .room) (p .fresh .room); quiet = r₁ .ended };
+        opened = r₁ .opened;
         sized = rw (erased b₁ r₁) (zeroed-sized 1 m sz);
-        level = ap (λ (z : Memory). z .stored) (erased b₁ r₁);
+        level = r₁ .level;
         erased = rw (erased b₁ r₁) (total-zero (length (m .flash)));
       }
 

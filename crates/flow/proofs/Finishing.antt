@@ -25,9 +25,9 @@ use Rattle.flow.specs.declared.Purpose.{Purpose}
 use Rattle.flow.specs.declared.Purpose.the-variants.{Keep, StoredLevel, LastSum}
 use Rattle.flow.specs.declared.Silicon.{Silicon}
 use Rattle.flow.proofs.Access.{admits-open, read-still}
-use Rattle.flow.proofs.Calling.{Command, ordinary, calling}
+use Rattle.flow.proofs.Calling.{sums, still-call}
 use Rattle.flow.proofs.Legs.{Core, core, Leg, halt}
-use Rattle.flow.proofs.Phases.{Valid, Opened, Sized, Wrote, Locked, wrote-all, all-held, none-locked, first-level, same-core}
+use Rattle.flow.proofs.Phases.{Valid, Opened, Sized, Wrote, Locked, wrote-all, all-held, none-locked, first-level}
 use Rattle.flow.proofs.Places.{place-sysarg}
 use Rattle.flow.proofs.Polling.{idleAt}
 use Rattle.flow.proofs.Programming.{rows-leg}
@@ -38,9 +38,6 @@ use Rattle.image.specs.Image.{Image}
 use Rattle.lent.specs.Words.{total}
 use Rattle.parts.specs.Sizes.{rowBytes, macrosOf, rowsOf, sysargOf, levelAt}
 use Rattle.parts.specs.declared.Geometry.{Geometry}
-
-commandB : Command 0x0B
-commandB = record { started = refl; number = refl }
 
 free-B : (x : Silicon) (l : ℕ) → free (sysreqAfter 0x0B x l) ≡ true
 unfolding free sysreqAfter
@@ -60,15 +57,6 @@ good-B x m = rw (sysarg-B x m) (eq-eqb ((0xA0000000 + sumOf x m) / 0x10000000 % 
 
 low-28 : (x : Silicon) (m : Memory) → sysargAfter 0x0B x m % 0x10000000 ≡ sumOf x m
 low-28 x m = rw (sysarg-B x m) (omega arith)
-
-still-B : (g : Geometry) (y : Bool) (r : Residue) (b : Target) → (finish g y r 0x0B b) .memory ≡ b .memory
-unfolding finish effectOf afterFailure
-still-B g true r b = refl
-still-B g false r b = refl
-
-effect-B : (g : Geometry) (l a : ℕ) (ps : List ℕ) (m : Memory) → effectOf g 0x0B l a ps m ≡ m
-unfolding effectOf
-effect-B g l a ps m = refl
 
 -- the difference of the two sums is the flash's own sum
 sums-fit : (i : Image) (x : Silicon) (m : Memory) (k : ℕ) → k % 0x10000000 ≡ x .«privileged_sum» % 0x10000000 → m .flash ≡ i .flash → total (i .flash) % 65536 ≡ i .header .sum
@@ -100,11 +88,11 @@ module _ {i : Image} (f : Frame i) (fx : Facts (i .geometry)) (v : Valid i) wher
       → Reaches f z (sync (position y n) (tally 0 0 k) b (idleAt x) e)
   unfolding noticeRead
   sum-reaches s u {z = z} {b = b} p safe st next =
-      calling f fx s 0x0B sumWord commandB st (inl (p .effect)) (p .quiet) safe (λ r. rw (still-B (i .geometry) true r _) safe) (λ r. rw (still-B (i .geometry) false r _) safe) (ordinary (λ r. refl)) (free-B _ _) (good-B _ _) λ b₁ ret n₁ e₁ st₁.
+      still-call f fx s sumWord {b = b} sums st (inl (p .effect)) (p .quiet) safe (free-B _ _) (good-B _ _) λ b₁ ret same n₁ e₁ st₁.
       let arg : b₁ .sysarg ≡ sysargAfter 0x0B (f .silicon) (b .memory) = ret .sysarg ∙ rw (p .silicon) in
       read-still f s (sysargOf (i .geometry)) u st₁ AtSysarg (place-sysarg (i .geometry) fx) (admits-open (b₁ .effect) AtSysarg (ret .effect ∙ p .effect))
-      (at-rest (f .Safe z) b₁ (ret .ended) (rw (ret .memory, effect-B) safe)) (λ o. sysargAfter 0x0B (f .silicon) (b .memory)) (λ o z. rw arg) λ _ _ e₂ _ st₂.
-      next _ (same-core ret (ret .memory ∙ effect-B _ _ _ _ _) (p .quiet)) _ e₂ st₂
+      (at-rest (f .Safe z) b₁ (ret .ended) (rw (ap (λ (c : Core). c .memory) same) safe)) (λ o. sysargAfter 0x0B (f .silicon) (b .memory)) (λ o z. rw arg) λ _ _ e₂ _ st₂.
+      next _ same _ e₂ st₂
 
   -- step 4
   first-leg : (y : Entry) → Leg f y (privileged (i .geometry) 4 Keep) (halt false (Blank f)) (halt false (Wrote f 0))

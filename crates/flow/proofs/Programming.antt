@@ -15,7 +15,7 @@ use Rattle.flow.proofs.Counting.{length-words}
 use Rattle.flow.proofs.Legs.{core, Leg, halt, leg-pieces}
 use Rattle.flow.proofs.Listing.{ListReturned, listing}
 use Rattle.flow.proofs.Lists.{Small, sent-bytes, length-part, take-sets, sets-whole}
-use Rattle.flow.proofs.Phases.{Valid, Wrote, call4, call6, steady-4, steady-6}
+use Rattle.flow.proofs.Phases.{Valid, Wrote, plain-call}
 use Rattle.flow.proofs.Reaches.{Frame, split}
 use Rattle.flow.proofs.Table.{Facts}
 use Rattle.image.specs.Image.{Image}
@@ -72,44 +72,30 @@ module _ {i : Image} (f : Frame i) (fx : Facts (i .geometry)) (v : Valid i) (r :
       ∙ ap (λ (y : List ℕ). y ++ row) done
       ∙ sym (take-add (r * rowBytes (i .geometry)) (rowBytes (i .geometry)) (i .flash)))
 
-  wrote : (k : ℕ) (b b₁ b₂ : Target) → Wrote f r k (core b) → ListReturned (i .geometry) 4 rowList b b₁ → ListReturned (i .geometry) 6 ((key 6 + r * 0x10000) ∷ []) b₁ b₂
+  wrote : (k : ℕ) (b b₁ b₂ : Target) → Wrote f r k (core b) → ListReturned f 4 rowList b b₁ → ListReturned f 6 ((key 6 + r * 0x10000) ∷ []) b₁ b₂
       → Wrote f (suc r) k (core b₂)
   wrote k b b₁ b₂ w r₁ r₂ =
       let m : b₂ .memory ≡ withFlash (sets (b .memory .flash) (r * rowBytes (i .geometry)) row) (withLatch row (b .memory)) =
       r₂ .memory ∙ rw (r₁ .memory) (row-memory (b .effect) (b₁ .effect) PARAMS PARAMS (r₁ .behind) (r₂ .behind) (b .memory) (w .sized .latch)) in
       record {
-        opened = record {
-          right = w .opened .right;
-          silicon = r₂ .silicon ∙ r₁ .silicon ∙ w .opened .silicon;
-          effect = r₂ .effect ∙ r₁ .effect ∙ w .opened .effect;
-          room = rw (r₂ .room, r₁ .room) (w .opened .room);
-          quiet = r₂ .ended;
-        };
+        opened = r₂ .opened;
         sized = record {
           flash = ap (λ (x : Memory). length (x .flash)) m ∙ length-sets (b .memory .flash) (r * rowBytes (i .geometry)) row ∙ w .sized .flash;
           locks = ap (λ (x : Memory). length (x .locks)) m ∙ w .sized .locks;
           latch = ap (λ (x : Memory). length (x .latch)) m ∙ row-size;
         };
         done = ap (λ (x : Memory). take (suc r * rowBytes (i .geometry)) (x .flash)) m ∙ row-done (b .memory .flash) (w .sized .flash) (w .done);
-        level = ap (λ (x : Memory). x .stored) m ∙ w .level;
+        level = r₂ .level;
         kept = w .kept;
       }
-
-  stored-4 : (b b₁ : Target) → b .memory .stored ≡ 1 → ListReturned (i .geometry) 4 rowList b b₁ → b₁ .memory .stored ≡ 1
-  unfolding effectOf
-  stored-4 b b₁ h r₁ = ap (λ (x : Memory). x .stored) (r₁ .memory) ∙ h
 
   row-leg : (y : Entry) → Leg f y (programRow i r) (halt false (Wrote f r)) (halt false (Wrote f (suc r)))
   unfolding programRow
   row-leg y = record {
     along = λ n x k later κ e b w st next.
-        listing f fx 5 4 rowList (call4 .command) (split (listed (i .geometry) 5 4 rowList) (listed (i .geometry) 5 6 ((key 6 + r * 0x10000) ∷ [])) later κ st)
-        (omega (arith, length-words (i .flash) (r * rowBytes (i .geometry)) (rowBytes (i .geometry) / 4))) (w .opened .room) (w .opened .effect) (w .opened .quiet)
-        (f .safeOpen (w .opened .right) (b .memory) (w .level)) refl (λ y r b′ he hm _. f .safeOpen (w .opened .right) _ (steady-4 (i .geometry) y r b′ ∙ ap (λ (x : Memory). x .stored) hm ∙ w .level))
-        (call4 .ready _ _) (call4 .good _ _) λ b₁ r₁ n₁ e₁ st₁.
-        listing f fx 5 6 ((key 6 + r * 0x10000) ∷ []) (call6 .command) st₁ (omega arith) (rw (r₁ .room) (w .opened .room)) (r₁ .effect ∙ w .opened .effect) (r₁ .ended)
-        (f .safeOpen (w .opened .right) _ (stored-4 b b₁ (w .level) r₁)) refl (λ y r b′ he hm _. f .safeOpen (w .opened .right) _ (steady-6 (i .geometry) y r b′ ∙ ap (λ (x : Memory). x .stored) hm ∙ stored-4 b b₁ (w .level) r₁))
-        (call6 .ready _ _) (call6 .good _ _) λ b₂ r₂ n₂ e₂ st₂.
+        listing f fx 5 4 rowList (plain-call 4 (omega arith) refl refl) refl (omega (arith, length-words (i .flash) (r * rowBytes (i .geometry)) (rowBytes (i .geometry) / 4)))
+        (split (listed (i .geometry) 5 4 rowList) (listed (i .geometry) 5 6 ((key 6 + r * 0x10000) ∷ [])) later κ st) (w .opened) (w .level) λ b₁ r₁ n₁ e₁ st₁.
+        listing f fx 5 6 ((key 6 + r * 0x10000) ∷ []) (plain-call 6 (omega arith) refl refl) refl (omega arith) st₁ (r₁ .opened) (r₁ .level) λ b₂ r₂ n₂ e₂ st₂.
         next k b₂ (wrote k b b₁ b₂ w r₁ r₂) n₂ _ e₂ st₂;
   }
 
