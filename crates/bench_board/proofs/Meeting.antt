@@ -82,14 +82,14 @@ module _ (g : Geometry) (fs ks ps : List ℕ) (q : Request) (e : LineEvent) (o :
   abbrev metFor : (x : Left) (b : Buffers) → Bool → Flow.Met
   metFor x b z =
       let t = targetOf x r b in
-      met (not (killed t) && not z && carriedOut (e .outcome)) g q e (listsOf x e o)
+      met (not (killed t) && not z && carriedOut (e .outcome)) g q (listsOf x e o)
       (cond (killed t) (silentReply (e .filler)) (replyTo (e .outcome) z (isRead q) (gives q t) (e .filler))) t
 
   barred-so : (x : Left) (b : Buffers) → barred g q (targetOf x r b) ≡ bars
   unfolding barred
   barred-so x b = ap (λ (s : Place). eqb (r .effect) 2 && overDrw q && guarded s) (sym at) ∙ sym shut
 
-  met-so : (x : Left) (b : Buffers) → transferred g q e (listsOf x e o) (targetOf x r b) ≡ metFor x b bars
+  met-so : (x : Left) (b : Buffers) → transferred g q (listsOf x e o) (targetOf x r b) ≡ metFor x b bars
   unfolding transferred
   met-so x b = ap (λ (z : Bool). metFor x b z) (barred-so x b)
 
@@ -99,7 +99,7 @@ module _ (g : Geometry) (fs ks ps : List ℕ) (q : Request) (e : LineEvent) (o :
   abbrev metThrough : (x : Left) (b : Buffers) → Bool → Flow.Met
   metThrough x b z =
       let t = targetOf x r b in
-      met z g q e (listsOf x e o)
+      met z g q (listsOf x e o)
       (cond (killed t) (silentReply (e .filler)) (replyTo (e .outcome) bars (isRead q) (gives q t) (e .filler))) t
 
   abbrev saidBy : (x : Left) (b : Buffers) → Reply
@@ -107,7 +107,7 @@ module _ (g : Geometry) (fs ks ps : List ℕ) (q : Request) (e : LineEvent) (o :
       let t = targetOf x r b in cond (killed t) (silentReply (e .filler)) (replyTo (e .outcome) bars (isRead q) (gives q t) (e .filler))
 
   pub carried-out : (n : Change) (s : Bool) → through ≡ true → Carries g fs ks ps q (e .other) o p r n → Calls q p s
-      → Decides fs ks ps r e o (record { change = n; answer = Transferred a; «line_used» = true; «call_used» = s }) (λ l t. transferred g q e l t)
+      → Decides fs ks ps r e o (record { change = n; answer = Transferred a; «line_used» = true; «call_used» = s }) (λ l t. transferred g q l t)
   carried-out n s h m k x b hf hk hp =
       ap (λ (t : Target). told x t a s) (m at x b hf hk hp)
       ∙ ap (λ (y : Reply). told x (carry g q (e .other) (callOutcomeOf x o) (targetOf x r b)) y s) (said x b)
@@ -116,7 +116,7 @@ module _ (g : Geometry) (fs ks ps : List ℕ) (q : Request) (e : LineEvent) (o :
       ∙ sym (met-so x b)
 
   pub left-out : through ≡ false
-      → Decides fs ks ps r e o (record { change = keeping r; answer = Transferred a; «line_used» = true; «call_used» = false }) (λ l t. transferred g q e l t)
+      → Decides fs ks ps r e o (record { change = keeping r; answer = Transferred a; «line_used» = true; «call_used» = false }) (λ l t. transferred g q l t)
   left-out h x b hf hk hp =
       ap (λ (y : Reply). told x (targetOf x r b) y false) (said x b)
       ∙ sym (ap (λ (z : Bool). metThrough x b z) h)
@@ -130,10 +130,10 @@ module _ (g : Geometry) (fs ks ps : List ℕ) (q : Request) (e : LineEvent) (o :
   meet-as d k h m x b hf hk hp =
       m x b hf hk hp ∙ sym (ap (λ (t : Request). meetOn g (Known t) (listsOf x e o) (targetOf x r b)) h)
 
-  pub meet-transfer : (d : Decision) (k : Request) → q ≡ k → Decides fs ks ps r e o d (λ l t. transferred g q e l t)
-      → Decides fs ks ps r e o d (λ l t. transferred g k e l t)
+  pub meet-transfer : (d : Decision) (k : Request) → q ≡ k → Decides fs ks ps r e o d (λ l t. transferred g q l t)
+      → Decides fs ks ps r e o d (λ l t. transferred g k l t)
   meet-transfer d k h m x b hf hk hp =
-      m x b hf hk hp ∙ ap (λ (t : Request). transferred g t e (listsOf x e o) (targetOf x r b)) h
+      m x b hf hk hp ∙ ap (λ (t : Request). transferred g t (listsOf x e o) (targetOf x r b)) h
 
   -- a reset: neither list is used
   abbrev resetMet : (x : Left) → Target → Flow.Met

@@ -125,7 +125,7 @@ pub(crate) fn transfer(
     e: LineEvent,
     o: CallOutcome,
 ) -> Decision
-    ensures { λ d. ⌜ Decides (now (flash .entry)) (now (locks .entry)) (now (params .entry)) r e o d (λ l t. transferred g q e l t) ⌝ }
+    ensures { λ d. ⌜ Decides (now (flash .entry)) (now (locks .entry)) (now (params .entry)) r e o d (λ l t. transferred g q l t) ⌝ }
 {
     let at = bench_map::place_of(g, r.tar);
     let barred = bench_map::bars(r.effect, q, at);

@@ -4,13 +4,11 @@ use mathlib.Core.Path.{_≡_, refl, sym, ap, _∙_}
 use Prim.Native.Nat.{ℕ, zero, suc, _+_, _-_, _*_, _/_, _%_, _≤_, _<_, min}
 use native.Mathlib.Omega.{arith}
 use lib.ListN.{length, getD, set, take, drop, replicate, length-set, length-append, length-replicate, length-drop}
-use lib.Seq.{sets, getD-drop, take-length, take-all, length-take-le}
+use lib.Seq.{sets, getD-drop, take-all, length-take-le}
 use Rattle.flow.specs.Calls.{bytesIn}
-use Rattle.flow.specs.Target.{lay, sized}
-use Rattle.flow.proofs.Lists.{lay-whole}
+use Rattle.flow.specs.Target.{sized}
+use Rattle.flow.proofs.Lists.{sets-whole}
 use Rattle.lent.specs.Words.{lowFirst}
-
--- ---- laying is storing byte by byte
 
 sets-cons : (y : ℕ) (l : List ℕ) (o : ℕ) (x : List ℕ) → sets (y ∷ l) (suc o) x ≡ y ∷ sets l o x
 sets-cons y l o [] = refl
@@ -22,16 +20,6 @@ sets-out l o [] h = refl
 sets-out [] o (v ∷ x) h = sets-out [] (suc o) x (omega arith)
 sets-out (y ∷ l) zero (v ∷ x) h = absurd (omega arith)
 sets-out (y ∷ l) (suc o) (v ∷ x) h = sets-cons y l o (v ∷ x) ∙ ap (λ (r : List ℕ). y ∷ r) (sets-out l o (v ∷ x) (omega arith))
-
-pub lay-sets : (l : List ℕ) (o : ℕ) (x : List ℕ) → lay l o x ≡ sets l o x
-lay-sets [] o x = sym (sets-out [] o x (omega arith))
-lay-sets (y ∷ l) zero [] = take-length (y ∷ l)
-lay-sets (y ∷ l) zero (v ∷ x) =
-    let e : 0 + suc (length x) ≡ suc (0 + length x) = omega arith in
-    rw e (ap (λ (r : List ℕ). v ∷ r) (lay-sets l zero x) ∙ sym (sets-cons v l zero x))
-lay-sets (y ∷ l) (suc o) x =
-    let e : suc o + length x ≡ suc (o + length x) = omega arith in
-    rw e (ap (λ (r : List ℕ). y ∷ r) (lay-sets l o x) ∙ sym (sets-cons y l o x))
 
 -- ---- a loop that lays xs from the front
 
@@ -49,20 +37,17 @@ lay-turn d₀ a i j v xs d e p q h = rw (e, p, q) (go d₀ a i xs h)
         rw (e, f) (go (set d a x) (suc a) i xs (omega arith))
 
 -- the end: n bytes are laid, or all of xs, or there is no more room
-pub lay-end : (d : List ℕ) (a i n : ℕ) (xs : List ℕ) → i ≡ min (min n (length xs)) (length d - a) → sets d a (take i xs) ≡ lay d a (take n xs)
-lay-end d a i n xs h = go d a i n xs h ∙ sym (lay-sets d a (take n xs))
-  where
-    go : (d : List ℕ) (a i n : ℕ) (xs : List ℕ) → i ≡ min (min n (length xs)) (length d - a) → sets d a (take i xs) ≡ sets d a (take n xs)
-    go d a zero zero xs h = refl
-    go d a (suc i) zero xs h = absurd (omega arith)
-    go d a zero (suc n) [] h = refl
-    go d a (suc i) (suc n) [] h = refl
-    go d a zero (suc n) (x ∷ xs) h = sym (sets-out d a (x ∷ take n xs) (omega arith))
-    go d a (suc i) (suc n) (x ∷ xs) h = go (set d a x) (suc a) i n xs (rw (length-set d a x) (omega arith))
+pub lay-end : (d : List ℕ) (a i n : ℕ) (xs : List ℕ) → i ≡ min (min n (length xs)) (length d - a) → sets d a (take i xs) ≡ sets d a (take n xs)
+lay-end d a zero zero xs h = refl
+lay-end d a (suc i) zero xs h = absurd (omega arith)
+lay-end d a zero (suc n) [] h = refl
+lay-end d a (suc i) (suc n) [] h = refl
+lay-end d a zero (suc n) (x ∷ xs) h = sym (sets-out d a (x ∷ take n xs) (omega arith))
+lay-end d a (suc i) (suc n) (x ∷ xs) h = lay-end (set d a x) (suc a) i n xs (rw (length-set d a x) (omega arith))
 
 -- where there is no room nothing is laid
-pub lay-none : (d : List ℕ) (a : ℕ) (xs : List ℕ) → length d ≤ a → d ≡ lay d a xs
-lay-none d a xs h = sym (lay-sets d a xs ∙ sets-out d a xs h)
+pub lay-none : (d : List ℕ) (a : ℕ) (xs : List ℕ) → length d ≤ a → d ≡ sets d a xs
+lay-none d a xs h = sym (sets-out d a xs h)
 
 -- ---- bytes cut or filled to the size of d
 
@@ -88,7 +73,7 @@ module _ (d src : List ℕ) where
       go (x ∷ s) (suc i) = go s i
 
   pub fit-end : (i : ℕ) → i ≡ length d → sets d 0 (take i filled) ≡ sized d src
-  fit-end i e = rw e (sym (lay-sets d 0 (sized d src)) ∙ lay-whole d (sized d src) (length-take-le (length d) filled filled-room))
+  fit-end i e = rw e (sets-whole d (sized d src) (length-take-le (length d) filled filled-room))
 
 -- nothing, filled, is zeros
 pub fit-zeros : (d : List ℕ) → sized d [] ≡ replicate (length d) 0
@@ -131,7 +116,7 @@ list-length ps = bytes-length (drop 2 ps) ∙ rw (length-drop 2 ps)
 
 -- the end of a loop that lays them
 pub list-end : (d ps : List ℕ) (i n end : ℕ) → i ≤ end → end ≤ i → end ≡ min (min n (length d)) (4 * (length ps - 2))
-    → sets d 0 (take i (bytesIn (drop 2 ps))) ≡ lay d 0 (take n (bytesIn (drop 2 ps)))
+    → sets d 0 (take i (bytesIn (drop 2 ps))) ≡ sets d 0 (take n (bytesIn (drop 2 ps)))
 list-end d ps i n end h k e =
     let f : i ≡ min (min n (4 * (length ps - 2))) (length d - 0) = omega arith in
     lay-end d 0 i n (bytesIn (drop 2 ps)) (rw (list-length ps) f)

@@ -3,16 +3,17 @@ ghost use mathlib.Core.List.{[], _∷_};
 ghost use mathlib.Core.Path.{_≡_};
 ghost use Prim.Native.Nat.{_-_, _*_, min};
 ghost use lib.ListN.{getD, take, drop};
+ghost use lib.Seq.{sets};
 ghost use Rattle.bench_effects.specs.Acts.{buffersAfter};
 ghost use Rattle.bench_effects.specs.Lent.{lent, left};
 ghost use Rattle.flow.specs.Calls.{bytesIn};
-ghost use Rattle.flow.specs.Target.{lay, sized};
+ghost use Rattle.flow.specs.Target.{sized};
 ghost use Rattle.lent.specs.Words.{lowFirst};
 use bench_effects::Act;
 
 // Puts a word into PARAMS, where it has the place.
 fn put_word(params: &mut [u32], k: usize, w: u32)
-    ensures { λ _. ⌜ now (params .exit) ≡ lay (now (params .entry)) k (w ∷ []) ⌝ }
+    ensures { λ _. ⌜ now (params .exit) ≡ sets (now (params .entry)) k (w ∷ []) ⌝ }
 {
     if k < params.len() {
         params[k] = w;
@@ -21,7 +22,7 @@ fn put_word(params: &mut [u32], k: usize, w: u32)
 
 // Lays the first n bytes of src over dst from `at` on; dst keeps its size.
 fn overlay(dst: &mut [u8], at: usize, src: &[u8], n: usize)
-    ensures { λ _. ⌜ now (dst .exit) ≡ lay (now (dst .entry)) at (take n (now (src .entry))) ⌝ }
+    ensures { λ _. ⌜ now (dst .exit) ≡ sets (now (dst .entry)) at (take n (now (src .entry))) ⌝ }
 {
     if dst.len() <= at {
         return;
@@ -47,7 +48,7 @@ fn fit(dst: &mut [u8], src: &[u8])
 
 // Fills the latch from byte 0 with n bytes of the list past its second word, the low byte of each word first.
 fn fill_latch(latch: &mut [u8], params: &[u32], n: usize)
-    ensures { λ _. ⌜ now (latch .exit) ≡ lay (now (latch .entry)) 0 (take n (bytesIn (drop 2 (now (params .entry))))) ⌝ }
+    ensures { λ _. ⌜ now (latch .exit) ≡ sets (now (latch .entry)) 0 (take n (bytesIn (drop 2 (now (params .entry))))) ⌝ }
 {
     let end = held(params.len(), least(n, latch.len()));
     let mut i: usize = 0;

@@ -5,7 +5,7 @@ use mathlib.Core.Path.{_≡_, refl, ap}
 use Rattle.bench_board.specs.Meets.{listsOf}
 use Rattle.dry.specs.Playing.{noLists, nothing, calmEvent, calmOutcome}
 use Rattle.flow.specs.Exchange.{Met, decode, killed, barred, met, callsOn, transferred, meetOn, meet}
-use Rattle.flow.specs.Target.{Target, Lists, nextEvent}
+use Rattle.flow.specs.Target.{Target, Lists}
 use Rattle.flow.specs.declared.Decoded.{Decoded}
 use Rattle.flow.specs.declared.Decoded.the-variants.{Known, Unknown}
 use Rattle.flow.specs.declared.Packet.{Packet}
@@ -29,7 +29,7 @@ cond-same true x = refl
 cond-same false x = refl
 
 module _ (g : Geometry) (b : Target) where
-  by-outcome : (q : Request) (t : Bool) (a : Reply) → SameMet (met t g q (nextEvent []) handed a b) (met t g q (nextEvent []) noLists a b)
+  by-outcome : (q : Request) (t : Bool) (a : Reply) → SameMet (met t g q handed a b) (met t g q noLists a b)
   by-outcome q false a = record { target = refl; answer = refl; lists = refl }
   by-outcome q true a = record {
     target = refl;
@@ -37,7 +37,7 @@ module _ (g : Geometry) (b : Target) where
     lists = ap (λ (l : List _). record { line = []; calls = l }) (cond-same (callsOn g q b) []);
   }
 
-  same-transfer : (q : Request) → SameMet (transferred g q (nextEvent []) handed b) (transferred g q (nextEvent []) noLists b)
+  same-transfer : (q : Request) → SameMet (transferred g q handed b) (transferred g q noLists b)
   unfolding transferred
   same-transfer q = by-outcome q (not (killed b) && not (barred g q b) && true) _
 

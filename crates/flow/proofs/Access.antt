@@ -22,7 +22,7 @@ use Rattle.flow.specs.declared.Place.the-variants.{InFlash, InLocks, InP
 use Rattle.flow.specs.declared.Purpose.{Purpose}
 use Rattle.flow.specs.declared.Request.the-variants.{ReadDrw, WriteTar, WriteDrw}
 use Rattle.flow.proofs.Decoding.{aTar, aDrw, aRead}
-use Rattle.flow.proofs.Reaches.{Allowance, withTransfer, withMoves, Env, tally, seen, sync, after, Frame, Lasting, Stood, Stands, Turn, without, same-running, not-idle, Reaches}
+use Rattle.flow.proofs.Reaches.{Allowance, withTransfer, withMoves, Env, tally, seen, sync, after, Frame, Lasting, OnPlan, OnPlanFor, Turn, without, same-running, not-idle, Reaches}
 use Rattle.flow.proofs.Transfer.{transfer}
 use Rattle.flow.specs.declared.Way.the-variants.{Onward}
 use Rattle.image.specs.Image.{Image}
@@ -116,9 +116,9 @@ same-calls false l = refl
 
 module _ {i : Image} (f : Frame i) where
   module _ (s a w : ℕ) {z : Bool} {y : Entry} {n : ℕ} {ms : List Move} {κ : Allowance} {e : Env} {p c k : ℕ} {b : Target} {t : Watch} where
-    write-any : Stands f y n (write s a w) ms κ e → (pc : Place) → place (i .geometry) a ≡ pc → Admits (b .effect) pc → Lasting (f .Safe z) b
+    write-any : OnPlanFor f (position y n) (write s a w) ms κ e → (pc : Place) → place (i .geometry) a ≡ pc → Admits (b .effect) pc → Lasting (f .Safe z) b
         → Lasting (f .Safe z) (store w (nextOutcome (e .lists .calls)) pc (setTar a b))
-        → (next : (e′ : Env) → e′ .lists .calls ≡ cond (isCall w && isSysreq pc) (rest (e .lists .calls)) (e .lists .calls) → Stood f y (suc (suc n)) ms κ e′
+        → (next : (e′ : Env) → e′ .lists .calls ≡ cond (isCall w && isSysreq pc) (rest (e .lists .calls)) (e .lists .calls) → OnPlan f y (suc (suc n)) ms κ e′
         → Reaches f z (after (Go Onward (tally p c k)) (position y (suc n)) s (store w (nextOutcome (e .lists .calls)) pc (setTar a b)) (noticeStore (isCall w) pc (seen noWaits p c (aimed a t) (e′ .delays))) e′))
         → Reaches f z (sync (position y n) (tally p c k) b t e)
     unfolding write withMoves carry judge noticed
@@ -129,8 +129,8 @@ module _ {i : Image} (f : Frame i) where
         rw (hp, h₁) (next e₂ (rw (hp, h₁) at h₂) st₂)
 
     -- a Write elsewhere than SYSREQ
-    pub write-reaches : Stands f y n (write s a w) ms κ e → (pc : Place) → place (i .geometry) a ≡ pc → Admits (b .effect) pc → Lasting (f .Safe z) b → Lasting (f .Safe z) (store w (nextOutcome (e .lists .calls)) pc (setTar a b)) → isSysreq pc ≡ false
-        → (next : (e′ : Env) → e′ .lists .calls ≡ e .lists .calls → Stood f y (suc (suc n)) ms κ e′
+    pub write-reaches : OnPlanFor f (position y n) (write s a w) ms κ e → (pc : Place) → place (i .geometry) a ≡ pc → Admits (b .effect) pc → Lasting (f .Safe z) b → Lasting (f .Safe z) (store w (nextOutcome (e .lists .calls)) pc (setTar a b)) → isSysreq pc ≡ false
+        → (next : (e′ : Env) → e′ .lists .calls ≡ e .lists .calls → OnPlan f y (suc (suc n)) ms κ e′
         → Reaches f z (sync (position y (suc (suc n))) (tally p c k) (store w (nextOutcome (e .lists .calls)) pc (setTar a b)) (aimed a t) e′))
         → Reaches f z (sync (position y n) (tally p c k) b t e)
     write-reaches st pc hp ok safe safe′ hs next =
@@ -139,21 +139,21 @@ module _ {i : Image} (f : Frame i) where
 
   -- the Write of SYSREQ that starts a call
   pub call-reaches : (s a w : ℕ) {z : Bool} {y : Entry} {n : ℕ} {ms : List Move} {κ : Allowance} {e : Env} {c k : ℕ} {b : Target} {t : Watch}
-      → Stands f y n (write s a w) ms κ e → place (i .geometry) a ≡ AtSysreq → Admits (b .effect) AtSysreq → Lasting (f .Safe z) b → Lasting (f .Safe z) (begin true w (nextOutcome (e .lists .calls)) (setTar a b)) → isCall w ≡ true
-      → (next : (e′ : Env) → e′ .lists .calls ≡ rest (e .lists .calls) → Stood f y (suc (suc n)) ms κ e′
+      → OnPlanFor f (position y n) (write s a w) ms κ e → place (i .geometry) a ≡ AtSysreq → Admits (b .effect) AtSysreq → Lasting (f .Safe z) b → Lasting (f .Safe z) (begin true w (nextOutcome (e .lists .calls)) (setTar a b)) → isCall w ≡ true
+      → (next : (e′ : Env) → e′ .lists .calls ≡ rest (e .lists .calls) → OnPlan f y (suc (suc n)) ms κ e′
       → Reaches f z (sync (position y (suc (suc n))) (tally 0 c k) (begin true w (nextOutcome (e .lists .calls)) (setTar a b)) (record { tar = a; counts = false; polling = true; due = true }) e′))
       → Reaches f z (sync (position y n) (tally 0 c k) b t e)
   call-reaches s a w st hp ok safe safe′ hc next = write-any s a w st AtSysreq hp ok safe (rw hc safe′) λ e′ h st′. rw hc (next e′ (rw hc at h) st′)
 
   module _ (s a : ℕ) (u : Purpose) {z : Bool} {y : Entry} {n : ℕ} {ms : List Move} {κ : Allowance} {e : Env} {p c k : ℕ} {b : Target} {t : Watch} where
     -- any Read: the target after the first DRW read, and after the second
-    pub read-any : {z₁ z₂ : Bool} → Stood f y n (read s a u ++ ms) (withTransfer (withTransfer (withTransfer κ))) e → (pc : Place) → place (i .geometry) a ≡ pc → Admits (b .effect) pc → Lasting (f .Safe z) b
+    pub read-any : {z₁ z₂ : Bool} → OnPlan f y n (read s a u ++ ms) (withTransfer (withTransfer (withTransfer κ))) e → (pc : Place) → place (i .geometry) a ≡ pc → Admits (b .effect) pc → Lasting (f .Safe z) b
         → (b₁ : ℕ → Target) (b₂ : ℕ → ℕ → Target)
         → ((o : ℕ) → fetch (i .geometry) o pc (setTar a b) ≡ b₁ o) → ((o o′ : ℕ) → fetch (i .geometry) o′ pc (b₁ o) ≡ b₂ o o′)
         → ((o : ℕ) → (b₁ o) .tar ≡ a) → ((o : ℕ) → (b₁ o) .effect ≡ b .effect)
         → ((o : ℕ) → Lasting (f .Safe z₁) (b₁ o)) → ((o o′ : ℕ) → Lasting (f .Safe z₂) (b₂ o o′))
         → ((o : ℕ) → Turn s z (setTar a b) (b₁ o) z₁) → ((o o′ : ℕ) → Turn s z₁ (b₁ o) (b₂ o o′) z₂)
-        → (next : (o o′ : ℕ) (e′ : Env) → e′ .lists .calls ≡ e .lists .calls → Stood f y (suc (suc (suc n))) ms κ e′
+        → (next : (o o′ : ℕ) (e′ : Env) → e′ .lists .calls ≡ e .lists .calls → OnPlan f y (suc (suc (suc n))) ms κ e′
         → Reaches f z₂ (after (judge i u (tally p c k) ((b₁ o) .posted)) (position y (suc (suc n))) s (b₂ o o′) (noticeRead pc ((b₁ o) .posted) (seen noWaits p c (aimed a t) (e′ .delays))) e′))
         → Reaches f z (sync (position y n) (tally p c k) b t e)
     unfolding read withMoves judge noticed
@@ -172,9 +172,9 @@ module _ {i : Image} (f : Frame i) where
         there o = ap (place (i .geometry)) (ht o) ∙ hp
 
     -- a Read of a place that nothing moves; v o is the word there, whatever is posted
-    pub read-still : Stood f y n (read s a u ++ ms) (withTransfer (withTransfer (withTransfer κ))) e → (pc : Place) → place (i .geometry) a ≡ pc → Admits (b .effect) pc → Lasting (f .Safe z) b
+    pub read-still : OnPlan f y n (read s a u ++ ms) (withTransfer (withTransfer (withTransfer κ))) e → (pc : Place) → place (i .geometry) a ≡ pc → Admits (b .effect) pc → Lasting (f .Safe z) b
         → (v : ℕ → ℕ) → ((o z : ℕ) → fetch (i .geometry) o pc (aim a z b) ≡ aim a (v o) b)
-        → (next : (o o′ : ℕ) (e′ : Env) → e′ .lists .calls ≡ e .lists .calls → Stood f y (suc (suc (suc n))) ms κ e′
+        → (next : (o o′ : ℕ) (e′ : Env) → e′ .lists .calls ≡ e .lists .calls → OnPlan f y (suc (suc (suc n))) ms κ e′
         → Reaches f z (after (judge i u (tally p c k) (v o)) (position y (suc (suc n))) s (aim a (v o′) b) (noticeRead pc (v o) (seen noWaits p c (aimed a t) (e′ .delays))) e′))
         → Reaches f z (sync (position y n) (tally p c k) b t e)
     read-still st pc hp ok safe v still next =

@@ -25,13 +25,13 @@ use Rattle.flow.specs.declared.Request.the-variants.{LineReset, ReadIdco
 use Rattle.flow.specs.declared.Silicon.{Silicon}
 use Rattle.flow.proofs.Access.{Answering, admits, write-reaches, read-still}
 use Rattle.flow.proofs.Attempts.{barred-off, xres-reaches, trying, attempts}
-use Rattle.flow.proofs.Calling.{Command, ordinary, calling, free-zero}
+use Rattle.flow.proofs.Calling.{ids, imo, still-call, free-zero}
 use Rattle.flow.proofs.Decoding.{aCtrl, aSelect, aCsw}
-use Rattle.flow.proofs.Legs.{Core, core, Leg}
-use Rattle.flow.proofs.Phases.{call15, same-core}
+use Rattle.flow.proofs.Legs.{Core, core, Leg, halt}
+use Rattle.flow.proofs.Phases.{plain-call}
 use Rattle.flow.proofs.Places.{place-sysreq, place-sysarg, place-test}
 use Rattle.flow.proofs.Polling.{idleAt, poll-idle}
-use Rattle.flow.proofs.Reaches.{Allowance, withTransfer, withRead, withRequest, withMoves, Env, sync, rightSilicon, Frame, Lasting, at-rest, Stood, Stands, less-room, without, same-running, Reaches, tally, seen, after}
+use Rattle.flow.proofs.Reaches.{Allowance, withTransfer, withRead, withRequest, withMoves, Env, sync, rightSilicon, Frame, Lasting, at-rest, OnPlan, OnPlanFor, less-room, without, same-running, Reaches, tally, seen, after}
 use Rattle.flow.proofs.Table.{Facts}
 use Rattle.flow.proofs.Transfer.{transfer}
 use Rattle.image.specs.Image.{Image}
@@ -60,37 +60,18 @@ acquired-with p = record {
   idcode = p .idcode;
 }
 
--- calls that alter nothing, failed or not
-pub still-15 : (g : Geometry) (y : Bool) (r : Residue) (b : Target) → (finish g y r 0x15 b) .memory ≡ b .memory
-unfolding finish effectOf afterFailure
-still-15 g true r b = refl
-still-15 g false r b = refl
-
-pub still-0 : (g : Geometry) (y : Bool) (r : Residue) (b : Target) → (finish g y r 0 b) .memory ≡ b .memory
-unfolding finish effectOf afterFailure
-still-0 g true r b = refl
-still-0 g false r b = refl
-
-effect-15 : (g : Geometry) (l a : ℕ) (ps : List ℕ) (m : Memory) → effectOf g 0x15 l a ps m ≡ m
-unfolding effectOf
-effect-15 g l a ps m = refl
-
-effect-0 : (g : Geometry) (l a : ℕ) (ps : List ℕ) (m : Memory) → effectOf g 0 l a ps m ≡ m
-unfolding effectOf
-effect-0 g l a ps m = refl
-
 module _ {i : Image} (f : Frame i) (fx : Facts (i .geometry)) (y : Entry) (m : Memory) (answering : Answering (m .stored)) (safe : f .Safe false m) where
   stays : (b : Target) → b .memory ≡ m → f .Safe false (b .memory)
   stays b e = rw e safe
 
-  imo-leg : (n : ℕ) → Leg f false false y (imoCall (i .geometry) n) (Acquired f m) (Acquired f m)
+  imo-leg : (n : ℕ) → Leg f y (imoCall (i .geometry) n) (halt false (Acquired f m)) (halt false (Acquired f m))
   unfolding imoCall withMoves
   imo-leg zero = record { along = λ n x k later κ e b p st next. next k b p n x e st }
   imo-leg (suc z) = record {
     along = λ n x k later κ e b p st next.
-        calling f fx 1 0x15 (key 0x15) (call15 .command) st (rw (p .effect) answering) (p .fresh .quiet) (stays b (p .fresh .memory))
-        (λ r. rw (still-15 (i .geometry) true r _) (stays b (p .fresh .memory))) (λ r. rw (still-15 (i .geometry) false r _) (stays b (p .fresh .memory))) (ordinary (λ r. refl)) (call15 .ready _ _) (call15 .good _ _) λ b′ ret n′ e′ st′.
-        next k b′ (subst (Acquired f m k) (sym (same-core ret (ret .memory ∙ effect-15 _ _ _ _ _) (p .fresh .quiet))) p) n′ _ e′ st′;
+        let plain = plain-call 0x15 (omega arith) refl refl in
+        still-call f fx 1 (key 0x15) imo st (rw (p .effect) answering) (p .fresh .quiet) (stays b (p .fresh .memory)) (plain .ready _ _) (plain .good _ _) λ b′ ret same n′ e′ st′.
+        next k b′ (subst (Acquired f m k) (sym same) p) n′ _ e′ st′;
   }
 
   -- step 1 behind the attempts
@@ -101,13 +82,13 @@ module _ {i : Image} (f : Frame i) (fx : Facts (i .geometry)) (y : Entry) (m : M
       ∷ move 1 (WriteSetup Csw 2) Sent
       ∷ (write 1 TEST-MODE 0x80000000 ++ (read 1 TEST-MODE TestBit ++ (poll (i .geometry) 1 ++ imoCall (i .geometry) (imoOf (i .geometry)))))
 
-  thirty : {n : ℕ} {ms : List Move} (κ : Allowance) {e : Env} → Stood f y n ms (withRequest LineReset Sent (withRequest ReadIdcode Idcode κ)) e → Stood f y n ms (trying f 29 κ) e
+  thirty : {n : ℕ} {ms : List Move} (κ : Allowance) {e : Env} → OnPlan f y n ms (withRequest LineReset Sent (withRequest ReadIdcode Idcode κ)) e → OnPlan f y n ms (trying f 29 κ) e
   thirty κ st = less-room (30 + κ .room) (omega arith) st
 
-  one-poll : {n : ℕ} {ms : List Move} (κ : Allowance) {e : Env} → Stood f y n ms (withTransfer (withTransfer (withRead Poll κ))) e → Stood f y n ms (withTransfer (withTransfer (withTransfer κ))) e
+  one-poll : {n : ℕ} {ms : List Move} (κ : Allowance) {e : Env} → OnPlan f y n ms (withTransfer (withTransfer (withRead Poll κ))) e → OnPlan f y n ms (withTransfer (withTransfer (withTransfer κ))) e
   one-poll κ st = less-room (17 + (17 + (17 + κ .room))) (omega arith) st
 
-  pub acquire-leg : Leg f false false y (acquire (i .geometry)) (Fresh f m) (Acquired f m)
+  pub acquire-leg : Leg f y (acquire (i .geometry)) (halt false (Fresh f m)) (halt false (Acquired f m))
   unfolding acquire write read withMoves carry judge testBitSet noticed noticeRead
   acquire-leg = record {
     along = λ n x k later κ e b p st next.
@@ -136,29 +117,26 @@ pub record Bytes (x : Silicon) : Type 0 where
   pub revision : x .revision < 256
   pub family : x .family < 256
 
-command0 : Command 0
-command0 = record { started = refl; number = refl }
-
 free-0 : (x : Silicon) (l : ℕ) → Bytes x → l < 16 → free (sysreqAfter 0 x l) ≡ true
 unfolding free sysreqAfter
-free-0 x l hb hl = rw (eq-eqb ((l * 4096 + x .family) / 2147483648 % 2) 0 (omega arith), eq-eqb ((l * 4096 + x .family) / 268435456 % 2) 0 (omega arith))
+free-0 x l hb hl = rw (eq-eqb ((l * 0x1000 + x .family) / 0x80000000 % 2) 0 (omega arith), eq-eqb ((l * 0x1000 + x .family) / 0x10000000 % 2) 0 (omega arith))
 
 good-0 : (x : Silicon) (m : Memory) → Bytes x → succeeded (sysargAfter 0 x m) ≡ true
 unfolding succeeded sysargAfter
-good-0 x m hb = eq-eqb ((0xA0000000 + x .revision * 65536 + x .high * 256 + x .low) / 268435456 % 16) 0xA (omega arith)
+good-0 x m hb = eq-eqb ((0xA0000000 + x .revision * 0x10000 + x .high * 0x100 + x .low) / 0x10000000 % 16) 0xA (omega arith)
 
 -- what step 2 reads is what the target is
 pub ids-read : (i : Image) (x : Silicon) (m : Memory) (l : ℕ) → Bytes x → idsFit (i .geometry) (i .header) (sysargAfter 0 x m) (sysreqAfter 0 x l) ≡ rightSilicon i x
 unfolding idsFit rightSilicon sysargAfter sysreqAfter
 ids-read i x m l hb = rw (high, low, family)
   where
-    high : (0xA0000000 + x .revision * 65536 + x .high * 256 + x .low) / 256 % 256 ≡ x .high
+    high : (0xA0000000 + x .revision * 0x10000 + x .high * 0x100 + x .low) / 256 % 256 ≡ x .high
     high = omega arith
 
-    low : (0xA0000000 + x .revision * 65536 + x .high * 256 + x .low) % 256 ≡ x .low
+    low : (0xA0000000 + x .revision * 0x10000 + x .high * 0x100 + x .low) % 256 ≡ x .low
     low = omega arith
 
-    family : (l * 4096 + x .family) % 256 ≡ x .family
+    family : (l * 0x1000 + x .family) % 256 ≡ x .family
     family = omega arith
 
 pub level-read : (x : Silicon) (l : ℕ) → Bytes x → l < 16 → levelIn (sysreqAfter 0 x l) ≡ l
@@ -173,18 +151,17 @@ module _ {i : Image} (f : Frame i) (fx : Facts (i .geometry)) (m : Memory) (answ
       (watching (seen noWaits 0 0 (idleAt (sysreqOf (i .geometry))) (e .delays))) e
 
   pub silicon-reaches : (u : Purpose) {y : Entry} {n x k : ℕ} {ms : List Move} {κ : Allowance} {e : Env} {b : Target} → Acquired f m k (core b)
-      → Stands f y n (call (i .geometry) 2 0 (key 0)) (read 2 (sysargOf (i .geometry)) Keep ++ (read 2 (sysreqOf (i .geometry)) u ++ ms)) (withTransfer (withTransfer (withTransfer (withTransfer (withTransfer (withTransfer κ)))))) e
-      → (next : (b′ : Target) → core b′ ≡ core b → (n′ : ℕ) (e′ : Env) → Stood f y (suc n′) ms κ e′ → Reaches f false (identified u y n′ k b′ e′))
+      → OnPlanFor f (position y n) (call (i .geometry) 2 0 (key 0)) (read 2 (sysargOf (i .geometry)) Keep ++ (read 2 (sysreqOf (i .geometry)) u ++ ms)) (withTransfer (withTransfer (withTransfer (withTransfer (withTransfer (withTransfer κ)))))) e
+      → (next : (b′ : Target) → core b′ ≡ core b → (n′ : ℕ) (e′ : Env) → OnPlan f y (suc n′) ms κ e′ → Reaches f false (identified u y n′ k b′ e′))
       → Reaches f false (sync (position y n) (tally 0 0 k) b (idleAt x) e)
   unfolding judge noticeRead
   silicon-reaches u {b = b} p st next =
       let sf : f .Safe false (b .memory) = rw (p .fresh .memory) safe in
       let ready : free (sysreqAfter 0 (b .silicon) (b .effect)) ≡ true = rw (p .fresh .silicon, p .effect) (free-0 (f .silicon) (m .stored) hb hl) in
       let good : succeeded (sysargAfter 0 (b .silicon) (b .memory)) ≡ true = rw (p .fresh .silicon, p .fresh .memory) (good-0 (f .silicon) m hb) in
-      calling f fx 2 0 (key 0) command0 st (rw (p .effect) answering) (p .fresh .quiet) sf (λ r. rw (still-0 (i .geometry) true r _) sf) (λ r. rw (still-0 (i .geometry) false r _) sf) (ordinary (λ r. refl)) ready good λ b₁ ret n₁ e₁ st₁.
-      let same : core b₁ ≡ core b = same-core ret (ret .memory ∙ effect-0 _ _ _ _ _) (p .fresh .quiet) in
+      still-call f fx 2 (key 0) ids st (rw (p .effect) answering) (p .fresh .quiet) sf ready good λ b₁ ret same n₁ e₁ st₁.
       let answers : Answering (b₁ .effect) = rw (ret .effect, p .effect) answering in
-      let sf₁ : f .Safe false (b₁ .memory) = rw (ret .memory, effect-0) sf in
+      let sf₁ : f .Safe false (b₁ .memory) = rw (ap (λ (c : Core). c .memory) same) sf in
       let arg : b₁ .sysarg ≡ sysargAfter 0 (f .silicon) m = ret .sysarg ∙ rw (p .fresh .silicon, p .fresh .memory) in
       let req : b₁ .sysreq ≡ sysreqAfter 0 (f .silicon) (m .stored) = ret .sysreq ∙ rw (p .fresh .silicon, p .effect) in
       read-still f 2 (sysargOf (i .geometry)) Keep st₁ AtSysarg (place-sysarg (i .geometry) fx) (admits (b₁ .effect) AtSysarg refl answers) (at-rest (f .Safe false) b₁ (ret .ended) sf₁)

@@ -8,22 +8,22 @@ use Rattle.flow.specs.Calls.{bytesIn, effectOf, sysargAfter, sysreqAfter
 use Rattle.flow.specs.Examples.{partOne}
 use Rattle.flow.specs.Exchange.{Met, decode, carry, barred, noisyAck, transferred, meet}
 use Rattle.flow.specs.Map.{search, regions, lockRegions}
-use Rattle.flow.specs.Target.{Target, Lists, nextEvent}
+use Rattle.flow.specs.Target.{Target, Lists}
 use Rattle.flow.specs.declared.Request.the-variants.{ReadIdcode, ReadDrw, WriteTar, WriteDrw}
 use Rattle.lent.specs.Words.{total, wordAt}
 use Rattle.parts.specs.Sizes.{rowsOf, locksIn, flashSize, lockStart}
 
 -- a packet of a known request is met as that request
-byIdcode : (l : Lists) (b : Target) {m : Met} → transferred partOne ReadIdcode (nextEvent (l .line)) l b ≡ m → after ReadIdcode l b ≡ m
+byIdcode : (l : Lists) (b : Target) {m : Met} → transferred partOne ReadIdcode l b ≡ m → after ReadIdcode l b ≡ m
 byIdcode l b e = meets partOne attempt l b ∙ e
 
-byRead : (l : Lists) (b : Target) {m : Met} → transferred partOne ReadDrw (nextEvent (l .line)) l b ≡ m → after ReadDrw l b ≡ m
+byRead : (l : Lists) (b : Target) {m : Met} → transferred partOne ReadDrw l b ≡ m → after ReadDrw l b ≡ m
 byRead l b e = meets partOne (plain aRead) l b ∙ e
 
-byTar : (a : ℕ) (l : Lists) (b : Target) {m : Met} → transferred partOne (WriteTar a) (nextEvent (l .line)) l b ≡ m → after (WriteTar a) l b ≡ m
+byTar : (a : ℕ) (l : Lists) (b : Target) {m : Met} → transferred partOne (WriteTar a) l b ≡ m → after (WriteTar a) l b ≡ m
 byTar a l b e = meets partOne (plain aTar) l b ∙ e
 
-byWrite : (w : ℕ) (l : Lists) (b : Target) {m : Met} → transferred partOne (WriteDrw w) (nextEvent (l .line)) l b ≡ m → after (WriteDrw w) l b ≡ m
+byWrite : (w : ℕ) (l : Lists) (b : Target) {m : Met} → transferred partOne (WriteDrw w) l b ≡ m → after (WriteDrw w) l b ≡ m
 byWrite w l b e = meets partOne (plain aDrw) l b ∙ e
 
 pub transfer-examples : TransferExamples

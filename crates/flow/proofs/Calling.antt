@@ -1,10 +1,11 @@
 -- A call, whatever the line and the target do. Assumes nothing.
 use mathlib.Core.Bool.{Bool, true, false}
-use mathlib.Core.List.{List, _++_}
-use mathlib.Core.Path.{_≡_, refl}
-use Prim.Native.Nat.{ℕ, _+_, _*_, _/_, _%_}
+use mathlib.Core.List.{List, [], _++_}
+use mathlib.Core.Path.{_≡_, refl, sym}
+use Prim.Native.Nat.{ℕ, _+_, _*_, _/_, _%_, _<_}
 use native.Mathlib.Omega.{arith}
 use lib.Dec.{eqb, lit≤}
+use borrow.Author.Tests.{le-leb}
 use Rattle.flow.specs.Calls.{finish, afterFailure, effectOf, sysargAfter, sysreqAfter, failedArg, listAt}
 use Rattle.flow.specs.Session.{position}
 use Rattle.flow.specs.Terms.{CalmCalls, callsEnd, calmCall}
@@ -20,9 +21,10 @@ use Rattle.flow.specs.declared.Move.{Move}
 use Rattle.flow.specs.declared.Place.the-variants.{AtSysreq, AtSysarg}
 use Rattle.flow.specs.declared.Purpose.the-variants.{Status}
 use Rattle.flow.proofs.Access.{aim, Answering, admits, write-reaches, call-reaches, read-still}
+use Rattle.flow.proofs.Legs.{core}
 use Rattle.flow.proofs.Places.{place-sysreq, place-sysarg}
 use Rattle.flow.proofs.Polling.{idleAt, during, looping, loopAt, poll-busy}
-use Rattle.flow.proofs.Reaches.{Allowance, withTransfer, withMoves, Env, sync, Frame, at-rest, Stood, Stands, less-room, Turn, without, reopening, sealing, and-false, Reaches, stop, tally}
+use Rattle.flow.proofs.Reaches.{Allowance, withTransfer, withMoves, Env, sync, Frame, at-rest, OnPlan, OnPlanFor, less-room, Turn, without, reopening, sealing, and-false, Reaches, stop, tally}
 use Rattle.flow.proofs.Table.{Facts}
 use Rattle.image.specs.Image.{Image}
 use Rattle.parts.specs.Sizes.{sysreqOf, sysargOf}
@@ -32,6 +34,9 @@ use Rattle.parts.specs.declared.Geometry.{Geometry}
 pub record Command (c : ℕ) : Type 0 where
   pub started : isCall (0x80000000 + c) ≡ true
   pub number : (0x80000000 + c) % 256 ≡ c
+
+pub command : (c : ℕ) → c < 256 → Command c
+command c low = record { started = le-leb 0x80000000 (0x80000000 + c) (omega arith); number = omega arith }
 
 -- the target once the call is asked for, but for what is under way
 abbrev pub asked : (c w : ℕ) → Target → Target
@@ -72,15 +77,35 @@ calm-idle (calmCall h h′ c) = h
 
 pub failed : (w : ℕ) → succeeded (failedArg w) ≡ false
 unfolding succeeded
-failed w = by (eqb (w / 268435456 % 16) 0xA) refl
+failed w = by (eqb (w / 0x10000000 % 16) 0xA) refl
   where
-    by : (t : Bool) → eqb (w / 268435456 % 16) 0xA ≡ t → eqb (failedArg w / 268435456 % 16) 0xA ≡ false
+    by : (t : Bool) → eqb (w / 0x10000000 % 16) 0xA ≡ t → eqb (failedArg w / 0x10000000 % 16) 0xA ≡ false
     by true h = rw h
     by false h = rw h h
 
 pub free-zero : free 0 ≡ true
 unfolding free
 free-zero = refl
+
+-- calls that alter nothing, failed or not
+pub data Harmless : ℕ → Type 0 where
+  ids : Harmless 0
+  sums : Harmless 0x0B
+  imo : Harmless 0x15
+
+pub still : {c : ℕ} → Harmless c → (g : Geometry) (y : Bool) (r : Residue) (b : Target) → (finish g y r c b) .memory ≡ b .memory
+unfolding finish effectOf afterFailure
+still ids g true r b = refl
+still ids g false r b = refl
+still sums g true r b = refl
+still sums g false r b = refl
+still imo g true r b = refl
+still imo g false r b = refl
+
+no-lock : {c : ℕ} → Harmless c → record { low : c < 256; other : eqb c 0x0D ≡ false }
+no-lock ids = record { low = omega arith; other = refl }
+no-lock sums = record { low = omega arith; other = refl }
+no-lock imo = record { low = omega arith; other = refl }
 
 -- SYSARG of a failed call says no success
 fails-without : (g : Geometry) (r : Residue) (c a v a′ v′ : ℕ) (b : Target) → succeeds0 (aim a v (during (busy 0 false r c) b)) (aim a′ v′ (finish g false r c b)) ≡ false
@@ -104,12 +129,12 @@ end-turn g {c = c} {b = b} (locking h k e) good r a v a′ v′ = sealing {b = a
 module _ {i : Image} (f : Frame i) (fx : Facts (i .geometry)) where
   -- from the poll on
   call-tail : {z z′ : Bool} (s₀ : Bool) (r₀ : Residue) (q c s : ℕ) {y : Entry} {n : ℕ} {ms : List Move} {κ : Allowance} {e : Env} {k : ℕ} (b : Target) (x u : ℕ) {v : Bool}
-      → Stood f y n (poll (i .geometry) s ++ (read s (sysargOf (i .geometry)) Status ++ ms)) (looping 9999 (withTransfer (withTransfer (withTransfer κ)))) e
+      → OnPlan f y n (poll (i .geometry) s ++ (read s (sysargOf (i .geometry)) Status ++ ms)) (looping 9999 (withTransfer (withTransfer (withTransfer κ)))) e
       → Answering (b .effect) → f .Safe z (b .memory) → ((r : Residue) → f .Safe z′ ((finish (i .geometry) true r c b) .memory)) → ((r : Residue) → f .Safe z ((finish (i .geometry) false r c b) .memory))
       → Ends s c b z z′
       → (f .Still → q ≡ 0) → (f .Still → s₀ ≡ true)
       → free (sysreqAfter c (b .silicon) (b .effect)) ≡ true → succeeded (sysargAfter c (b .silicon) (b .memory)) ≡ true
-      → (next : (b′ : Target) → Returned (i .geometry) c (b .sysarg) b b′ → (n′ : ℕ) (e′ : Env) → Stood f y n′ ms κ e′
+      → (next : (b′ : Target) → Returned (i .geometry) c (b .sysarg) b b′ → (n′ : ℕ) (e′ : Env) → OnPlan f y n′ ms κ e′
       → Reaches f z′ (sync (position y n′) (tally 0 0 k) b′ (idleAt (sysargOf (i .geometry))) e′))
       → Reaches f z (sync (position y n) (tally 0 0 k) (aim x u (during (busy q s₀ r₀ c) b)) (loopAt x v true) e)
   unfolding finish judge noticeRead
@@ -132,17 +157,17 @@ module _ {i : Image} (f : Frame i) (fx : Facts (i .geometry)) where
   cut-asked c w b lost r = lost r
 
   -- what a call may cost
-  call-allowance : (s c w : ℕ) {y : Entry} {n : ℕ} (ms : List Move) (κ : Allowance) {e : Env} → Stands f y n (call (i .geometry) s c w) ms κ e
-      → Stood f y n (call (i .geometry) s c w ++ ms) (withTransfer (withTransfer (withTransfer (withTransfer (looping 9999 (withTransfer (withTransfer (withTransfer κ)))))))) e
+  call-allowance : (s c w : ℕ) {y : Entry} {n : ℕ} (ms : List Move) (κ : Allowance) {e : Env} → OnPlanFor f (position y n) (call (i .geometry) s c w) ms κ e
+      → OnPlan f y n (call (i .geometry) s c w ++ ms) (withTransfer (withTransfer (withTransfer (withTransfer (looping 9999 (withTransfer (withTransfer (withTransfer κ)))))))) e
   unfolding call write read withMoves
   call-allowance s c w ms κ st = less-room (17 + (17 + (17 + (17 + (51 * 10000 + (17 + (17 + (17 + κ .room)))))))) (omega arith) st
 
   pub calling : {z z′ : Bool} (s c w : ℕ) {y : Entry} {n : ℕ} {ms : List Move} {κ : Allowance} {e : Env} {k : ℕ} {b : Target} {t : Watch}
-      → Command c → Stands f y n (call (i .geometry) s c w) ms κ e
+      → Command c → OnPlanFor f (position y n) (call (i .geometry) s c w) ms κ e
       → Answering (b .effect) → b .running ≡ idle → f .Safe z (b .memory) → ((r : Residue) → f .Safe z′ ((finish (i .geometry) true r c (asked c w b)) .memory)) → ((r : Residue) → f .Safe z ((finish (i .geometry) false r c (asked c w b)) .memory))
       → Ends s c (asked c w b) z z′
       → free (sysreqAfter c (b .silicon) (b .effect)) ≡ true → succeeded (sysargAfter c (b .silicon) (b .memory)) ≡ true
-      → (next : (b′ : Target) → Returned (i .geometry) c w b b′ → (n′ : ℕ) (e′ : Env) → Stood f y n′ ms κ e′
+      → (next : (b′ : Target) → Returned (i .geometry) c w b b′ → (n′ : ℕ) (e′ : Env) → OnPlan f y n′ ms κ e′
       → Reaches f z′ (sync (position y n′) (tally 0 0 k) b′ (idleAt (sysargOf (i .geometry))) e′))
       → Reaches f z (sync (position y n) (tally 0 0 k) b t e)
   unfolding call write read withMoves
@@ -153,3 +178,22 @@ module _ {i : Image} (f : Frame i) (fx : Facts (i .geometry)) where
       call-tail ((nextOutcome (e₁ .lists .calls)) .succeeds) ((nextOutcome (e₁ .lists .calls)) .residue) ((nextOutcome (e₁ .lists .calls)) .busyReads) c s (asked c w b) (sysreqOf (i .geometry)) (b .posted)
       st₂ answering safe won lost ends (λ still. calm-idle ((st₁ .calm still) .calls)) (λ still. calm-success ((st₁ .calm still) .calls)) ready good
       λ b′ ret n′ e′ st′. next b′ (record { silicon = ret .silicon; effect = ret .effect; params = ret .params; memory = ret .memory; sysarg = ret .sysarg; sysreq = ret .sysreq; ended = ret .ended }) n′ e′ st′)
+
+  -- a call that alters nothing
+  pub still-call : {z : Bool} (s : ℕ) {c : ℕ} (w : ℕ) {y : Entry} {n : ℕ} {ms : List Move} {κ : Allowance} {e : Env} {k : ℕ} {b : Target} {t : Watch}
+      → Harmless c → OnPlanFor f (position y n) (call (i .geometry) s c w) ms κ e → Answering (b .effect) → b .running ≡ idle → f .Safe z (b .memory)
+      → free (sysreqAfter c (b .silicon) (b .effect)) ≡ true → succeeded (sysargAfter c (b .silicon) (b .memory)) ≡ true
+      → (next : (b′ : Target) → Returned (i .geometry) c w b b′ → core b′ ≡ core b → (n′ : ℕ) (e′ : Env) → OnPlan f y n′ ms κ e′
+      → Reaches f z (sync (position y n′) (tally 0 0 k) b′ (idleAt (sysargOf (i .geometry))) e′))
+      → Reaches f z (sync (position y n) (tally 0 0 k) b t e)
+  unfolding finish
+  still-call {z} s {c} w {b = b} h st answering quiet safe ready good next =
+      calling s c w (command c ((no-lock h) .low)) st answering quiet safe
+      (λ r. rw (still h (i .geometry) true r (asked c w b)) safe) (λ r. rw (still h (i .geometry) false r (asked c w b)) safe) (ordinary (λ r. rw ((no-lock h) .other)))
+      ready good λ b′ ret n′ e′ st′. next b′ ret (same b′ ret) n′ e′ st′
+    where
+      memory : b .memory ≡ effectOf (i .geometry) c (b .effect) w (listAt w (b .params)) (b .memory)
+      memory = sym (still h (i .geometry) true ((nextOutcome []) .residue) (asked c w b))
+
+      same : (b′ : Target) → Returned (i .geometry) c w b b′ → core b′ ≡ core b
+      same b′ ret = rw (ret .silicon, ret .memory, ← memory, ret .effect, ret .params, ret .ended, quiet)

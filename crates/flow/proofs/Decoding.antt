@@ -7,7 +7,7 @@ use lib.Dec.{eqb}
 use borrow.Author.Tests.{eq-eqb}
 use Rattle.flow.specs.Exchange.{decode, transferred, meet}
 use Rattle.flow.specs.Packets.{packetOf}
-use Rattle.flow.specs.Target.{Target, Lists, nextEvent}
+use Rattle.flow.specs.Target.{Target, Lists}
 use Rattle.flow.specs.declared.Decoded.{Decoded}
 use Rattle.flow.specs.declared.Decoded.the-variants.{Known, Unknown}
 use Rattle.flow.specs.declared.Request.{Request}
@@ -43,7 +43,7 @@ decodes (plain (aCtrl {w = w})) = understood w (Known (WriteSetup CtrlStat w))
 decodes (plain (aSelect {w = w})) = understood w (Known (WriteSetup Select w))
 decodes (plain (aCsw {w = w})) = understood w (Known (WriteSetup Csw w))
 
-pub meets : (g : Geometry) {q : Request} → Wired q → (l : Lists) (b : Target) → meet g (packetOf q) l b ≡ transferred g q (nextEvent (l .line)) l b
+pub meets : (g : Geometry) {q : Request} → Wired q → (l : Lists) (b : Target) → meet g (packetOf q) l b ≡ transferred g q l b
 unfolding meet
 meets g attempt l b = rw (decodes attempt)
 meets g (plain (aTar {a = w})) l b = rw (decodes (plain (aTar {a = w})))

@@ -17,7 +17,7 @@ use Rattle.flow.specs.Target.{Target, Lists}
 use Rattle.flow.specs.declared.Silicon.{Silicon}
 use Rattle.flow.proofs.Counting.{total, one-more}
 use Rattle.flow.proofs.Entering.{Goes, byOpen, byProtected, start-reaches}
-use Rattle.flow.proofs.Frames.{Sound, not-virgin, Held, Why, mishap, otherId, otherPart, Stopped, Finished, frame, start-stands}
+use Rattle.flow.proofs.Frames.{Sound, not-virgin, Held, Why, mishap, otherId, otherPart, Stopped, Finished, frame, start-on-plan}
 use Rattle.flow.proofs.Passing.{table-facts, valid}
 use Rattle.flow.proofs.Phases.{Level, isOpen, isProtected}
 use Rattle.flow.proofs.Reaches.{rightSilicon, RightIds, Frame, Lasting, at-rest, Bounded, going, Reaches, here, stop, step}
@@ -102,32 +102,26 @@ module _ (i : Image) (lv : Level (i .header .level)) (b : Target) (l : Lists) wh
 
   fair : (n : ℕ) {z : Bool} (r : Run) → Reaches ours z r → Fair (runAfter i n r)
   unfolding runAfter frame
-  fair zero r (here g) = done (g .1)
-  fair zero r (stop s) = ended s
-  fair zero r (step g safe most clean turn more) = onWay g (soundly (r .target) safe) clean
-  fair (suc n) r (here g) = rw (stays i (suc n) r (finished-ends (g .1))) (done (g .1))
-  fair (suc n) r (stop s) = rw (stays i (suc n) r (stopped-ends s)) (ended s)
-  fair (suc n) r (step g safe most clean turn more) = fair n (advance i r) more
+  fair n r (here g) = rw (stays i n r (finished-ends (g .1))) (done (g .1))
+  fair n r (stop s) = rw (stays i n r (stopped-ends s)) (ended s)
+  fair zero r (step w turn more) = onWay (w .goes) (soundly (r .target) (w .safe)) (w .clear)
+  fair (suc n) r (step w turn more) = fair n (advance i r) more
 
   bounded : (n : ℕ) {z : Bool} (r : Run) → Reaches ours z r → (going (r .session) ≡ false → Bounded ours (r .traffic)) → Bounded ours (handedOut i (runAfter i n r))
   unfolding runAfter frame
-  bounded zero r (here g) h = rw (stands-none i (r .session) (r .traffic) (finished-ends (g .1))) (h (finished-ends (g .1)))
-  bounded zero r (stop s) h = rw (stands-none i (r .session) (r .traffic) (stopped-ends s)) (h (stopped-ends s))
-  bounded zero r (step g safe most clean turn more) h = most
-  bounded (suc n) r (here g) h = rw (stays i (suc n) r (finished-ends (g .1)), stands-none i (r .session) (r .traffic) (finished-ends (g .1))) (h (finished-ends (g .1)))
-  bounded (suc n) r (stop s) h = rw (stays i (suc n) r (stopped-ends s), stands-none i (r .session) (r .traffic) (stopped-ends s)) (h (stopped-ends s))
-  bounded (suc n) r (step g safe most clean turn more) h = bounded n (advance i r) more (λ _. rw (met-traffic i r g) most)
+  bounded n r (here g) h = let e = finished-ends (g .1) in rw (stays i n r e, stands-none i (r .session) (r .traffic) e) (h e)
+  bounded n r (stop s) h = let e = stopped-ends s in rw (stays i n r e, stands-none i (r .session) (r .traffic) e) (h e)
+  bounded zero r (step w turn more) h = w .most
+  bounded (suc n) r (step w turn more) h = bounded n (advance i r) more (λ _. rw (met-traffic i r (w .goes)) (w .most))
 
   comes : (n : ℕ) {z : Bool} (r : Run) → Reaches ours z r → total (ours .most) ≤ n + total (r .traffic) → going ((runAfter i n r) .session) ≡ false
   unfolding runAfter frame
-  comes zero r (here g) h = finished-ends (g .1)
-  comes zero r (stop s) h = stopped-ends s
-  comes zero r (step g safe most clean turn more) h =
-      absurd (omega (arith, stands-one i (r .session) (r .traffic) g, most .transfers, most .xresets, most .lineResets))
-  comes (suc n) r (here g) h = rw (stays i (suc n) r (finished-ends (g .1))) (finished-ends (g .1))
-  comes (suc n) r (stop s) h = rw (stays i (suc n) r (stopped-ends s)) (stopped-ends s)
-  comes (suc n) r (step g safe most clean turn more) h =
-      comes n (advance i r) more (omega (arith, ap total (met-traffic i r g), stands-one i (r .session) (r .traffic) g))
+  comes n r (here g) h = rw (stays i n r (finished-ends (g .1))) (finished-ends (g .1))
+  comes n r (stop s) h = rw (stays i n r (stopped-ends s)) (stopped-ends s)
+  comes zero r (step w turn more) h =
+      absurd (omega (arith, stands-one i (r .session) (r .traffic) (w .goes), w .most .transfers, w .most .xresets, w .most .lineResets))
+  comes (suc n) r (step w turn more) h =
+      comes n (advance i r) more (omega (arith, ap total (met-traffic i r (w .goes)), stands-one i (r .session) (r .traffic) (w .goes)))
 
   -- a reported session, taken apart
   as-report : (s : SessionState) → going s ≡ false → record { number : ℕ; step : ℕ; sent : ℕ; is : s ≡ reported number step sent }
@@ -267,7 +261,7 @@ module _ (g : Geometry) (h : Header) (bytes : List ℕ) (p : Passes g h bytes) (
   way =
       start-reaches (frame i lv b l) (table-facts g h bytes p) (valid g h bytes p) (record { high = s .high; low = s .low; revision = s .revision; family = s .family }) (b .memory)
       (record { flash = s .flash; locks = s .locks; latch = s .latch }) (level-sound b (s .level), (λ q. absurd (false≢true q))) (goes b (s .level))
-      (record { silicon = refl; memory = refl; room = s .params; quiet = s .quiet }) (start-stands i (table-facts g h bytes p) (frame i lv b l) b l refl refl (λ c. c))
+      (record { silicon = refl; memory = refl; room = s .params; quiet = s .quiet }) (start-on-plan i (table-facts g h bytes p) (frame i lv b l) b l refl refl (λ c. c))
 
   fair-after : (n : ℕ) → Fair i lv b l (runAfter i n (started b l))
   fair-after n = fair i lv b l n (started b l) way

@@ -39,7 +39,7 @@ never-fewer (WriteSetup r w) t = omega arith
 one-xres : (q : Request) (t : Traffic) → q ≡ Xres → (counting q t) .xresets ≡ suc (t .xresets)
 one-xres q t e = rw e
 
--- ---- where a session stands
+-- ---- where a session early-at
 
 module _ (i : Image) (m₀ : Memory) where
   -- in steps 1 and 2 nothing is altered; past the first XRES, and past the second
@@ -48,9 +48,9 @@ module _ (i : Image) (m₀ : Memory) where
     pub one : 1 ≤ n → 1 ≤ x
     pub two : y ≡ FromProtected → start i + 11 ≤ n → 2 ≤ x
 
-  abbrev Stands : SessionState → Target → (xresets : ℕ) → Type 0
-  Stands (running p c h) b x = Under (p .entry) (p .at) b x
-  Stands (reported number step h) b x = step ≤ 2 → x ≤ 1 → b .memory ≡ m₀
+  abbrev EarlyAt : SessionState → Target → (xresets : ℕ) → Type 0
+  EarlyAt (running p c h) b x = Under (p .entry) (p .at) b x
+  EarlyAt (reported number step h) b x = step ≤ 2 → x ≤ 1 → b .memory ≡ m₀
 
   module _ (y : Entry) (n : ℕ) (b b′ : Target) (t : Traffic) (u : Under y n b (t .xresets)) (kept : n < start i → Untouched m₀ b′) where
     abbrev m : Move
@@ -79,23 +79,23 @@ module _ (i : Image) (m₀ : Memory) where
             omega (arith, one-xres (m .request) t ((late-move i y n (omega arith)) .xres e at), u .one (omega arith))
         by false l = omega (arith, u .two e (ltb-false n (start i + 11) l), grew)
 
-    stands : {z : Next} (h : ℕ) → Leads m z → Stands (standAfter z (position y n) (m .step) h) b′ x
-    stands h onward = record { before = λ l. kept (omega arith); one = λ _. counted-one; two = counted-two }
-    stands h stays = record { before = kept; one = λ l. counted-one; two = λ e l. omega (arith, u .two e l, grew) }
-    stands h (retries e) = record { before = by (ltb n (start i)) refl; one = λ l. counted-one; two = λ e l. omega (arith, u .two e (omega arith), grew) }
+    early-at : {z : Next} (h : ℕ) → Leads m z → EarlyAt (standAfter z (position y n) (m .step) h) b′ x
+    early-at h onward = record { before = λ l. kept (omega arith); one = λ _. counted-one; two = counted-two }
+    early-at h stays = record { before = kept; one = λ l. counted-one; two = λ e l. omega (arith, u .two e l, grew) }
+    early-at h (retries e) = record { before = by (ltb n (start i)) refl; one = λ l. counted-one; two = λ e l. omega (arith, u .two e (omega arith), grew) }
       where
         by : (q : Bool) → ltb n (start i) ≡ q → n - 1 < start i → Untouched m₀ b′
         by true l h = kept (ltb-true n (start i) l)
         by false l h = absurd (omega (arith, (late-move i y n (ltb-false n (start i) l)) .attempt e, ltb-false n (start i) l))
-    stands h (polls e) = record { before = by (ltb n (start i)) refl; one = λ l. counted-one; two = λ e l. omega (arith, u .two e (omega arith), grew) }
+    early-at h (polls e) = record { before = by (ltb n (start i)) refl; one = λ l. counted-one; two = λ e l. omega (arith, u .two e (omega arith), grew) }
       where
         by : (q : Bool) → ltb n (start i) ≡ q → n - 2 < start i → Untouched m₀ b′
         by true l h = kept (ltb-true n (start i) l)
         by false l h = absurd (omega (arith, (late-move i y n (ltb-false n (start i) l)) .poll e, ltb-false n (start i) l))
-    stands h (enters e) =
+    early-at h (enters e) =
         let last : suc n ≡ start i = rw e at ((proper-at i y n) .reports) in
         record { before = λ l. absurd (omega arith); one = λ _. counted-one; two = λ _ l. absurd (omega arith) }
-    stands h (stops some) = by (ltb n (start i)) refl
+    early-at h (stops some) = by (ltb n (start i)) refl
       where
         by : (q : Bool) → ltb n (start i) ≡ q → m .step ≤ 2 → x ≤ 1 → b′ .memory ≡ m₀
         by true l low few = (kept (ltb-true n (start i) l)) .memory
@@ -112,7 +112,7 @@ module _ (i : Image) (m₀ : Memory) where
                 behind false c = omega (arith, u .two e (ltb-false n (start i + 11) c), grew)
 
   abbrev Early : Run → Type 0
-  Early r = Stands (r .session) (r .target) (r .traffic .xresets)
+  Early r = EarlyAt (r .session) (r .target) (r .traffic .xresets)
 
   goes-on : (r : Run) → Early r → Early (advance i r)
   unfolding advance stepOf
@@ -123,7 +123,7 @@ module _ (i : Image) (m₀ : Memory) where
           let m = moveAt i p in
           let u : Under (p .entry) (p .at) (r .target) (r .traffic .xresets) = rw is at e in
           let x = meet (i .geometry) (packetOf (m .request)) (r .lists) (r .target) in
-          stands (p .entry) (p .at) (r .target) (x .target) (r .traffic) u
+          early-at (p .entry) (p .at) (r .target) (x .target) (r .traffic) u
           (λ l. meet-untouched (i .geometry) (m .request) ((proper-at i (p .entry) (p .at)) .meant) (early-move i (p .entry) (p .at) l) (r .lists) (r .target) (u .before l))
           (counted (m .request) h) (leads i m (x .answer) c)
       by (reported number step h) is = e

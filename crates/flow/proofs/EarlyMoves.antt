@@ -19,7 +19,8 @@ use Rattle.flow.specs.declared.Purpose.{Purpose}
 use Rattle.flow.specs.declared.Purpose.the-variants.{Sent, TestBit, Poll, Status, Keep, EntryLevel}
 use Rattle.flow.specs.declared.Request.the-variants.{Xres, WriteDrw}
 use Rattle.flow.proofs.Moves.{All, none, more, joined, anywhere, all-open, all-call}
-use Rattle.flow.proofs.Untouched.{Harmless, ids, imo, Mild}
+use Rattle.flow.proofs.Calling.{Harmless, ids, imo}
+use Rattle.flow.proofs.Untouched.{Mild}
 use Rattle.image.specs.Image.{Image}
 use Rattle.parts.specs.Sizes.{imoOf}
 use Rattle.parts.specs.declared.Geometry.{Geometry}

@@ -27,9 +27,9 @@ use Rattle.flow.proofs.Finishing.{Blank, nothing, program-reaches}
 use Rattle.flow.proofs.Legs.{core}
 use Rattle.flow.proofs.Listing.{ListReturned, listing}
 use Rattle.flow.proofs.Lists.{total-zero}
-use Rattle.flow.proofs.Phases.{Valid, Sized, callA, callD, steady-A}
+use Rattle.flow.proofs.Phases.{Valid, Sized, plain-call, callD}
 use Rattle.flow.proofs.Polling.{idleAt}
-use Rattle.flow.proofs.Reaches.{withMoves, Env, sync, rightSilicon, RightIds, Frame, at-rest, Stood, Stands, split, Reaches, stop, tally, seen, after}
+use Rattle.flow.proofs.Reaches.{withMoves, Env, sync, rightSilicon, RightIds, Frame, at-rest, OnPlan, OnPlanFor, split, Reaches, stop, tally, seen, after}
 use Rattle.flow.proofs.Table.{Facts}
 use Rattle.image.specs.Image.{Image}
 use Rattle.parts.specs.Sizes.{sysargOf, sysreqOf}
@@ -86,29 +86,28 @@ some-moves i = omega arith
 
 module _ {i : Image} (f : Frame i) (fx : Facts (i .geometry)) (v : Valid i) (hb : Bytes (f .silicon)) (m : Memory) (sz : Sized f m) (safe : f .Safe false m) where
   -- OPEN: erase, then steps 4 to 9
-  open-reaches : {n x k : ℕ} {e : Env} {b : Target} → RightIds i (f .silicon) → m .stored ≡ 1 → Acquired f m k (core b) → Stands f FromOpen n (afterwards i FromOpen) [] nothing e
+  open-reaches : {n x k : ℕ} {e : Env} {b : Target} → RightIds i (f .silicon) → m .stored ≡ 1 → Acquired f m k (core b) → OnPlanFor f (position FromOpen n) (afterwards i FromOpen) [] nothing e
       → Reaches f false (sync (position FromOpen n) (tally 0 0 k) b (idleAt x) e)
   unfolding afterwards
   open-reaches {b = b} right one p st =
-      listing f fx 3 0x0A (key 0x0A ∷ []) (callA .command) (split (listed (i .geometry) 3 0x0A (key 0x0A ∷ [])) (program i) [] nothing st) (omega arith)
-      (p .fresh .room) (p .effect ∙ one) (p .fresh .quiet) (rw (p .fresh .memory) safe) refl
-      (λ y r b′ _ hm _. f .safeOpen right _ (steady-A (i .geometry) y r b′ ∙ ap (λ (z : Memory). z .stored) (hm ∙ p .fresh .memory) ∙ one)) (callA .ready _ _) (callA .good _ _) λ b₁ r₁ n₁ e₁ st₁.
+      listing f fx 3 0x0A (key 0x0A ∷ []) (plain-call 0x0A (omega arith) refl refl) refl (omega arith) (split (listed (i .geometry) 3 0x0A (key 0x0A ∷ [])) (program i) [] nothing st)
+      (record { right = right; silicon = p .fresh .silicon; effect = p .effect ∙ one; room = p .fresh .room; quiet = p .fresh .quiet }) (rw (p .fresh .memory) one) λ b₁ r₁ n₁ e₁ st₁.
       program-reaches f fx v (blank b₁ r₁) st₁
     where
-      erased : (b₁ : Target) → ListReturned (i .geometry) 0x0A (key 0x0A ∷ []) b b₁ → b₁ .memory ≡ zeroed 1 m
+      erased : (b₁ : Target) → ListReturned f 0x0A (key 0x0A ∷ []) b b₁ → b₁ .memory ≡ zeroed 1 m
       erased b₁ r₁ = r₁ .memory ∙ effect-A _ _ _ _ _ ∙ rw (p .fresh .memory, one)
 
-      blank : (b₁ : Target) → ListReturned (i .geometry) 0x0A (key 0x0A ∷ []) b b₁ → {k : ℕ} → Blank f k (core b₁)
+      blank : (b₁ : Target) → ListReturned f 0x0A (key 0x0A ∷ []) b b₁ → {k : ℕ} → Blank f k (core b₁)
       blank b₁ r₁ = record {
-        opened = record { right = right; silicon = r₁ .silicon ∙ p .fresh .silicon; effect = r₁ .effect ∙ p .effect ∙ one; room = rw (r₁ .room) (p .fresh .room); quiet = r₁ .ended };
+        opened = r₁ .opened;
         sized = rw (erased b₁ r₁) (zeroed-sized 1 m sz);
-        level = ap (λ (z : Memory). z .stored) (erased b₁ r₁);
+        level = r₁ .level;
         erased = rw (erased b₁ r₁) (total-zero (length (m .flash)));
       }
 
   -- PROTECTED: reopen, steps 1 and 2 again, then 4 to 9
   protected-reaches : {n x k : ℕ} {e : Env} {b : Target} → RightIds i (f .silicon) → m .stored ≡ 2 → Acquired f m k (core b)
-      → Stands f FromProtected n (afterwards i FromProtected) [] nothing e → Reaches f false (sync (position FromProtected n) (tally 0 0 k) b (idleAt x) e)
+      → OnPlanFor f (position FromProtected n) (afterwards i FromProtected) [] nothing e → Reaches f false (sync (position FromProtected n) (tally 0 0 k) b (idleAt x) e)
   unfolding afterwards silicon read withMoves judge
   protected-reaches {b = b} right two p st =
       calling f fx 3 0x0D reopenWord (callD .command) (split (call (i .geometry) 3 0x0D reopenWord) (acquire (i .geometry) ++ (silicon (i .geometry) Reopened ++ program i)) [] nothing st)
@@ -137,7 +136,7 @@ module _ {i : Image} (f : Frame i) (fx : Facts (i .geometry)) (v : Valid i) (hb 
 
   -- the entry that the level decides, or another part
   decided : {y : Entry} → Goes m y → (z : Bool) → rightSilicon i (f .silicon) ≡ z → (k : ℕ) {k₁ n : ℕ} {e : Env} {b : Target} → Acquired f m k₁ (core b)
-      → Stood f FromOpen (suc n) (afterwards i FromOpen) (withMoves (afterwards i y) nothing) e
+      → OnPlan f FromOpen (suc n) (afterwards i FromOpen) (withMoves (afterwards i y) nothing) e
       → Reaches f false (after (cond z (entryBy (m .stored) (tally 0 0 k)) (Stop 20)) (position FromOpen n) 2 b (watching (seen noWaits 0 0 (idleAt (sysreqOf (i .geometry))) (e .delays))) e)
   unfolding sequence
   decided goes false h k {b = b} p st = stop {z = false} (f .wrongPart 2 b _ _ _ (at-rest (f .Safe false) b (p .fresh .quiet) (rw (p .fresh .memory) safe)) h)
@@ -159,7 +158,7 @@ module _ {i : Image} (f : Frame i) (fx : Facts (i .geometry)) (v : Valid i) (hb 
 
   -- the whole way
   pub start-reaches : {y : Entry} → Goes m y → {e : Env} {b : Target} → Fresh f m 0 (core b)
-      → Stands f FromOpen 0 (opening i) (afterwards i FromOpen) (withMoves (afterwards i y) nothing) e → Reaches f false (sync (position FromOpen 0) (tally 0 0 0) b (idleAt 0) e)
+      → OnPlanFor f (position FromOpen 0) (opening i) (afterwards i FromOpen) (withMoves (afterwards i y) nothing) e → Reaches f false (sync (position FromOpen 0) (tally 0 0 0) b (idleAt 0) e)
   unfolding opening silicon read withMoves judge
   start-reaches {y} goes p st =
       (acquire-leg f fx FromOpen m (answering-of goes) safe) .along _ _ _ _ _ _ _ p

@@ -25,13 +25,13 @@ use Rattle.flow.specs.declared.Purpose.{Purpose}
 use Rattle.flow.specs.declared.Purpose.the-variants.{Keep, StoredLevel, LastSum}
 use Rattle.flow.specs.declared.Silicon.{Silicon}
 use Rattle.flow.proofs.Access.{admits-open, read-still}
-use Rattle.flow.proofs.Calling.{Command, ordinary, calling}
-use Rattle.flow.proofs.Legs.{Core, core, Leg}
-use Rattle.flow.proofs.Phases.{Valid, Opened, Sized, Wrote, Locked, wrote-all, all-held, none-locked, first-level, same-core}
+use Rattle.flow.proofs.Calling.{sums, still-call}
+use Rattle.flow.proofs.Legs.{Core, core, Leg, halt}
+use Rattle.flow.proofs.Phases.{Valid, Opened, Sized, Wrote, Locked, wrote-all, all-held, none-locked, first-level}
 use Rattle.flow.proofs.Places.{place-sysarg}
 use Rattle.flow.proofs.Polling.{idleAt}
 use Rattle.flow.proofs.Programming.{rows-leg}
-use Rattle.flow.proofs.Reaches.{Allowance, withTransfer, withMoves, Env, sync, Frame, at-rest, Stood, Stands, split, Reaches, here, tally, seen, after}
+use Rattle.flow.proofs.Reaches.{Allowance, withTransfer, withMoves, Env, sync, Frame, at-rest, OnPlan, OnPlanFor, split, Reaches, here, tally, seen, after}
 use Rattle.flow.proofs.Table.{Facts}
 use Rattle.flow.proofs.Verifying.{flash-leg, macros-leg, level-leg}
 use Rattle.image.specs.Image.{Image}
@@ -39,16 +39,13 @@ use Rattle.lent.specs.Words.{total}
 use Rattle.parts.specs.Sizes.{rowBytes, macrosOf, rowsOf, sysargOf, levelAt}
 use Rattle.parts.specs.declared.Geometry.{Geometry}
 
-commandB : Command 0x0B
-commandB = record { started = refl; number = refl }
-
 free-B : (x : Silicon) (l : ℕ) → free (sysreqAfter 0x0B x l) ≡ true
 unfolding free sysreqAfter
 free-B x l = refl
 
 -- the privileged sum
 abbrev sumOf : Silicon → Memory → ℕ
-sumOf x m = (x .«privileged_sum» + total (m .flash)) % 268435456
+sumOf x m = (x .«privileged_sum» + total (m .flash)) % 0x10000000
 
 sysarg-B : (x : Silicon) (m : Memory) → sysargAfter 0x0B x m ≡ 0xA0000000 + sumOf x m
 unfolding sysargAfter
@@ -56,25 +53,16 @@ sysarg-B x m = refl
 
 good-B : (x : Silicon) (m : Memory) → succeeded (sysargAfter 0x0B x m) ≡ true
 unfolding succeeded
-good-B x m = rw (sysarg-B x m) (eq-eqb ((0xA0000000 + sumOf x m) / 268435456 % 16) 0xA (omega arith))
+good-B x m = rw (sysarg-B x m) (eq-eqb ((0xA0000000 + sumOf x m) / 0x10000000 % 16) 0xA (omega arith))
 
-low-28 : (x : Silicon) (m : Memory) → sysargAfter 0x0B x m % 268435456 ≡ sumOf x m
+low-28 : (x : Silicon) (m : Memory) → sysargAfter 0x0B x m % 0x10000000 ≡ sumOf x m
 low-28 x m = rw (sysarg-B x m) (omega arith)
 
-still-B : (g : Geometry) (y : Bool) (r : Residue) (b : Target) → (finish g y r 0x0B b) .memory ≡ b .memory
-unfolding finish effectOf afterFailure
-still-B g true r b = refl
-still-B g false r b = refl
-
-effect-B : (g : Geometry) (l a : ℕ) (ps : List ℕ) (m : Memory) → effectOf g 0x0B l a ps m ≡ m
-unfolding effectOf
-effect-B g l a ps m = refl
-
 -- the difference of the two sums is the flash's own sum
-sums-fit : (i : Image) (x : Silicon) (m : Memory) (k : ℕ) → k % 268435456 ≡ x .«privileged_sum» % 268435456 → m .flash ≡ i .flash → total (i .flash) % 65536 ≡ i .header .sum
+sums-fit : (i : Image) (x : Silicon) (m : Memory) (k : ℕ) → k % 0x10000000 ≡ x .«privileged_sum» % 0x10000000 → m .flash ≡ i .flash → total (i .flash) % 65536 ≡ i .header .sum
     → sumsFit (i .header) (sysargAfter 0x0B x m) k ≡ true
 unfolding sumsFit
-sums-fit i x m k hk hf hs = eq-eqb ((sysargAfter 0x0B x m % 268435456 + 268435456 - k % 268435456) % 65536) (i .header .sum) (rw (low-28 x m, hk, hf) (omega arith))
+sums-fit i x m k hk hf hs = eq-eqb ((sysargAfter 0x0B x m % 0x10000000 + 0x10000000 - k % 0x10000000) % 65536) (i .header .sum) (rw (low-28 x m, hk, hf) (omega arith))
 
 -- an erased target, OPEN in effect
 pub record Blank {i : Image} (f : Frame i) (k : ℕ) (c : Core) : Type 0 where
@@ -95,19 +83,19 @@ module _ {i : Image} (f : Frame i) (fx : Facts (i .geometry)) (v : Valid i) wher
   summed x s o b e = after x o s b (watching (seen noWaits 0 0 (idleAt (sysargOf (i .geometry))) (e .delays))) e
 
   sum-reaches : (s : ℕ) (u : Purpose) {z : Bool} {y : Entry} {n x k : ℕ} {ms : List Move} {κ : Allowance} {e : Env} {b : Target} → Opened f (core b) → f .Safe z (b .memory)
-      → Stands f y n (call (i .geometry) s 0x0B sumWord) (read s (sysargOf (i .geometry)) u ++ ms) (withTransfer (withTransfer (withTransfer κ))) e
-      → (next : (b′ : Target) → core b′ ≡ core b → (n′ : ℕ) (e′ : Env) → Stood f y (suc n′) ms κ e′ → Reaches f z (summed (judge i u (tally 0 0 k) (sysargAfter 0x0B (f .silicon) (b .memory))) s (position y n′) b′ e′))
+      → OnPlanFor f (position y n) (call (i .geometry) s 0x0B sumWord) (read s (sysargOf (i .geometry)) u ++ ms) (withTransfer (withTransfer (withTransfer κ))) e
+      → (next : (b′ : Target) → core b′ ≡ core b → (n′ : ℕ) (e′ : Env) → OnPlan f y (suc n′) ms κ e′ → Reaches f z (summed (judge i u (tally 0 0 k) (sysargAfter 0x0B (f .silicon) (b .memory))) s (position y n′) b′ e′))
       → Reaches f z (sync (position y n) (tally 0 0 k) b (idleAt x) e)
   unfolding noticeRead
   sum-reaches s u {z = z} {b = b} p safe st next =
-      calling f fx s 0x0B sumWord commandB st (inl (p .effect)) (p .quiet) safe (λ r. rw (still-B (i .geometry) true r _) safe) (λ r. rw (still-B (i .geometry) false r _) safe) (ordinary (λ r. refl)) (free-B _ _) (good-B _ _) λ b₁ ret n₁ e₁ st₁.
+      still-call f fx s sumWord {b = b} sums st (inl (p .effect)) (p .quiet) safe (free-B _ _) (good-B _ _) λ b₁ ret same n₁ e₁ st₁.
       let arg : b₁ .sysarg ≡ sysargAfter 0x0B (f .silicon) (b .memory) = ret .sysarg ∙ rw (p .silicon) in
       read-still f s (sysargOf (i .geometry)) u st₁ AtSysarg (place-sysarg (i .geometry) fx) (admits-open (b₁ .effect) AtSysarg (ret .effect ∙ p .effect))
-      (at-rest (f .Safe z) b₁ (ret .ended) (rw (ret .memory, effect-B) safe)) (λ o. sysargAfter 0x0B (f .silicon) (b .memory)) (λ o z. rw arg) λ _ _ e₂ _ st₂.
-      next _ (same-core ret (ret .memory ∙ effect-B _ _ _ _ _) (p .quiet)) _ e₂ st₂
+      (at-rest (f .Safe z) b₁ (ret .ended) (rw (ap (λ (c : Core). c .memory) same) safe)) (λ o. sysargAfter 0x0B (f .silicon) (b .memory)) (λ o z. rw arg) λ _ _ e₂ _ st₂.
+      next _ same _ e₂ st₂
 
   -- step 4
-  first-leg : (y : Entry) → Leg f false false y (privileged (i .geometry) 4 Keep) (Blank f) (Wrote f 0)
+  first-leg : (y : Entry) → Leg f y (privileged (i .geometry) 4 Keep) (halt false (Blank f)) (halt false (Wrote f 0))
   unfolding privileged read withMoves judge
   first-leg y = record {
     along = λ n x k later κ e b p st next.
@@ -150,7 +138,7 @@ module _ {i : Image} (f : Frame i) (fx : Facts (i .geometry)) (v : Valid i) wher
 
   -- step 9
   last-reaches : {y : Entry} {n x k : ℕ} {e : Env} {b : Target} → Locked f 0 k (core b)
-      → Stands f y n (privileged (i .geometry) 9 LastSum) [] nothing e → Reaches f true (sync (position y n) (tally 0 0 k) b (idleAt x) e)
+      → OnPlanFor f (position y n) (privileged (i .geometry) 9 LastSum) [] nothing e → Reaches f true (sync (position y n) (tally 0 0 k) b (idleAt x) e)
   unfolding privileged read withMoves judge nothing
   last-reaches {k = k} {b = b} p st =
       sum-reaches 9 LastSum {κ = nothing} (p .opened) (f .safeSealed (p .opened .right) true (b .memory) (all-held p))
@@ -163,7 +151,7 @@ module _ {i : Image} (f : Frame i) (fx : Facts (i .geometry)) (v : Valid i) wher
           let m : b′ .memory ≡ b .memory = ap (λ (c : Core). c .memory) same in
           rw m (all-held p)
 
-  pub program-reaches : {y : Entry} {n x k : ℕ} {e : Env} {b : Target} → Blank f k (core b) → Stands f y n (program i) [] nothing e
+  pub program-reaches : {y : Entry} {n x k : ℕ} {e : Env} {b : Target} → Blank f k (core b) → OnPlanFor f (position y n) (program i) [] nothing e
       → Reaches f false (sync (position y n) (tally 0 0 k) b (idleAt x) e)
   unfolding program
   program-reaches {y} blank st =

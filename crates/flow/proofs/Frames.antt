@@ -11,7 +11,7 @@ use Rattle.flow.specs.Plan.{noTraffic, trafficIn, isPoll, pollsIn, plan,
 use Rattle.flow.specs.Run.{Run}
 use Rattle.flow.specs.Sealing.{HoldsImage}
 use Rattle.flow.specs.Sequence.{opening, afterwards, sequence}
-use Rattle.flow.specs.Session.{reported}
+use Rattle.flow.specs.Session.{position, reported}
 use Rattle.flow.specs.Target.{Target, Memory, idle, Lists}
 use Rattle.flow.specs.declared.Entry.the-variants.{FromOpen}
 use Rattle.flow.specs.declared.Move.{Move}
@@ -24,7 +24,7 @@ use Rattle.flow.specs.declared.Silicon.{Silicon}
 use Rattle.flow.proofs.Counting.{sequence-totals}
 use Rattle.flow.proofs.Finishing.{nothing}
 use Rattle.flow.proofs.Phases.{Level, isOpen, isProtected, isKill}
-use Rattle.flow.proofs.Reaches.{Allowance, withRead, withRequest, withMoves, with-moves-append, Env, rightSilicon, RightIds, Frame, Lasting, Stands, clear}
+use Rattle.flow.proofs.Reaches.{Allowance, withRead, withRequest, withMoves, with-moves-append, Env, rightSilicon, RightIds, Frame, Lasting, OnPlanFor, clear}
 use Rattle.flow.proofs.Table.{Facts}
 use Rattle.image.specs.Image.{Image}
 
@@ -132,11 +132,11 @@ abbrev pub firstEnv : Lists → Env
 firstEnv l = record { lists = l; delays = noDelays; traffic = noTraffic }
 
 -- for every frame that is held to document 01's count
-pub start-stands : (i : Image) (fx : Facts (i .geometry)) (f : Frame i) (b : Target) (l : Lists)
+pub start-on-plan : (i : Image) (fx : Facts (i .geometry)) (f : Frame i) (b : Target) (l : Lists)
     → f .planned ≡ plan (i .geometry) (entryOf b) → f .most ≡ mostTraffic (i .geometry) (entryOf b) → (f .Still → Calm l)
-    → Stands f FromOpen 0 (opening i) (afterwards i FromOpen) (withMoves (afterwards i (entryOf b)) nothing) (firstEnv l)
+    → OnPlanFor f (position FromOpen 0) (opening i) (afterwards i FromOpen) (withMoves (afterwards i (entryOf b)) nothing) (firstEnv l)
 unfolding sequence mostTraffic nothing
-start-stands i fx f b l hp hm calm =
+start-on-plan i fx f b l hp hm calm =
     let e : withMoves (sequence i (entryOf b)) nothing ≡ withMoves (opening i) (withMoves (afterwards i (entryOf b)) nothing) = with-moves-append (opening i) (afterwards i (entryOf b)) nothing in
     let c = costs (sequence i (entryOf b)) nothing in
     let t = sequence-totals i fx (entryOf b) in

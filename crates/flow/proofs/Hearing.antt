@@ -7,7 +7,7 @@ use lib.Dec.{eqb, lit≤}
 use borrow.Author.Tests.{eq-eqb, ne-eqb}
 use Rattle.flow.specs.Exchange.{carry, gives, barred, killed, callsOn, replyWith, silentReply, noisyAck, noisyReply, okayReply, wrongParityReply, replyTo, carriedOut, Met, met, transferred}
 use Rattle.flow.specs.Packets.{isRead, okay, again, broken, heard, verdict}
-use Rattle.flow.specs.Target.{Target, Lists, nextOutcome, rest}
+use Rattle.flow.specs.Target.{Target, Lists, nextEvent, nextOutcome, rest}
 use Rattle.flow.specs.declared.Answer.the-variants.{Transferred}
 use Rattle.flow.specs.declared.LineEvent.{LineEvent}
 use Rattle.flow.specs.declared.Reply.{Reply}
@@ -25,14 +25,14 @@ abbrev pub listsAfter : Geometry → Request → Target → Lists → Lists
 listsAfter g q b l = record { line = rest (l .line); calls = cond (callsOn g q b) (rest (l .calls)) (l .calls) }
 
 -- carried out, and said so; WAIT; or a mishap, carried out or not
-pub data Heard (g : Geometry) (q : Request) (ev : LineEvent) (l : Lists) (b : Target) : Met → Type 0 where
-  heardOkay : {m : Met} → m .target ≡ carry g q (ev .other) (nextOutcome (l .calls)) b → verdict q (m .answer) ≡ okay (gives q b) → m .lists ≡ listsAfter g q b l
-      → Heard g q ev l b m
-  heardWait : {m : Met} → (ev .outcome ≡ Clean → ⊥) → m .target ≡ b → verdict q (m .answer) ≡ again
-      → m .lists ≡ record { line = rest (l .line); calls = l .calls } → Heard g q ev l b m
-  heardError : {m : Met} (n : ℕ) → 1 ≤ n → (ev .outcome ≡ Clean → ⊥) → m .target ≡ b → verdict q (m .answer) ≡ broken n → Heard g q ev l b m
-  heardErrorDone : {m : Met} (n : ℕ) → 1 ≤ n → (ev .outcome ≡ Clean → ⊥) → m .target ≡ carry g q (ev .other) (nextOutcome (l .calls)) b
-      → verdict q (m .answer) ≡ broken n → Heard g q ev l b m
+pub data Heard (g : Geometry) (q : Request) (l : Lists) (b : Target) : Met → Type 0 where
+  heardOkay : {m : Met} → m .target ≡ carry g q ((nextEvent (l .line)) .other) (nextOutcome (l .calls)) b → verdict q (m .answer) ≡ okay (gives q b) → m .lists ≡ listsAfter g q b l
+      → Heard g q l b m
+  heardWait : {m : Met} → ((nextEvent (l .line)) .outcome ≡ Clean → ⊥) → m .target ≡ b → verdict q (m .answer) ≡ again
+      → m .lists ≡ record { line = rest (l .line); calls = l .calls } → Heard g q l b m
+  heardError : {m : Met} (n : ℕ) → 1 ≤ n → ((nextEvent (l .line)) .outcome ≡ Clean → ⊥) → m .target ≡ b → verdict q (m .answer) ≡ broken n → Heard g q l b m
+  heardErrorDone : {m : Met} (n : ℕ) → 1 ≤ n → ((nextEvent (l .line)) .outcome ≡ Clean → ⊥) → m .target ≡ carry g q ((nextEvent (l .line)) .other) (nextOutcome (l .calls)) b
+      → verdict q (m .answer) ≡ broken n → Heard g q l b m
 
 -- the other outcomes are not clean
 abbrev isClean : TransferOutcome → Bool
@@ -91,26 +91,29 @@ not-clean : {x : TransferOutcome} → isClean x ≡ false → x ≡ Clean → �
 not-clean {x} h e = let no : false ≡ true = sym h ∙ ap isClean e in let z : _≡_ {A = ℕ} 0 1 = cc in omega arith
 
 module _ (g : Geometry) (l : Lists) (b : Target) where
-  wrong-parity-heard : {q : Request} → Wired q → (ev : LineEvent) → ev .outcome ≡ WrongParity → Heard g q ev l b (met true g q ev l (wrongParityReply (isRead q) (ev .filler)) b)
+  abbrev ev : LineEvent
+  ev = nextEvent (l .line)
+
+  wrong-parity-heard : {q : Request} → Wired q → ev .outcome ≡ WrongParity → Heard g q l b (met true g q l (wrongParityReply (isRead q) (ev .filler)) b)
   unfolding verdict heard
-  wrong-parity-heard attempt ev e = heardErrorDone 30 (lit≤ tt) (not-clean (ap isClean e)) refl (wrong-parity-read ReadIdcode refl (ev .filler))
-  wrong-parity-heard (plain aTar) ev e = heardOkay refl refl refl
-  wrong-parity-heard (plain aDrw) ev e = heardOkay refl refl refl
-  wrong-parity-heard (plain aRead) ev e = heardErrorDone 30 (lit≤ tt) (not-clean (ap isClean e)) refl (wrong-parity-read ReadDrw refl (ev .filler))
-  wrong-parity-heard (plain aCtrl) ev e = heardOkay refl refl refl
-  wrong-parity-heard (plain aSelect) ev e = heardOkay refl refl refl
-  wrong-parity-heard (plain aCsw) ev e = heardOkay refl refl refl
+  wrong-parity-heard attempt e = heardErrorDone 30 (lit≤ tt) (not-clean (ap isClean e)) refl (wrong-parity-read ReadIdcode refl (ev .filler))
+  wrong-parity-heard (plain aTar) e = heardOkay refl refl refl
+  wrong-parity-heard (plain aDrw) e = heardOkay refl refl refl
+  wrong-parity-heard (plain aRead) e = heardErrorDone 30 (lit≤ tt) (not-clean (ap isClean e)) refl (wrong-parity-read ReadDrw refl (ev .filler))
+  wrong-parity-heard (plain aCtrl) e = heardOkay refl refl refl
+  wrong-parity-heard (plain aSelect) e = heardOkay refl refl refl
+  wrong-parity-heard (plain aCsw) e = heardOkay refl refl refl
 
   -- the target would carry the transfer out
-  pub hears : {q : Request} → Wired q → (ev : LineEvent) → killed b ≡ false → barred g q b ≡ false → Heard g q ev l b (transferred g q ev l b)
+  pub hears : {q : Request} → Wired q → killed b ≡ false → barred g q b ≡ false → Heard g q l b (transferred g q l b)
   unfolding transferred
-  hears {q} h ev not-killed free = rw (not-killed, free) (by (ev .outcome) refl)
+  hears {q} h not-killed free = rw (not-killed, free) (by (ev .outcome) refl)
     where
-      by : (x : TransferOutcome) → ev .outcome ≡ x → Heard g q ev l b (met (carriedOut x) g q ev l (replyTo x false (isRead q) (gives q b) (ev .filler)) b)
+      by : (x : TransferOutcome) → ev .outcome ≡ x → Heard g q l b (met (carriedOut x) g q l (replyTo x false (isRead q) (gives q b) (ev .filler)) b)
       by Clean e = heardOkay refl (okay-heard h b (ev .filler)) refl
       by Waits e = heardWait (not-clean (ap isClean e)) refl (waits-heard q (ev .filler)) refl
       by Faults e = heardError 28 (lit≤ tt) (not-clean (ap isClean e)) refl (faults-heard q (ev .filler))
-      by WrongParity e = wrong-parity-heard h ev e
+      by WrongParity e = wrong-parity-heard h e
       by (Silent true) e = heardErrorDone 29 (lit≤ tt) (not-clean (ap isClean e)) refl (silence-heard q (ev .filler))
       by (Silent false) e = heardError 29 (lit≤ tt) (not-clean (ap isClean e)) refl (silence-heard q (ev .filler))
       by (Noisy true) e = heardErrorDone 33 (lit≤ tt) (not-clean (ap isClean e)) refl (noise-heard q (ev .filler))

@@ -6,7 +6,7 @@ use Prim.Native.Nat.{ℕ, zero, suc, _+_, _*_, _/_}
 use native.Mathlib.Omega.{arith}
 use lib.Dec.{eqb}
 use lib.ListN.{length, getD, take, drop, replicate, length-append, length-replicate}
-use lib.Seq.{length-take-le}
+use lib.Seq.{length-sets, length-take-le}
 use Rattle.flow.specs.Calls.{zeroed, effectOf, afterFailure, finish, dropped, reset, bytesIn, levelSent, macroSent}
 use Rattle.flow.specs.Cuts.{cutBy, cutMemory}
 use Rattle.flow.specs.Exchange.{decode, tick, fetch, begin, isCall, store, carry, meet}
@@ -19,7 +19,6 @@ use Rattle.flow.specs.declared.Place.{Place}
 use Rattle.flow.specs.declared.Place.the-variants.{InFlash, InLocks, InParams, AtLevel, AtSysreq, AtSysarg, AtTestMode, Elsewhere}
 use Rattle.flow.specs.declared.Request.{Request}
 use Rattle.flow.specs.declared.Request.the-variants.{Xres, LineReset, ReadIdcode, ReadDrw, WriteTar, WriteDrw, WriteSetup}
-use Rattle.flow.proofs.Lists.{length-lay}
 use Rattle.flow.proofs.Meeting.{carried-keeps, packet-keeps}
 use Rattle.image.specs.Image.{Image}
 use Rattle.parts.specs.Sizes.{rowBytes, locksIn, lockStart}
@@ -48,11 +47,11 @@ effect-sizes : (g : Geometry) (c l arg : ℕ) (ps : List ℕ) (m : Memory) → S
 unfolding effectOf
 effect-sizes g c l arg ps m =
     either (eqb c 0x0A) (zeroed-sizes (m .stored) m)
-    (either (eqb c 4) (record { flash = refl; locks = refl; latch = length-lay (m .latch) (take (getD ps 1 0 + 1) (bytesIn (drop 2 ps))) 0 })
-    (either (eqb c 6) (record { flash = length-lay (m .flash) (m .latch) (getD ps 0 0 / 65536 * rowBytes g); locks = refl; latch = refl })
+    (either (eqb c 4) (record { flash = refl; locks = refl; latch = length-sets (m .latch) 0 (take (getD ps 1 0 + 1) (bytesIn (drop 2 ps))) })
+    (either (eqb c 6) (record { flash = length-sets (m .flash) (getD ps 0 0 / 0x10000 * rowBytes g) (m .latch); locks = refl; latch = refl })
     (either (eqb c 0x0D)
     (either (eqb l 2 && eqb (levelSent arg) 1) (zeroed-sizes 1 m)
-    (record { flash = refl; locks = length-lay (m .locks) (take (locksIn g (macroSent arg)) (m .latch)) (lockStart g (macroSent arg)); latch = refl })) (same m))))
+    (record { flash = refl; locks = length-sets (m .locks) (lockStart g (macroSent arg)) (take (locksIn g (macroSent arg)) (m .latch)); latch = refl })) (same m))))
 
 failure-sizes : (c arg : ℕ) (r : Residue) (m : Memory) → Sizes m (afterFailure c arg r m)
 unfolding afterFailure
@@ -109,7 +108,7 @@ begin-keeps false w o b = keep b
 store-keeps : (w : ℕ) (o : CallOutcome) (p : Place) (b : Target) → Keeps b (store w o p b)
 store-keeps w o (InFlash a) b = keep b
 store-keeps w o (InLocks a) b = keep b
-store-keeps w o (InParams k) b = record { memory = same (b .memory); params = length-lay (b .params) (w ∷ []) k; silicon = refl }
+store-keeps w o (InParams k) b = record { memory = same (b .memory); params = length-sets (b .params) k (w ∷ []); silicon = refl }
 store-keeps w o AtLevel b = keep b
 store-keeps w o AtSysreq b = begin-keeps (isCall w) w o b
 store-keeps w o AtSysarg b = keep b

@@ -4,29 +4,28 @@ use mathlib.Core.Path.{_≡_, refl, ap, _∙_, sym}
 use Prim.Native.Nat.{ℕ, zero, suc, _+_, _*_, _-_, _/_, _%_, _≤_, _<_}
 use native.Mathlib.Numerals.{towards-suc}
 use native.Mathlib.Omega.{arith}
-use lib.ListN.{length, getD, take, drop, replicate, length-append, length-take, length-drop, drop-of-length-le, take-append-drop}
-use lib.Seq.{drop-cons, drop-drop, drop-at, getD-drop, take-append-seam, drop-append-add, take-append-add, length-take-le, take-all, take-at}
+use lib.ListN.{length, getD, set, take, drop, replicate, length-append, length-take, length-drop, drop-of-length-le, take-append-drop}
+use lib.Seq.{sets, sets-eq, drop-cons, drop-drop, drop-at, getD-drop, append-snoc, set-append-seam, length-take-le, take-at}
 use Rattle.flow.specs.Calls.{bytesIn}
-use Rattle.flow.specs.Target.{lay}
 use Rattle.lent.specs.Words.{total, wordAt, lowFirst, wordsAt}
 
 -- every element is a byte
 abbrev pub Small : List ℕ → Type 0
 Small l = (j : ℕ) → getD l j 0 < 256
 
-bytes-word : (a b c d : ℕ) → a < 256 → b < 256 → c < 256 → d < 256 → lowFirst 4 (a + 256 * b + 65536 * c + 16777216 * d) ≡ a ∷ b ∷ c ∷ d ∷ []
+bytes-word : (a b c d : ℕ) → a < 256 → b < 256 → c < 256 → d < 256 → lowFirst 4 (a + 256 * b + 0x10000 * c + 0x1000000 * d) ≡ a ∷ b ∷ c ∷ d ∷ []
 bytes-word a b c d ha hb hc hd = rw (e₀, e₁, e₂, e₃)
   where
-    e₀ : (a + 256 * b + 65536 * c + 16777216 * d) % 256 ≡ a
+    e₀ : (a + 256 * b + 0x10000 * c + 0x1000000 * d) % 256 ≡ a
     e₀ = omega arith
 
-    e₁ : (a + 256 * b + 65536 * c + 16777216 * d) / 256 % 256 ≡ b
+    e₁ : (a + 256 * b + 0x10000 * c + 0x1000000 * d) / 256 % 256 ≡ b
     e₁ = omega arith
 
-    e₂ : (a + 256 * b + 65536 * c + 16777216 * d) / 256 / 256 % 256 ≡ c
+    e₂ : (a + 256 * b + 0x10000 * c + 0x1000000 * d) / 256 / 256 % 256 ≡ c
     e₂ = omega arith
 
-    e₃ : (a + 256 * b + 65536 * c + 16777216 * d) / 256 / 256 / 256 % 256 ≡ d
+    e₃ : (a + 256 * b + 0x10000 * c + 0x1000000 * d) / 256 / 256 / 256 % 256 ≡ d
     e₃ = omega arith
 
 take-four : (l : List ℕ) (o m : ℕ) → o + 4 ≤ length l
@@ -61,22 +60,16 @@ sent-bytes n o l behind hq hn small room =
 
 -- ---- bytes laid over a list
 
--- where they fit, nothing is cut
-pub lay-fits : (l x : List ℕ) (o : ℕ) → o + length x ≤ length l → lay l o x ≡ take o l ++ (x ++ drop (o + length x) l)
-lay-fits l x o h = take-all (length l) (take o l ++ (x ++ drop (o + length x) l)) (simp (length-append, length-take, length-drop) (omega arith))
+-- where they fit
+pub take-sets : (l x : List ℕ) (o : ℕ) → o + length x ≤ length l → take (o + length x) (sets l o x) ≡ take o l ++ x
+take-sets l x o h =
+    ap (take (o + length x)) (sets-eq x l o h)
+    ∙ take-at (take o l ++ x) (drop (o + length x) l) (o + length x) (simp (length-append, length-take) (omega arith))
 
-pub length-lay : (l x : List ℕ) (o : ℕ) → length (lay l o x) ≡ length l
-length-lay l x o = length-take-le (length l) (take o l ++ (x ++ drop (o + length x) l)) (simp (length-append, length-take, length-drop) (omega arith))
-
-pub take-lay : (l x : List ℕ) (o : ℕ) → o + length x ≤ length l → take (o + length x) (lay l o x) ≡ take o l ++ x
-take-lay l x o h =
-    ap (take (o + length x)) (lay-fits l x o h)
-    ∙ ap (λ (n : ℕ). take (n + length x) (take o l ++ (x ++ drop (o + length x) l))) (sym (length-take-le o l (omega arith)))
-    ∙ take-append-add (take o l) (x ++ drop (o + length x) l) (length x)
-    ∙ ap (λ (y : List ℕ). take o l ++ y) (take-append-seam x (drop (o + length x) l))
-
-pub drop-lay : (l x : List ℕ) (o : ℕ) → o + length x ≤ length l → drop o (lay l o x) ≡ x ++ drop (o + length x) l
-drop-lay l x o h = ap (drop o) (lay-fits l x o h) ∙ drop-at (take o l) (x ++ drop (o + length x) l) o (length-take-le o l (omega arith))
+pub drop-sets : (l x : List ℕ) (o : ℕ) → o + length x ≤ length l → drop o (sets l o x) ≡ x ++ drop (o + length x) l
+drop-sets l x o h =
+    ap (drop o) (sets-eq x l o h ∙ append-assoc (take o l) x (drop (o + length x) l))
+    ∙ drop-at (take o l) (x ++ drop (o + length x) l) o (length-take-le o l (omega arith))
 
 -- a list from o on: its next n elements, then the rest
 pub drop-parts : (n o : ℕ) (l : List ℕ) → take n (drop o l) ++ drop (o + n) l ≡ drop o l
@@ -93,14 +86,13 @@ same-word a b o k h = rw (at k, at′ 1, at′ 2, at′ 3)
     at′ : (j : ℕ) → getD a (o + k + j) 0 ≡ getD b (o + k + j) 0
     at′ j = let e : o + k + j ≡ o + (k + j) = omega arith in rw e (at (k + j))
 
-pub lay-whole : (l x : List ℕ) → length x ≡ length l → lay l 0 x ≡ x
-lay-whole l x h = lay-fits l x 0 (omega arith) ∙ rw (drop-of-length-le l {i = 0 + length x} (omega arith)) (append-nil x)
+pub sets-whole : (l x : List ℕ) → length x ≡ length l → sets l 0 x ≡ x
+sets-whole l x h = sets-eq x l 0 (omega arith) ∙ rw (drop-of-length-le l {i = 0 + length x} (omega arith)) (append-nil x)
 
 -- one word behind those of `pre`
-pub lay-next : (pre tl : List ℕ) (w : ℕ) → 1 ≤ length tl → lay (pre ++ tl) (length pre) (w ∷ []) ≡ (pre ++ (w ∷ [])) ++ drop 1 tl
-lay-next pre tl w h =
-    lay-fits (pre ++ tl) (w ∷ []) (length pre) (rw (length-append pre tl) (omega arith))
-    ∙ rw (take-append-seam pre tl, drop-append-add pre tl 1, append-assoc pre (w ∷ []) (drop 1 tl))
+pub set-next : (pre tl : List ℕ) (w : ℕ) → 1 ≤ length tl → set (pre ++ tl) (length pre) w ≡ (pre ++ (w ∷ [])) ++ drop 1 tl
+set-next pre [] w h = absurd (omega arith)
+set-next pre (y ∷ tl) w h = set-append-seam pre y tl w ∙ sym (append-snoc pre w tl)
 
 pub total-zero : (n : ℕ) → total (replicate n 0) ≡ 0
 unfolding total

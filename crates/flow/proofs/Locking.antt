@@ -7,16 +7,17 @@ use Prim.Native.Nat.{ℕ, zero, suc, _+_, _*_, _/_, _≤_, _<_}
 use native.Mathlib.Omega.{arith}
 use lib.Dec.{eqb, eqb·suc-zero}
 use lib.ListN.{length, take, drop}
+use lib.Seq.{sets, length-sets}
 use Rattle.flow.specs.Calls.{finish, effectOf, afterFailure, protect, levelSent, macroSent}
 use Rattle.flow.specs.Sequence.{key, call, listed, latchList, lockMacro}
-use Rattle.flow.specs.Target.{Target, Memory, Residue, lay, withLatch}
+use Rattle.flow.specs.Target.{Target, Memory, Residue, withLatch}
 use Rattle.flow.specs.declared.Entry.{Entry}
 use Rattle.flow.proofs.Calling.{Ends, ordinary, locking, asked, Returned, returned, calling}
 use Rattle.flow.proofs.Counting.{length-words}
-use Rattle.flow.proofs.Legs.{core, Leg}
+use Rattle.flow.proofs.Legs.{core, Leg, halt}
 use Rattle.flow.proofs.Listing.{ListReturned, listing}
-use Rattle.flow.proofs.Lists.{length-part, length-lay, take-lay, drop-lay, drop-parts}
-use Rattle.flow.proofs.Phases.{Level, isOpen, isProtected, isKill, Valid, Locked, levelAfter, level-safe, call4, callD, steady-4}
+use Rattle.flow.proofs.Lists.{length-part, take-sets, drop-sets, drop-parts}
+use Rattle.flow.proofs.Phases.{Level, isOpen, isProtected, isKill, Valid, Locked, levelAfter, level-safe, plain-call, callD, still-opened}
 use Rattle.flow.proofs.Programming.{effect-4}
 use Rattle.flow.proofs.Reaches.{Frame, split}
 use Rattle.flow.proofs.Table.{Facts}
@@ -78,7 +79,7 @@ module _ {i : Image} (f : Frame i) (fx : Facts (i .geometry)) (v : Valid i) (m :
   bytes-size = length-part (locksIn (i .geometry) m) (lockStart (i .geometry) m) (i .protection) (omega (arith, v .locks, locks-fit))
 
   abbrev latched : Memory → Memory
-  latched x = withLatch (lay (x .latch) 0 bytes) x
+  latched x = withLatch (sets (x .latch) 0 bytes) x
 
   -- the two calls of a macro
   macro-memory : (l l′ a : ℕ) (z ps : List ℕ) (x : Memory) → l′ ≡ 1
@@ -89,63 +90,51 @@ module _ {i : Image} (f : Frame i) (fx : Facts (i .geometry)) (v : Valid i) (m :
       ∙ effect-D (i .geometry) l′ (i .header .level) m ps _ (level-small (v .level)) e
 
   -- the latch's first bytes are the macro's
-  first-bytes : (x : List ℕ) → length x ≡ rowBytes (i .geometry) → take (locksIn (i .geometry) m) (lay x 0 bytes) ≡ bytes
+  first-bytes : (x : List ℕ) → length x ≡ rowBytes (i .geometry) → take (locksIn (i .geometry) m) (sets x 0 bytes) ≡ bytes
   first-bytes x h =
       let e : locksIn (i .geometry) m ≡ 0 + length bytes = omega (arith, bytes-size) in
-      ap (λ (n : ℕ). take n (lay x 0 bytes)) e ∙ take-lay x bytes 0 (omega (arith, bytes-size, fx .locks .each m room .fit))
+      ap (λ (n : ℕ). take n (sets x 0 bytes)) e ∙ take-sets x bytes 0 (omega (arith, bytes-size, fx .locks .each m room .fit))
 
   macro-done : (x : List ℕ) → length x ≡ lockTotal (i .geometry)
       → drop (lockStart (i .geometry) (suc m)) x ≡ drop (lockStart (i .geometry) (suc m)) (i .protection)
-      → drop (lockStart (i .geometry) m) (lay x (lockStart (i .geometry) m) bytes) ≡ drop (lockStart (i .geometry) m) (i .protection)
+      → drop (lockStart (i .geometry) m) (sets x (lockStart (i .geometry) m) bytes) ≡ drop (lockStart (i .geometry) m) (i .protection)
   macro-done x h done =
-      drop-lay x bytes (lockStart (i .geometry) m) (omega (arith, bytes-size, locks-fit))
+      drop-sets x bytes (lockStart (i .geometry) m) (omega (arith, bytes-size, locks-fit))
       ∙ ap (λ (n : ℕ). bytes ++ drop (lockStart (i .geometry) m + n) x) bytes-size
       ∙ ap (λ (y : List ℕ). bytes ++ y) (rw (start-next (i .geometry) m) at done)
       ∙ drop-parts (locksIn (i .geometry) m) (lockStart (i .geometry) m) (i .protection)
 
-  locked : (k : ℕ) (b b₁ b₂ : Target) → Locked f (suc m) k (core b) → ListReturned (i .geometry) 4 lockList b b₁ → Returned (i .geometry) 0x0D (lockWord (i .header .level) m) b₁ b₂
+  locked : (k : ℕ) (b b₁ b₂ : Target) → Locked f (suc m) k (core b) → ListReturned f 4 lockList b b₁ → Returned (i .geometry) 0x0D (lockWord (i .header .level) m) b₁ b₂
       → Locked f m k (core b₂)
   locked k b b₁ b₂ w r₁ r₂ =
       let e : b₂ .memory ≡ protect (i .geometry) (i .header .level) m (latched (b .memory)) =
-      r₂ .memory ∙ rw (r₁ .memory) (macro-memory (b .effect) (b₁ .effect) PARAMS (r₁ .behind) _ (b .memory) (r₁ .effect ∙ w .opened .effect)) in
-      let first : take (locksIn (i .geometry) m) (lay (b .memory .latch) 0 bytes) ≡ bytes = first-bytes (b .memory .latch) (w .sized .latch) in
+      r₂ .memory ∙ rw (r₁ .memory) (macro-memory (b .effect) (b₁ .effect) PARAMS (r₁ .behind) _ (b .memory) (r₁ .opened .effect)) in
+      let first : take (locksIn (i .geometry) m) (sets (b .memory .latch) 0 bytes) ≡ bytes = first-bytes (b .memory .latch) (w .sized .latch) in
       record {
-        opened = record {
-          right = w .opened .right;
-          silicon = r₂ .silicon ∙ r₁ .silicon ∙ w .opened .silicon;
-          effect = r₂ .effect ∙ r₁ .effect ∙ w .opened .effect;
-          room = rw (r₂ .params, r₁ .room) (w .opened .room);
-          quiet = r₂ .ended;
-        };
+        opened = still-opened (r₁ .opened) r₂;
         flash = ap (λ (x : Memory). x .flash) e ∙ w .flash;
         sized = record {
           flash = ap (λ (x : Memory). length (x .flash)) e ∙ w .sized .flash;
-          locks = ap (λ (x : Memory). length (x .locks)) e ∙ length-lay (b .memory .locks) (take (locksIn (i .geometry) m) (lay (b .memory .latch) 0 bytes)) (lockStart (i .geometry) m) ∙ w .sized .locks;
-          latch = ap (λ (x : Memory). length (x .latch)) e ∙ length-lay (b .memory .latch) bytes 0 ∙ w .sized .latch;
+          locks = ap (λ (x : Memory). length (x .locks)) e ∙ length-sets (b .memory .locks) (lockStart (i .geometry) m) (take (locksIn (i .geometry) m) (sets (b .memory .latch) 0 bytes)) ∙ w .sized .locks;
+          latch = ap (λ (x : Memory). length (x .latch)) e ∙ length-sets (b .memory .latch) 0 bytes ∙ w .sized .latch;
         };
         done = ap (λ (x : Memory). drop (lockStart (i .geometry) m) (x .locks)) e
-            ∙ ap (λ (z : List ℕ). drop (lockStart (i .geometry) m) (lay (b .memory .locks) (lockStart (i .geometry) m) z)) first
+            ∙ ap (λ (z : List ℕ). drop (lockStart (i .geometry) m) (sets (b .memory .locks) (lockStart (i .geometry) m) z)) first
             ∙ macro-done (b .memory .locks) (w .sized .locks) (w .done);
         level = ap (λ (x : Memory). x .stored) e ∙ next-level i m (b .memory .stored) (w .level);
         kept = w .kept;
       }
 
-  stored-4 : (b b₁ : Target) → b .memory .stored ≡ 1 → ListReturned (i .geometry) 4 lockList b b₁ → b₁ .memory .stored ≡ 1
-  unfolding effectOf
-  stored-4 b b₁ h r₁ = ap (λ (x : Memory). x .stored) (r₁ .memory) ∙ h
-
-  pub macro-leg : (y : Entry) → Leg f false (eqb m 0) y (lockMacro i m) (Locked f (suc m)) (Locked f m)
+  pub macro-leg : (y : Entry) → Leg f y (lockMacro i m) (halt false (Locked f (suc m))) (halt (eqb m 0) (Locked f m))
   unfolding lockMacro
   macro-leg y = record {
     along = λ n x k later κ e b w st next.
-        listing f fx 7 4 lockList (call4 .command) (split (listed (i .geometry) 7 4 lockList) (call (i .geometry) 7 0x0D (lockWord (i .header .level) m)) later κ st)
-        (omega (arith, length-words (i .protection) (lockStart (i .geometry) m) (locksIn (i .geometry) m / 4), fx .locks .each m room .fit)) (w .opened .room) (w .opened .effect) (w .opened .quiet)
-        (f .safeOpen (w .opened .right) (b .memory) (w .level)) refl (λ y r b′ he hm _. f .safeOpen (w .opened .right) _ (steady-4 (i .geometry) y r b′ ∙ ap (λ (x : Memory). x .stored) hm ∙ w .level))
-        (call4 .ready _ _) (call4 .good _ _) λ b₁ r₁ n₁ e₁ st₁.
-        calling f fx 7 0x0D (lockWord (i .header .level) m) (callD .command) st₁ (inl (r₁ .effect ∙ w .opened .effect)) (r₁ .ended)
-        (f .safeOpen (w .opened .right) (b₁ .memory) (stored-4 b b₁ (w .level) r₁))
+        listing f fx 7 4 lockList (plain-call 4 (omega arith) refl refl) refl
+        (omega (arith, length-words (i .protection) (lockStart (i .geometry) m) (locksIn (i .geometry) m / 4), fx .locks .each m room .fit))
+        (split (listed (i .geometry) 7 4 lockList) (call (i .geometry) 7 0x0D (lockWord (i .header .level) m)) later κ st) (w .opened) (w .level) λ b₁ r₁ n₁ e₁ st₁.
+        calling f fx 7 0x0D (lockWord (i .header .level) m) (callD .command) st₁ (inl (r₁ .opened .effect)) (r₁ .opened .quiet) (f .safeOpen (w .opened .right) (b₁ .memory) (r₁ .level))
         (λ r. level-safe f m (locked k b b₁ (finish (i .geometry) true r 0x0D (asked 0x0D (lockWord (i .header .level) m) b₁)) w r₁ (returned (i .geometry) 0x0D (lockWord (i .header .level) m) r b₁)))
-        (λ r. safe-D f r (i .header .level) m _ (level-small (v .level)) refl (f .safeImage (w .opened .right))
-        (λ x hx. f .safeOpen (w .opened .right) x (hx ∙ stored-4 b b₁ (w .level) r₁))) (ends-D (i .header .level) m _ (level-small (v .level)) (r₁ .effect ∙ w .opened .effect) refl) (callD .ready _ _) (callD .good _ _) λ b₂ r₂ n₂ e₂ st₂.
+        (λ r. safe-D f r (i .header .level) m _ (level-small (v .level)) refl (f .safeImage (w .opened .right)) (λ x hx. f .safeOpen (w .opened .right) x (hx ∙ r₁ .level)))
+        (ends-D (i .header .level) m _ (level-small (v .level)) (r₁ .opened .effect) refl) (callD .ready _ _) (callD .good _ _) λ b₂ r₂ n₂ e₂ st₂.
         next k b₂ (locked k b b₁ b₂ w r₁ r₂) n₂ _ e₂ st₂;
   }

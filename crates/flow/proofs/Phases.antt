@@ -1,8 +1,8 @@
 -- What holds between the steps of the flow, and of the calls that alter nothing but what document 01 says. Assumes nothing.
-use mathlib.Core.Bool.{Bool, true, false, _&&_, cond}
+use mathlib.Core.Bool.{Bool, true, false, _&&_, _||_, cond}
 use mathlib.Core.List.{List}
 use mathlib.Core.Path.{_≡_, refl, sym, _∙_}
-use Prim.Native.Nat.{ℕ, zero, suc, _+_, _*_, _/_, _%_, _≤_}
+use Prim.Native.Nat.{ℕ, zero, suc, _+_, _*_, _/_, _%_, _≤_, _<_}
 use native.Mathlib.Omega.{arith}
 use lib.Dec.{eqb, eqb·suc-zero}
 use lib.ListN.{length, take, drop, drop-of-length-le}
@@ -12,14 +12,14 @@ use Rattle.flow.specs.Sealing.{HoldsImage}
 use Rattle.flow.specs.Target.{Target, Memory, Residue, idle}
 use Rattle.flow.specs.Words.{free, succeeded}
 use Rattle.flow.specs.declared.Silicon.{Silicon}
-use Rattle.flow.proofs.Calling.{Command, Returned}
+use Rattle.flow.proofs.Calling.{Command, command, Returned}
 use Rattle.flow.proofs.Legs.{Core, core}
 use Rattle.flow.proofs.Lists.{Small}
 use Rattle.flow.proofs.Reaches.{RightIds, Frame}
 use Rattle.flow.proofs.Table.{Facts}
 use Rattle.image.specs.Image.{Image}
 use Rattle.lent.specs.Words.{total}
-use Rattle.parts.specs.Sizes.{rowBytes, macrosOf, rowsPerMacro, rowsOf, flashSize, lockTotal, lockStart}
+use Rattle.parts.specs.Sizes.{rowBytes, macrosOf, rowsOf, flashSize, lockTotal, lockStart}
 use Rattle.parts.proofs.Locks.{start-first}
 use Rattle.parts.specs.declared.Geometry.{Geometry}
 
@@ -48,7 +48,7 @@ pub record Opened {i : Image} (f : Frame i) (c : Core) : Type 0 where
 
 -- the first sum is kept
 abbrev pub Kept : {i : Image} → Frame i → ℕ → Type 0
-Kept f k = k % 268435456 ≡ f .silicon .«privileged_sum» % 268435456
+Kept f k = k % 0x10000000 ≡ f .silicon .«privileged_sum» % 0x10000000
 
 -- the target's sizes
 pub record Sized {i : Image} (f : Frame i) (m : Memory) : Type 0 where
@@ -120,47 +120,40 @@ pub record PlainCall (c : ℕ) : Type 0 where
   pub ready : (x : Silicon) (l : ℕ) → free (sysreqAfter c x l) ≡ true
   pub good : (x : Silicon) (m : Memory) → succeeded (sysargAfter c x m) ≡ true
 
-pub call4 : PlainCall 4
+-- every call but 0 and 0x0B
+pub plain-call : (c : ℕ) → c < 256 → eqb c 0 ≡ false → eqb c 0x0B ≡ false → PlainCall c
 unfolding free succeeded sysreqAfter sysargAfter
-call4 = record { command = record { started = refl; number = refl }; ready = λ x l. refl; good = λ x m. refl }
-
-pub call6 : PlainCall 6
-unfolding free succeeded sysreqAfter sysargAfter
-call6 = record { command = record { started = refl; number = refl }; ready = λ x l. refl; good = λ x m. refl }
-
-pub callA : PlainCall 0x0A
-unfolding free succeeded sysreqAfter sysargAfter
-callA = record { command = record { started = refl; number = refl }; ready = λ x l. refl; good = λ x m. refl }
+plain-call c low h k = record { command = command c low; ready = λ x l. rw h; good = λ x m. rw (h, k) }
 
 pub callD : PlainCall 0x0D
-unfolding free succeeded sysreqAfter sysargAfter
-callD = record { command = record { started = refl; number = refl }; ready = λ x l. refl; good = λ x m. refl }
+callD = plain-call 0x0D (omega arith) refl refl
 
-pub call15 : PlainCall 0x15
-unfolding free succeeded sysreqAfter sysargAfter
-call15 = record { command = record { started = refl; number = refl }; ready = λ x l. refl; good = λ x m. refl }
+-- ---- every call but 0x0D keeps the stored level, whatever it comes to
 
--- ---- the stored level stays with these, whatever they come to
+record Stores (l : ℕ) (m : Memory) : Type 0 where
+  pub is : m .stored ≡ l
+
+either : (t : Bool) {l : ℕ} {x y : Memory} → Stores l x → Stores l y → Stores l (cond t x y)
+either true h k = h
+either false h k = k
 
 no-level : (t : Bool) (l m : ℕ) (z : Bool) → cond (t && false && z) l m ≡ m
 no-level true l m z = refl
 no-level false l m z = refl
 
-pub steady-4 : (g : Geometry) (y : Bool) (r : Residue) (b : Target) → (finish g y r 4 b) .memory .stored ≡ b .memory .stored
-unfolding finish effectOf afterFailure
-steady-4 g true r b = refl
-steady-4 g false r b = no-level (r .newLevel) _ _ _
+pub effect-level : (c : ℕ) → eqb c 0x0D ≡ false → (g : Geometry) (l a : ℕ) (ps : List ℕ) (m : Memory) → (effectOf g c l a ps m) .stored ≡ m .stored
+unfolding effectOf
+effect-level c h g l a ps m =
+    let kept : Stores (m .stored) (effectOf g c l a ps m) = either (eqb c 0x0A) (record { is = refl }) (either (eqb c 4) (record { is = refl }) (either (eqb c 6) (record { is = refl }) (record { is = rw h }))) in
+    kept .is
 
-pub steady-6 : (g : Geometry) (y : Bool) (r : Residue) (b : Target) → (finish g y r 6 b) .memory .stored ≡ b .memory .stored
-unfolding finish effectOf afterFailure
-steady-6 g true r b = refl
-steady-6 g false r b = no-level (r .newLevel) _ _ _
+pub steady : (c : ℕ) → eqb c 0x0D ≡ false → (g : Geometry) (y : Bool) (r : Residue) (b : Target) → (finish g y r c b) .memory .stored ≡ b .memory .stored
+unfolding finish afterFailure
+steady c h g true r b = effect-level c h g (b .effect) (b .sysarg) _ (b .memory)
+steady c h g false r b =
+    let kept : Stores (b .memory .stored) (afterFailure c (b .sysarg) r (b .memory)) = either (eqb c 0 || eqb c 0x0B || eqb c 0x15) (record { is = refl }) (record { is = rw h (no-level (r .newLevel) _ _ _) }) in
+    kept .is
 
-pub steady-A : (g : Geometry) (y : Bool) (r : Residue) (b : Target) → (finish g y r 0x0A b) .memory .stored ≡ b .memory .stored
-unfolding finish effectOf afterFailure
-steady-A g true r b = refl
-steady-A g false r b = no-level (r .newLevel) _ _ _
-
--- a call that alters nothing
-pub same-core : {g : Geometry} {c w : ℕ} {b b′ : Target} → Returned g c w b b′ → b′ .memory ≡ b .memory → b .running ≡ idle → core b′ ≡ core b
-same-core ret hm hr = rw (ret .silicon, hm, ret .effect, ret .params, ret .ended, hr)
+-- what a call leaves open
+pub still-opened : {i : Image} {f : Frame i} {c w : ℕ} {b b′ : Target} → Opened f (core b) → Returned (i .geometry) c w b b′ → Opened f (core b′)
+still-opened o ret = record { right = o .right; silicon = ret .silicon ∙ o .silicon; effect = ret .effect ∙ o .effect; room = rw (ret .params) (o .room); quiet = ret .ended }

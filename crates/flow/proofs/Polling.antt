@@ -20,7 +20,7 @@ use Rattle.flow.specs.declared.Move.{Move}
 use Rattle.flow.specs.declared.Place.the-variants.{AtSysreq}
 use Rattle.flow.specs.declared.Purpose.the-variants.{Poll}
 use Rattle.flow.proofs.Access.{aim, Admits, read-any, read-still}
-use Rattle.flow.proofs.Reaches.{Allowance, withTransfer, Env, tally, sync, Frame, Lasting, at-rest, Stood, less-room, Turn, without, same-running, not-idle, Reaches, stop}
+use Rattle.flow.proofs.Reaches.{Allowance, withTransfer, Env, tally, sync, Frame, Lasting, at-rest, OnPlan, less-room, Turn, without, same-running, not-idle, Reaches, stop}
 use Rattle.image.specs.Image.{Image}
 use Rattle.parts.specs.Sizes.{sysreqOf}
 use Rattle.parts.specs.declared.Geometry.{Geometry}
@@ -42,12 +42,12 @@ abbrev left : (m : ℕ) → Allowance → Allowance
 left m κ = record { due = κ .due; room = 51 * m + κ .room; xres = κ .xres; lines = κ .lines }
 
 -- one poll of it
-this-poll : {i : Image} {f : Frame i} {y : Entry} {n : ℕ} {ms : List Move} (κ : Allowance) {e : Env} (m : ℕ) → Stood f y n ms (looping m κ) e
-    → Stood f y n ms (withTransfer (withTransfer (withTransfer (left m κ)))) e
+this-poll : {i : Image} {f : Frame i} {y : Entry} {n : ℕ} {ms : List Move} (κ : Allowance) {e : Env} (m : ℕ) → OnPlan f y n ms (looping m κ) e
+    → OnPlan f y n ms (withTransfer (withTransfer (withTransfer (left m κ)))) e
 this-poll κ m st = less-room (17 + (17 + (17 + (51 * m + κ .room)))) (omega arith) st
 
 -- and the last of it
-last-poll : {i : Image} {f : Frame i} {y : Entry} {n : ℕ} {ms : List Move} (κ : Allowance) {e : Env} (m : ℕ) → Stood f y n ms (left m κ) e → Stood f y n ms κ e
+last-poll : {i : Image} {f : Frame i} {y : Entry} {n : ℕ} {ms : List Move} (κ : Allowance) {e : Env} (m : ℕ) → OnPlan f y n ms (left m κ) e → OnPlan f y n ms κ e
 last-poll κ m st = less-room (κ .room) (omega arith) st
 
 -- ---- words
@@ -102,8 +102,8 @@ busied e = record { lists = e .lists; delays = oneBusy (e .delays); traffic = e 
 module _ {i : Image} (f : Frame i) (hp : place (i .geometry) (sysreqOf (i .geometry)) ≡ AtSysreq) where
   -- a poll that finds nothing under way
   pub poll-idle : {z : Bool} (s : ℕ) {y : Entry} {n : ℕ} {ms : List Move} {κ : Allowance} {e : Env} {p a k : ℕ} (b : Target) {x : ℕ} {c d : Bool}
-      → Stood f y n (poll (i .geometry) s ++ ms) (withTransfer (withTransfer (withTransfer κ))) e → Admits (b .effect) AtSysreq → f .Safe z (b .memory) → b .running ≡ idle → free (b .sysreq) ≡ true
-      → (next : (e′ : Env) → e′ .lists .calls ≡ e .lists .calls → Stood f y (suc (suc (suc n))) ms κ e′
+      → OnPlan f y n (poll (i .geometry) s ++ ms) (withTransfer (withTransfer (withTransfer κ))) e → Admits (b .effect) AtSysreq → f .Safe z (b .memory) → b .running ≡ idle → free (b .sysreq) ≡ true
+      → (next : (e′ : Env) → e′ .lists .calls ≡ e .lists .calls → OnPlan f y (suc (suc (suc n))) ms κ e′
       → Reaches f z (sync (position y (suc (suc (suc n)))) (tally 0 a k) (aim (sysreqOf (i .geometry)) (b .sysreq) b) (record { tar = sysreqOf (i .geometry); counts = false; polling = false; due = d }) e′))
       → Reaches f z (sync (position y n) (tally p a k) b (loopAt x c d) e)
   unfolding judge noticeRead
@@ -126,8 +126,8 @@ module _ {i : Image} (f : Frame i) (hp : place (i .geometry) (sysreqOf (i .geome
     gone = at-rest (f .Safe z′) over (finish-idle (i .geometry) s₀ r₀ c₀ b) safe′
 
     -- back to the first transfer of the Read
-    back : {y : Entry} {n n′ : ℕ} {ms later : List Move} (κ : Allowance) {κ₀ : Allowance} {e e′ : Env} (m : ℕ) → Stood f y n ms κ₀ e → Stood f y n′ later (left (suc m) κ) e′ → (f .Still → ⊥)
-        → Stood f y n ms (looping m κ) (busied e′)
+    back : {y : Entry} {n n′ : ℕ} {ms later : List Move} (κ : Allowance) {κ₀ : Allowance} {e e′ : Env} (m : ℕ) → OnPlan f y n ms κ₀ e → OnPlan f y n′ later (left (suc m) κ) e′ → (f .Still → ⊥)
+        → OnPlan f y n ms (looping m κ) (busied e′)
     back κ m st st′ bad = record {
       at = st .at;
       accounted = omega (arith, st′ .accounted);
@@ -139,8 +139,8 @@ module _ {i : Image} (f : Frame i) (hp : place (i .geometry) (sysreqOf (i .geome
 
     -- q busy reads are left; after this poll m more are allowed
     pub poll-busy : (q m : ℕ) {y : Entry} {n : ℕ} {ms : List Move} {κ : Allowance} {e : Env} {a k : ℕ} (p x v : ℕ) {c d : Bool}
-        → p + suc m ≡ 10000 → Stood f y n (poll (i .geometry) s ++ ms) (looping m κ) e → (f .Still → q ≡ 0)
-        → (next : (e′ : Env) → e′ .lists .calls ≡ e .lists .calls → Stood f y (suc (suc (suc n))) ms κ e′
+        → p + suc m ≡ 10000 → OnPlan f y n (poll (i .geometry) s ++ ms) (looping m κ) e → (f .Still → q ≡ 0)
+        → (next : (e′ : Env) → e′ .lists .calls ≡ e .lists .calls → OnPlan f y (suc (suc (suc n))) ms κ e′
         → Reaches f z′ (sync (position y (suc (suc (suc n)))) (tally 0 a k) (aim (sysreqOf (i .geometry)) (over .sysreq) over) (record { tar = sysreqOf (i .geometry); counts = false; polling = false; due = d }) e′))
         → Reaches f z (sync (position y n) (tally p a k) (aim x v (during (busy q s₀ r₀ c₀) b)) (loopAt x c d) e)
     unfolding judge noticeRead

@@ -10,9 +10,9 @@ use mathlib.Core.Bool.{Bool, true, false, _&&_, not}
 use Rattle.flow.specs.Terms.{CalmLine, CalmCalls, NoError}
 use Rattle.flow.specs.Cuts.{cutMemory}
 use Rattle.flow.specs.Monitor.{Monitor, Waits, noWaits, Seen, watching, linkError, Watch, Delays, delayed}
-use Rattle.flow.specs.Plan.{Traffic}
+use Rattle.flow.specs.Plan.{Traffic, counting}
 use Rattle.flow.specs.Run.{Run, advance, handedOut}
-use Rattle.flow.specs.Sequence.{sequence, endMove}
+use Rattle.flow.specs.Sequence.{sequence, endMove, move}
 use Rattle.flow.specs.Session.{position, SessionState, running, reported, moveAt, standAfter}
 use Rattle.flow.specs.SealedRuns.{stepAt}
 use Rattle.flow.specs.Sealing.{isIdle, onMacro0, succeeds0, reopens, seals, HoldsImage}
@@ -94,15 +94,13 @@ tally p a k = record { waits = 0; polls = p; attempts = a; kept = k }
 abbrev pub seen : Waits → (polls attempts : ℕ) → Watch → Delays → Seen
 seen w p a t d = record { waits = w; polls = p; attempts = a; watch = t; delays = d }
 
--- a run whose monitor has counted as the session has; no transfer waits
+-- a run that stands at a move
+abbrev pub stood : Position → Counters → Seen → Target → Env → Run
+stood o c x b e = record { session = running o c (e .traffic .transfers); target = b; lists = e .lists; monitor = watching x; traffic = e .traffic }
+
+-- one whose monitor has counted as the session has; no transfer waits
 abbrev pub sync : Position → Counters → Target → Watch → Env → Run
-sync o c b t e = record {
-  session = running o c (e .traffic .transfers);
-  target = b;
-  lists = e .lists;
-  monitor = watching (seen noWaits (c .polls) (c .attempts) t (e .delays));
-  traffic = e .traffic;
-}
+sync o c b t e = stood o c (seen noWaits (c .polls) (c .attempts) t (e .delays)) b e
 
 -- a run after an answer to a move of flow step s
 abbrev pub after : Next → Position → (s : ℕ) → Target → Monitor → Env → Run
@@ -193,7 +191,8 @@ pub record StillCalm (e : Env) : Type 0 where
   pub calls : CalmCalls (e .lists .calls)
   pub none : delayed (e .delays) ≡ 0
 
-pub record Stood {i : Image} (f : Frame i) (y : Entry) (n : ℕ) (ms : List Move) (κ : Allowance) (e : Env) : Type 0 where
+-- the moves of ms are next, and with what they may cost the session keeps to its plan and its bounds
+pub record OnPlan {i : Image} (f : Frame i) (y : Entry) (n : ℕ) (ms : List Move) (κ : Allowance) (e : Env) : Type 0 where
   pub at : drop n (sequence i y) ≡ ms
   -- transfers + what is due ≡ plan + delays
   pub accounted : e .traffic .transfers + κ .due ≡ f .planned + delayed (e .delays)
@@ -203,27 +202,27 @@ pub record Stood {i : Image} (f : Frame i) (y : Entry) (n : ℕ) (ms : List Move
   pub calm : f .Still → StillCalm e
 
 -- less may be left
-pub less-room : {i : Image} {f : Frame i} {y : Entry} {n : ℕ} {ms : List Move} {κ : Allowance} {e : Env} (r : ℕ) → r ≤ κ .room → Stood f y n ms κ e
-    → Stood f y n ms (record { due = κ .due; room = r; xres = κ .xres; lines = κ .lines }) e
+pub less-room : {i : Image} {f : Frame i} {y : Entry} {n : ℕ} {ms : List Move} {κ : Allowance} {e : Env} (r : ℕ) → r ≤ κ .room → OnPlan f y n ms κ e
+    → OnPlan f y n ms (record { due = κ .due; room = r; xres = κ .xres; lines = κ .lines }) e
 less-room r h st = record { at = st .at; accounted = st .accounted; room = omega (arith, st .room); xres = st .xres; lines = st .lines; calm = st .calm }
 
 -- the moves of ms, then the rest, and what they may cost
-abbrev pub Stands : {i : Image} → Frame i → Entry → ℕ → List Move → List Move → Allowance → Env → Type 0
-Stands f y n ms later κ e = Stood f y n (ms ++ later) (withMoves ms κ) e
+abbrev pub OnPlanFor : {i : Image} → Frame i → Position → (ms later : List Move) → Allowance → Env → Type 0
+OnPlanFor f o ms later κ e = OnPlan f (o .entry) (o .at) (ms ++ later) (withMoves ms κ) e
 
 -- the first of two lists of moves
 pub split : {i : Image} {f : Frame i} {y : Entry} {n : ℕ} (a b : List Move) (ms : List Move) (κ : Allowance) {e : Env}
-    → Stands f y n (a ++ b) ms κ e → Stands f y n a (b ++ ms) (withMoves b κ) e
+    → OnPlanFor f (position y n) (a ++ b) ms κ e → OnPlanFor f (position y n) a (b ++ ms) (withMoves b κ) e
 split a b ms κ st = rw (append-assoc a b ms, with-moves-append a b κ) at st
 
 module _ {i : Image} {f : Frame i} {y : Entry} {n : ℕ} {m : Move} {ms : List Move} {κ : Allowance} {e : Env} where
   -- the standing move
-  pub at-move : Stood f y n (m ∷ ms) κ e → moveAt i (position y n) ≡ m
+  pub at-move : OnPlan f y n (m ∷ ms) κ e → moveAt i (position y n) ≡ m
   at-move s =
       let z : n + 0 ≡ n = omega arith in
       ap (λ (x : ℕ). getD (sequence i y) x endMove) (sym z) ∙ sym (getD-drop n (sequence i y) 0 endMove) ∙ ap (λ (l : List Move). getD l 0 endMove) (s .at)
 
-  pub at-next : Stood f y n (m ∷ ms) κ e → drop (suc n) (sequence i y) ≡ ms
+  pub at-next : OnPlan f y n (m ∷ ms) κ e → drop (suc n) (sequence i y) ≡ ms
   at-next s =
       let z : suc n ≡ n + 1 = omega arith in
       ap (λ (x : ℕ). drop x (sequence i y)) z ∙ sym (drop-drop 1 n (sequence i y)) ∙ ap (λ (l : List Move). drop 1 l) (s .at)
@@ -240,12 +239,19 @@ abbrev pub going : SessionState → Bool
 going (running o c h) = true
 going (reported x s h) = false
 
--- the session comes to Goal, or stops for a reason; on the way the memory is safe, and no more is handed out than is allowed
+-- what holds of a run on its way: the memory is safe, and no more is handed out than is allowed
+pub record OnWay {i : Image} (f : Frame i) (z : Bool) (r : Run) : Type 0 where
+  pub goes : going (r .session) ≡ true
+  pub safe : Lasting (f .Safe z) (r .target)
+  pub most : Bounded f (handedOut i r)
+  pub clear : NoError (r .monitor)
+
+-- the session comes to Goal, or stops for a reason
 pub data Reaches {i : Image} (f : Frame i) : (sealed : Bool) → Run → Type 0 where
   here : {z : Bool} {r : Run} → f .Goal z r → Reaches f z r
   stop : {z : Bool} {r : Run} → f .Stop z r → Reaches f z r
-  step : {z z′ : Bool} {r : Run} → going (r .session) ≡ true → Lasting (f .Safe z) (r .target) → Bounded f (handedOut i r) → NoError (r .monitor)
-      → Turn (stepAt i (r .session)) z (r .target) ((advance i r) .target) z′ → Reaches f z′ (advance i r) → Reaches f z r
+  step : {z z′ : Bool} {r : Run} → OnWay f z r → Turn (stepAt i (r .session)) z (r .target) ((advance i r) .target) z′
+      → Reaches f z′ (advance i r) → Reaches f z r
 
 pub clear : (x : Seen) → NoError (watching x)
 clear x n e = let no : _≡_ {A = ℕ} 0 1 = cc in omega arith
@@ -257,6 +263,10 @@ pub record Onto {i : Image} (f : Frame i) (s : ℕ) (z : Bool) (b : Target) (r :
   pub reaches : Reaches f sealed r
 
 -- a step whose outcome is known
-pub steps : {i : Image} (f : Frame i) {s : ℕ} {z : Bool} (r r′ : Run) → going (r .session) ≡ true → stepAt i (r .session) ≡ s → Lasting (f .Safe z) (r .target) → Bounded f (handedOut i r) → NoError (r .monitor)
-    → advance i r ≡ r′ → Onto f s z (r .target) r′ → Reaches f z r
-steps f r r′ goes at safe most clean e l = step {z′ = l .sealed} {r = r} goes safe most clean (rw (at, e) (l .turn)) (rw e (l .reaches))
+pub steps : {i : Image} (f : Frame i) {s : ℕ} {z : Bool} {q : Request} {u : Purpose} {y : Entry} {n : ℕ} {ms : List Move} {κ : Allowance} {e : Env}
+    (c : Counters) (x : Seen) {b : Target} {r : Run} → OnPlan f y n (move s q u ∷ ms) κ e → Lasting (f .Safe z) b → Bounded f (counting q (e .traffic))
+    → advance i (stood (position y n) c x b e) ≡ r → Onto f s z b r → Reaches f z (stood (position y n) c x b e)
+steps {i} f {s} {y = y} {n} {e = e} c x {b} st safe most is l =
+    let at : stepAt i (running (position y n) c (e .traffic .transfers)) ≡ s = ap (λ (m : Move). m .step) (at-move st) in
+    step {z′ = l .sealed} {r = stood (position y n) c x b e} (record { goes = refl; safe = safe; most = rw (at-move st) most; clear = clear x })
+    (rw (at, is) (l .turn)) (rw is (l .reaches))

@@ -32,7 +32,7 @@ use Rattle.flow.proofs.Passing.{table-facts}
 use Rattle.flow.proofs.Phases.{callD}
 use Rattle.flow.proofs.Places.{place-sysreq, place-sysarg}
 use Rattle.flow.proofs.Polling.{idleAt}
-use Rattle.flow.proofs.Reaches.{Allowance, withMoves, Env, sync, RightIds, Frame, Lasting, Stands, split, Reaches, here, stop, step, tally, seen}
+use Rattle.flow.proofs.Reaches.{Allowance, withMoves, Env, sync, RightIds, Frame, Lasting, OnPlanFor, split, Reaches, here, stop, step, tally, seen}
 use Rattle.flow.proofs.Table.{Facts}
 use Rattle.image.specs.Image.{Image, imageOf}
 use Rattle.image.specs.declared.Header.{Header}
@@ -91,8 +91,8 @@ module _ (i : Image) (b : Target) (right : RightIds i (b .silicon)) where
   unfolding short runAfter
   passes r (here goal) few = record { n = 0; is = goal few }
   passes r (stop never) few = absurd never
-  passes r (step goes safe most clean turn more) few =
-      let z = passes (advance i r) more (rw (met-traffic i r goes) (most .transfers)) in
+  passes r (step w turn more) few =
+      let z = passes (advance i r) more (rw (met-traffic i r (w .goes)) (w .most .transfers)) in
       record { n = suc (z .n); is = z .is }
 
   module _ (fx : Facts (i .geometry)) (two : b .memory .stored ≡ 2) where
@@ -100,7 +100,7 @@ module _ (i : Image) (b : Target) (right : RightIds i (b .silicon)) where
     unfolding short
     any c = record { now = tt; cut = λ r. tt }
 
-    reopens : {n x k : ℕ} (later : List Move) {e : Env} {c : Target} → Acquired short (b .memory) k (core c) → Stands short FromProtected n lead later behind e
+    reopens : {n x k : ℕ} (later : List Move) {e : Env} {c : Target} → Acquired short (b .memory) k (core c) → OnPlanFor short (position FromProtected n) lead later behind e
         → Reaches short false (sync (position FromProtected n) (tally 0 0 k) c (idleAt x) e)
     unfolding short write
     reopens later {c = c} p st =
@@ -121,7 +121,7 @@ module _ (i : Image) (b : Target) (right : RightIds i (b .silicon)) where
         (poll (i .geometry) 3 ++ read 3 (sysargOf (i .geometry)) Status)
         ++ (acquire (i .geometry) ++ (silicon (i .geometry) Reopened ++ program i))
 
-    start : Stands short FromOpen 0 (opening i) (afterwards i FromOpen) (withMoves lead behind) (firstEnv none)
+    start : OnPlanFor short (position FromOpen 0) (opening i) (afterwards i FromOpen) (withMoves lead behind) (firstEnv none)
     unfolding short sequence
     start = record {
       at = refl;

@@ -44,20 +44,20 @@ module _ (i : Image) (lv : Level (i .header .level)) (b : Target) (l : Lists) wh
   unfolding runAfter frame
   later k r (here g) q = rw (stays i k r (finishes (g .1))) (at-rest (HoldsImage i) (r .target) (g .1 .quiet) (g .1 .holds-image))
   later k r (stop s) q = rw (stays i k r (stops s)) (held (r .target) (s .sound) q)
-  later zero r (step g safe most clean turn more) q = held (r .target) safe q
-  later (suc k) r (step g safe most clean (without h) more) q = later k (advance i r) more q
-  later (suc k) r (step g safe most clean (reopening h at) more) q = absurd (false≢true q)
-  later (suc k) r (step g safe most clean (sealing h at) more) q = later k (advance i r) more refl
+  later zero r (step w turn more) q = held (r .target) (w .safe) q
+  later (suc k) r (step w (without h) more) q = later k (advance i r) more q
+  later (suc k) r (step w (reopening h at) more) q = absurd (false≢true q)
+  later (suc k) r (step w (sealing h at) more) q = later k (advance i r) more refl
 
   after-seal : (n k : ℕ) {z : Bool} (r : Run) → Reaches ours z r → seals ((runAfter i n r) .target) ((runAfter i (suc n) r) .target) ≡ true
       → Lasting (HoldsImage i) ((runAfter i (suc n + k) r) .target)
   unfolding runAfter frame
   after-seal n k r (here g) h = absurd (none-seals n r (finishes (g .1)) h)
   after-seal n k r (stop s) h = absurd (none-seals n r (stops s) h)
-  after-seal zero k r (step g safe most clean (without q) more) h = absurd (false≢true (sym (no-seal (r .target) ((advance i r) .target) q) ∙ h))
-  after-seal zero k r (step g safe most clean (reopening q at) more) h = absurd (false≢true (sym q ∙ h))
-  after-seal zero k r (step g safe most clean (sealing q at) more) h = let e : suc 0 + k ≡ suc k = omega arith in rw e (later k (advance i r) more refl)
-  after-seal (suc n) k r (step g safe most clean turn more) h =
+  after-seal zero k r (step w (without q) more) h = absurd (false≢true (sym (no-seal (r .target) ((advance i r) .target) q) ∙ h))
+  after-seal zero k r (step w (reopening q at) more) h = absurd (false≢true (sym q ∙ h))
+  after-seal zero k r (step w (sealing q at) more) h = let e : suc 0 + k ≡ suc k = omega arith in rw e (later k (advance i r) more refl)
+  after-seal (suc n) k r (step w turn more) h =
       let e : suc (suc n) + k ≡ suc (suc n + k) = omega arith in
       rw e (after-seal n k (advance i r) more h)
 
@@ -76,10 +76,10 @@ module _ (i : Image) (lv : Level (i .header .level)) (b : Target) (l : Lists) wh
   unfolding runAfter frame
   on-the-way n r t h (here g) q e = absurd (false≢true (sym q ∙ g .0))
   on-the-way n r t h (stop s) q e = absurd (not-done r t h s (sym (ap (λ (x : Run). x .session) (stays i n r (stops s))) ∙ e))
-  on-the-way zero r t h (step g safe most clean turn more) q e = absurd (false≢true (sym (ap going e) ∙ g))
-  on-the-way (suc n) r t h (step g safe most clean (without u) more) q e = sooner n r (on-the-way n (advance i r) t h more q e)
-  on-the-way (suc n) r t h (step g safe most clean (reopening u at) more) q e = sooner n r (on-the-way n (advance i r) t h more refl e)
-  on-the-way (suc n) r t h (step g safe most clean (sealing u at) more) q e = record { before = 0; within = omega arith; seals = u }
+  on-the-way zero r t h (step w turn more) q e = absurd (false≢true (sym (ap going e) ∙ w .goes))
+  on-the-way (suc n) r t h (step w (without u) more) q e = sooner n r (on-the-way n (advance i r) t h more q e)
+  on-the-way (suc n) r t h (step w (reopening u at) more) q e = sooner n r (on-the-way n (advance i r) t h more refl e)
+  on-the-way (suc n) r t h (step w (sealing u at) more) q e = record { before = 0; within = omega arith; seals = u }
 
   -- the step of a call for macro 0 that succeeds
   step-of : (n : ℕ) {z : Bool} (r : Run) → Reaches ours z r → succeeds0 ((runAfter i n r) .target) ((runAfter i (suc n) r) .target) ≡ true
@@ -87,10 +87,10 @@ module _ (i : Image) (lv : Level (i .header .level)) (b : Target) (l : Lists) wh
   unfolding runAfter frame
   step-of n r (here g) h = absurd (none-succeeds n r (finishes (g .1)) h)
   step-of n r (stop s) h = absurd (none-succeeds n r (stops s) h)
-  step-of zero r (step g safe most clean (without q) more) h = absurd (false≢true (sym q ∙ h))
-  step-of zero r (step g safe most clean (reopening q at) more) h = at ∙ ap (λ (y : Bool). cond y 7 3) (sym q)
-  step-of zero r (step g safe most clean (sealing q at) more) h = at ∙ ap (λ (y : Bool). cond y 7 3) (sym q)
-  step-of (suc n) r (step g safe most clean turn more) h = step-of n (advance i r) more h
+  step-of zero r (step w (without q) more) h = absurd (false≢true (sym q ∙ h))
+  step-of zero r (step w (reopening q at) more) h = at ∙ ap (λ (y : Bool). cond y 7 3) (sym q)
+  step-of zero r (step w (sealing q at) more) h = at ∙ ap (λ (y : Bool). cond y 7 3) (sym q)
+  step-of (suc n) r (step w turn more) h = step-of n (advance i r) more h
 
 -- what a cut leaves is what the failed call left
 through-cut : (i : Image) (b b′ : Target) → Lasting (HoldsImage i) b → CutTo b b′ → HoldsImage i (b′ .memory)

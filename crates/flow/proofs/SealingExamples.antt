@@ -15,16 +15,16 @@ use Rattle.flow.specs.Exchange.{Met, decode, carry, barred, transferred,
 use Rattle.flow.specs.Map.{search, regions, lockRegions}
 use Rattle.flow.specs.Sealing.{seals, HoldsImage}
 use Rattle.flow.specs.SealingExamples.{locking, sealedBy, image, latch, holding, SealingExamples}
-use Rattle.flow.specs.Target.{Target, idle, Lists, nextEvent}
+use Rattle.flow.specs.Target.{Target, idle, Lists}
 use Rattle.flow.specs.Words.{succeeded}
 use Rattle.flow.specs.declared.Request.the-variants.{ReadDrw, WriteTar}
 use Rattle.flow.specs.declared.TransferOutcome.the-variants.{Silent, Noisy}
 use Rattle.parts.specs.Sizes.{rowsOf, locksIn, lockStart, flashSize}
 
-byRead : (l : Lists) (b : Target) (y : Bool) → seals b ((transferred partOne ReadDrw (nextEvent (l .line)) l b) .target) ≡ y → sealedBy ReadDrw l b ≡ y
+byRead : (l : Lists) (b : Target) (y : Bool) → seals b ((transferred partOne ReadDrw l b) .target) ≡ y → sealedBy ReadDrw l b ≡ y
 byRead l b y e = ap (λ (m : Met). seals b (m .target)) (meets partOne (plain aRead) l b) ∙ e
 
-byTar : (a : ℕ) (l : Lists) (b : Target) (y : Bool) → seals b ((transferred partOne (WriteTar a) (nextEvent (l .line)) l b) .target) ≡ y → sealedBy (WriteTar a) l b ≡ y
+byTar : (a : ℕ) (l : Lists) (b : Target) (y : Bool) → seals b ((transferred partOne (WriteTar a) l b) .target) ≡ y → sealedBy (WriteTar a) l b ≡ y
 byTar a l b y e = ap (λ (m : Met). seals b (m .target)) (meets partOne (plain aTar) l b) ∙ e
 
 image-held : HoldsImage image ((holding idle) .memory)

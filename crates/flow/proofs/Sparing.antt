@@ -9,7 +9,7 @@ use Rattle.flow.specs.Target.{Target}
 use Rattle.flow.specs.Terms.{entryOf}
 use Rattle.flow.proofs.Demand.{right-part, stays, goes}
 use Rattle.flow.proofs.Entering.{start-reaches}
-use Rattle.flow.proofs.Frames.{start-stands}
+use Rattle.flow.proofs.Frames.{start-on-plan}
 use Rattle.flow.proofs.Passing.{table-facts, valid}
 use Rattle.flow.proofs.Reaches.{RightIds, Frame, going, Reaches, here, stop, step}
 use Rattle.image.specs.Image.{Image, imageOf}
@@ -45,8 +45,8 @@ module _ (i : Image) (b : Target) (wrong : RightIds i (b .silicon) → ⊥) wher
   unfolding runAfter sparing
   spares n r (here done) = absurd done
   spares n r (stop left) = rw (stays i n r (left .ended)) (left .same)
-  spares zero r (step goes safe most clean turn more) = safe .now
-  spares (suc n) r (step goes safe most clean turn more) = spares n (advance i r) more
+  spares zero r (step w turn more) = w .safe .now
+  spares (suc n) r (step w turn more) = spares n (advance i r) more
 
 pub other-part-spared : OtherPartSpared
 unfolding sparing
@@ -57,4 +57,4 @@ other-part-spared g h bytes p b s l n wrong =
     spares i b (λ right. wrong (right-part i (b .silicon) right)) n (started b l)
     (start-reaches f fx (valid g h bytes p) (record { high = s .high; low = s .low; revision = s .revision; family = s .family }) (b .memory)
     (record { flash = s .flash; locks = s .locks; latch = s .latch }) refl (goes b (s .level))
-    (record { silicon = refl; memory = refl; room = s .params; quiet = s .quiet }) (start-stands i fx f b l refl refl (λ still. absurd still)))
+    (record { silicon = refl; memory = refl; room = s .params; quiet = s .quiet }) (start-on-plan i fx f b l refl refl (λ still. absurd still)))

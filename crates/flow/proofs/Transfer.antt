@@ -12,7 +12,7 @@ use Rattle.flow.specs.Judge.{withWaits, judge}
 use Rattle.flow.specs.Monitor.{Delays, Waits, noWaits, waitsOn, Monitor, watching, Watch, oneWait, waitsOf, watchBy, noticed, watch}
 use Rattle.flow.specs.Packets.{Verdict, again, verdict, packetOf, byteIn, wordIn}
 use Rattle.flow.specs.Plan.{Traffic, counting}
-use Rattle.flow.specs.Run.{Run, advance, handedOut}
+use Rattle.flow.specs.Run.{Run, advance}
 use Rattle.flow.specs.Sequence.{move}
 use Rattle.flow.specs.Session.{position, running, heardBy, stepOf}
 use Rattle.flow.specs.Target.{Target, Lists, CallOutcome, nextEvent, nextOutcome, rest}
@@ -26,7 +26,7 @@ use Rattle.flow.specs.declared.Request.{Request}
 use Rattle.flow.specs.declared.TransferOutcome.the-variants.{Clean}
 use Rattle.flow.proofs.Decoding.{Plain, aTar, aDrw, aRead, aCtrl, aSelect, aCsw, plain, meets}
 use Rattle.flow.proofs.Hearing.{listsAfter, Heard, heardOkay, heardWait, heardError, heardErrorDone, hears}
-use Rattle.flow.proofs.Reaches.{Allowance, withTransfer, Env, tally, seen, sync, after, Frame, Lasting, Stood, at-move, at-next, Bounded, Turn, without, same-running, Reaches, stop, Onto, steps, clear}
+use Rattle.flow.proofs.Reaches.{Allowance, withTransfer, Env, tally, seen, stood, sync, after, Frame, Lasting, OnPlan, at-move, at-next, Turn, without, same-running, Reaches, stop, Onto, steps}
 use Rattle.image.specs.Image.{Image}
 use Rattle.parts.specs.declared.Geometry.{Geometry}
 
@@ -76,13 +76,7 @@ waits-so-far q (suc w) = rw (eq-eqb (byteIn (packetOf q)) (byteIn (packetOf q)) 
 
 -- a run in which the standing request has been answered so; with none it is `sync`
 abbrev paused : Request → Position → Counters → Target → Watch → Env → Run
-paused q o c b t e = record {
-  session = running o c (e .traffic .transfers);
-  target = b;
-  lists = e .lists;
-  monitor = watching (seen (waitingFor q (c .waits)) (c .polls) (c .attempts) t (e .delays));
-  traffic = e .traffic;
-}
+paused q o c b t e = stood o c (seen (waitingFor q (c .waits)) (c .polls) (c .attempts) t (e .delays)) b e
 
 -- what the monitor makes of a verdict on it, and of an OK with a word
 abbrev sees : Geometry → Request → Verdict → Counters → Watch → Delays → Monitor
@@ -93,10 +87,10 @@ notes g q x c t d = noticed g q x (seen noWaits (c .polls) (c .attempts) t d)
 
 module _ {i : Image} (f : Frame i) where
   abbrev metBy : Request → Target → Env → Met
-  metBy q b e = transferred (i .geometry) q (nextEvent (e .lists .line)) (e .lists) b
+  metBy q b e = transferred (i .geometry) q (e .lists) b
 
   arrives : {q : Request} → Plain q → {s : ℕ} {u : Purpose} {y : Entry} {n : ℕ} {ms : List Move} {κ : Allowance} {e : Env} (c : Counters) (b : Target) (t : Watch)
-      → Stood f y n (move s q u ∷ ms) κ e
+      → OnPlan f y n (move s q u ∷ ms) κ e
       → advance i (paused q (position y n) c b t e)
       ≡ after (heardBy false i u (verdict q ((metBy q b e) .answer)) c) (position y n) s ((metBy q b e) .target)
       (sees (i .geometry) q (verdict q ((metBy q b e) .answer)) c t (e .delays)) (passed ((metBy q b e) .lists) e)
@@ -108,23 +102,19 @@ module _ {i : Image} (f : Frame i) where
   arrives (aSelect {w = v}) {e = e} c b t st = rw (at-move st, meets (i .geometry) (plain (aSelect {w = v})) (e .lists) b)
   arrives (aCsw {w = v}) {e = e} c b t st = rw (at-move st, meets (i .geometry) (plain (aCsw {w = v})) (e .lists) b)
 
-  bounded : {q : Request} → Plain q → {s : ℕ} {u : Purpose} {y : Entry} {n : ℕ} {ms : List Move} (v : ℕ) (κ : Allowance) {e : Env} (c : Counters) (b : Target) (t : Watch)
-      → Stood f y n (move s q u ∷ ms) (waiting v κ) e → Bounded f (handedOut i (paused q (position y n) c b t e))
-  bounded h v κ {e} c b t st =
-      rw (at-move st, counts h (e .traffic)) (record { transfers = omega (arith, st .room); xresets = omega (arith, st .xres); lineResets = omega (arith, st .lines) })
-
   -- one exchange: `onWait` is where a WAIT leads to
   once : {z z′ : Bool} {q : Request} → Plain q → {s : ℕ} {u : Purpose} {y : Entry} {n : ℕ} {ms : List Move} (v : ℕ) {κ : Allowance} {e : Env} (c : Counters) (b : Target) (t : Watch)
-      → Stood f y n (move s q u ∷ ms) (waiting v κ) e → killed b ≡ false → barred (i .geometry) q b ≡ false
+      → OnPlan f y n (move s q u ∷ ms) (waiting v κ) e → killed b ≡ false → barred (i .geometry) q b ≡ false
       → Lasting (f .Safe z) b → ((o : ℕ) → Lasting (f .Safe z′) (carry (i .geometry) q o (nextOutcome (e .lists .calls)) b))
       → ((o : ℕ) → Turn s z b (carry (i .geometry) q o (nextOutcome (e .lists .calls)) b) z′)
       → (onWait : (f .Still → ⊥) → Reaches f z (after (heardBy false i u again c) (position y n) s b (sees (i .geometry) q again c t (e .delays)) (passed (record { line = rest (e .lists .line); calls = e .lists .calls }) e)))
-      → (next : (o : ℕ) → Stood f y (suc n) ms κ (passed (listsAfter (i .geometry) q b (e .lists)) e)
+      → (next : (o : ℕ) → OnPlan f y (suc n) ms κ (passed (listsAfter (i .geometry) q b (e .lists)) e)
       → Reaches f z′ (after (judge i u (withWaits 0 c) (gives q b)) (position y n) s (carry (i .geometry) q o (nextOutcome (e .lists .calls)) b) (notes (i .geometry) q (gives q b) c t (e .delays)) (passed (listsAfter (i .geometry) q b (e .lists)) e)))
       → Reaches f z (paused q (position y n) c b t e)
   once {z} {z′} {q} h {s} {u} {y} {n} {ms} v {κ} {e} c b t st not-killed free safe safe′ turn onWait next =
-      steps f (paused q (position y n) c b t e) met refl (ap (λ (m : Move). m .step) (at-move st)) safe (bounded h v κ c b t st) (clear _) (arrives h c b t st)
-      (by (hears (i .geometry) (e .lists) b (plain h) (nextEvent (e .lists .line)) not-killed free))
+      steps f c _ st safe (rw (counts h (e .traffic)) (record { transfers = omega (arith, st .room); xresets = omega (arith, st .xres); lineResets = omega (arith, st .lines) }))
+      (arrives h c b t st)
+      (by (hears (i .geometry) (e .lists) b (plain h) not-killed free))
     where
       not-calm : ((nextEvent (e .lists .line)) .outcome ≡ Clean → ⊥) → f .Still → ⊥
       not-calm bad still = bad (calm-event ((st .calm still) .line))
@@ -132,8 +122,8 @@ module _ {i : Image} (f : Frame i) where
       met : Run
       met = after (heardBy false i u (verdict q ((metBy q b e) .answer)) c) (position y n) s ((metBy q b e) .target) (sees (i .geometry) q (verdict q ((metBy q b e) .answer)) c t (e .delays)) (passed ((metBy q b e) .lists) e)
 
-      stood : Stood f y (suc n) ms κ (passed (listsAfter (i .geometry) q b (e .lists)) e)
-      stood = record {
+      moved : OnPlan f y (suc n) ms κ (passed (listsAfter (i .geometry) q b (e .lists)) e)
+      moved = record {
         at = at-next st;
         accounted = omega (arith, st .accounted);
         room = omega (arith, st .room);
@@ -147,8 +137,8 @@ module _ {i : Image} (f : Frame i) where
       same : Turn s z b b z
       same = without (same-running b b refl)
 
-      by : Heard (i .geometry) q (nextEvent (e .lists .line)) (e .lists) b (metBy q b e) → Onto f s z b met
-      by (heardOkay hb hv hl) = rw (hb, hv, hl) (record { sealed = z′; turn = turn ((nextEvent (e .lists .line)) .other); reaches = next ((nextEvent (e .lists .line)) .other) stood })
+      by : Heard (i .geometry) q (e .lists) b (metBy q b e) → Onto f s z b met
+      by (heardOkay hb hv hl) = rw (hb, hv, hl) (record { sealed = z′; turn = turn ((nextEvent (e .lists .line)) .other); reaches = next ((nextEvent (e .lists .line)) .other) moved })
       by (heardWait bad hb hv hl) = rw (hb, hv, hl) (record { sealed = z; turn = same; reaches = onWait (not-calm bad) })
       by (heardError x hn bad hb hv) = rw (hb, hv) (record { sealed = z; turn = same; reaches = stop (f .caught x s b _ (more (e .traffic)) hn (not-calm bad) safe) })
       by (heardErrorDone x hn bad hb hv) =
@@ -157,10 +147,10 @@ module _ {i : Image} (f : Frame i) where
   -- v more repeats are allowed
   transfer-from : (v : ℕ) {z z′ : Bool} {q : Request} → Plain q → {s : ℕ} {u : Purpose} {y : Entry} {n : ℕ} {ms : List Move} {κ : Allowance} (e : Env) (c : Counters) (b : Target) (t : Watch)
       → c .waits + v ≡ 16
-      → Stood f y n (move s q u ∷ ms) (waiting v κ) e → killed b ≡ false → barred (i .geometry) q b ≡ false
+      → OnPlan f y n (move s q u ∷ ms) (waiting v κ) e → killed b ≡ false → barred (i .geometry) q b ≡ false
       → Lasting (f .Safe z) b → ((o : ℕ) → Lasting (f .Safe z′) (carry (i .geometry) q o (nextOutcome (e .lists .calls)) b))
       → ((o : ℕ) → Turn s z b (carry (i .geometry) q o (nextOutcome (e .lists .calls)) b) z′)
-      → (next : (o : ℕ) (e′ : Env) → e′ .lists .calls ≡ cond (callsOn (i .geometry) q b) (rest (e .lists .calls)) (e .lists .calls) → Stood f y (suc n) ms κ e′
+      → (next : (o : ℕ) (e′ : Env) → e′ .lists .calls ≡ cond (callsOn (i .geometry) q b) (rest (e .lists .calls)) (e .lists .calls) → OnPlan f y (suc n) ms κ e′
       → Reaches f z′ (after (judge i u (withWaits 0 c) (gives q b)) (position y n) s (carry (i .geometry) q o (nextOutcome (e .lists .calls)) b) (notes (i .geometry) q (gives q b) c t (e′ .delays)) e′))
       → Reaches f z (paused q (position y n) c b t e)
   transfer-from zero {q} h {s = s} e c b t count st not-killed free safe safe′ turn next =
@@ -178,10 +168,10 @@ module _ {i : Image} (f : Frame i) where
 
   -- any transfer outside the attempts
   pub transfer : {z z′ : Bool} {q : Request} → Plain q → {s : ℕ} {u : Purpose} {y : Entry} {n : ℕ} {ms : List Move} {κ : Allowance} {e : Env} {p a k : ℕ} {b : Target} {t : Watch}
-      → Stood f y n (move s q u ∷ ms) (withTransfer κ) e → killed b ≡ false → barred (i .geometry) q b ≡ false
+      → OnPlan f y n (move s q u ∷ ms) (withTransfer κ) e → killed b ≡ false → barred (i .geometry) q b ≡ false
       → Lasting (f .Safe z) b → ((o : ℕ) → Lasting (f .Safe z′) (carry (i .geometry) q o (nextOutcome (e .lists .calls)) b))
       → ((o : ℕ) → Turn s z b (carry (i .geometry) q o (nextOutcome (e .lists .calls)) b) z′)
-      → (next : (o : ℕ) (e′ : Env) → e′ .lists .calls ≡ cond (callsOn (i .geometry) q b) (rest (e .lists .calls)) (e .lists .calls) → Stood f y (suc n) ms κ e′
+      → (next : (o : ℕ) (e′ : Env) → e′ .lists .calls ≡ cond (callsOn (i .geometry) q b) (rest (e .lists .calls)) (e .lists .calls) → OnPlan f y (suc n) ms κ e′
       → Reaches f z′ (after (judge i u (tally p a k) (gives q b)) (position y n) s (carry (i .geometry) q o (nextOutcome (e .lists .calls)) b) (notes (i .geometry) q (gives q b) (tally p a k) t (e′ .delays)) e′))
       → Reaches f z (sync (position y n) (tally p a k) b t e)
   transfer h {e = e} st not-killed free safe safe′ turn next = transfer-from 16 h e (tally _ _ _) _ _ refl st not-killed free safe safe′ turn next

@@ -75,25 +75,26 @@ carry-same g (WriteTar a) o c c′ b h = refl
 carry-same g (WriteDrw w) o c c′ b h = store-same w c c′ (place g (b .tar)) b h
 carry-same g (WriteSetup r w) o c c′ b h = refl
 
-module _ (g : Geometry) (q : Request) (ev : LineEvent) (a : Reply) (b : Target) (x : Lists) where
-  -- the line's entry is taken from before x
-  carried : (line : List LineEvent) (calls later : List CallOutcome) → rest (line ++ x .line) ≡ rest line ++ x .line → x .calls ≡ later → (y : Bool) → callsOn g q b ≡ y
-      → Alike x (met true g q ev (record { line = line; calls = calls }) a b) (met true g q ev (behind x (record { line = line; calls = calls })) a b)
-  carried line (o ∷ os) later h k true e = same (rw (e, h))
-  carried line (o ∷ os) later h k false e = same (rw (e, h))
-  carried line [] [] h k true e = same (rw (e, h, k))
-  carried line [] (o ∷ os) h k true e = into (inr (rw (e, k) (le-refl _)))
-  carried line [] later h k false e = same (rw (e, h, carry-same g q (ev .other) (nextOutcome (x .calls)) (nextOutcome []) b e))
+-- the line's entry is taken from before x
+module _ (g : Geometry) (q : Request) (a : Reply) (b : Target) (x : Lists) (line : List LineEvent)
+    (event : nextEvent (line ++ x .line) ≡ nextEvent line) (left : rest (line ++ x .line) ≡ rest line ++ x .line) where
+  carried : (calls later : List CallOutcome) → x .calls ≡ later → (y : Bool) → callsOn g q b ≡ y
+      → Alike x (met true g q (record { line = line; calls = calls }) a b) (met true g q (behind x (record { line = line; calls = calls })) a b)
+  carried (o ∷ os) later k true e = same (rw (e, event, left))
+  carried (o ∷ os) later k false e = same (rw (e, event, left))
+  carried [] [] k true e = same (rw (e, event, left, k))
+  carried [] (o ∷ os) k true e = into (inr (rw (e, k) (le-refl _)))
+  carried [] later k false e = same (rw (e, event, left, carry-same g q ((nextEvent line) .other) (nextOutcome (x .calls)) (nextOutcome []) b e))
 
-  met-alike : (c : Bool) (line : List LineEvent) (calls : List CallOutcome) → rest (line ++ x .line) ≡ rest line ++ x .line
-      → Alike x (met c g q ev (record { line = line; calls = calls }) a b) (met c g q ev (behind x (record { line = line; calls = calls })) a b)
-  met-alike false line calls h = same (rw h)
-  met-alike true line calls h = carried line calls (x .calls) h refl (callsOn g q b) refl
+  met-alike : (c : Bool) (calls : List CallOutcome)
+      → Alike x (met c g q (record { line = line; calls = calls }) a b) (met c g q (behind x (record { line = line; calls = calls })) a b)
+  met-alike false calls = same (rw left)
+  met-alike true calls = carried calls (x .calls) refl (callsOn g q b) refl
 
 -- either way a line's entry is gone
-met-line : (c : Bool) (g : Geometry) (q : Request) (ev : LineEvent) (l : Lists) (a : Reply) (b : Target) → (met c g q ev l a b) .lists .line ≡ rest (l .line)
-met-line true g q ev l a b = refl
-met-line false g q ev l a b = refl
+met-line : (c : Bool) (g : Geometry) (q : Request) (l : Lists) (a : Reply) (b : Target) → (met c g q l a b) .lists .line ≡ rest (l .line)
+met-line true g q l a b = refl
+met-line false g q l a b = refl
 
 -- whether a transfer is carried out, and its answer
 abbrev flagOf : Geometry → Request → LineEvent → Target → Bool
@@ -104,15 +105,15 @@ replyOf g q e b = cond (killed b) (silentReply (e .filler)) (replyTo (e .outcome
 
 module _ (g : Geometry) where
   transferred-alike : (q : Request) (line later : List LineEvent) (calls more : List CallOutcome) (b : Target)
-      → Alike (record { line = later; calls = more }) (transferred g q (nextEvent line) (record { line = line; calls = calls }) b)
-      (transferred g q (nextEvent (line ++ later)) (record { line = line ++ later; calls = calls ++ more }) b)
+      → Alike (record { line = later; calls = more }) (transferred g q (record { line = line; calls = calls }) b)
+      (transferred g q (record { line = line ++ later; calls = calls ++ more }) b)
   unfolding transferred
   transferred-alike q (e ∷ es) later calls more b =
-      met-alike g q e (replyOf g q e b) b (record { line = later; calls = more }) (flagOf g q e b) (e ∷ es) calls refl
+      met-alike g q (replyOf g q e b) b (record { line = later; calls = more }) (e ∷ es) refl refl (flagOf g q e b) calls
   transferred-alike q [] [] calls more b =
-      met-alike g q (nextEvent []) (replyOf g q (nextEvent []) b) b (record { line = []; calls = more }) (flagOf g q (nextEvent []) b) [] calls refl
+      met-alike g q (replyOf g q (nextEvent []) b) b (record { line = []; calls = more }) [] refl refl (flagOf g q (nextEvent []) b) calls
   transferred-alike q [] (e ∷ es) calls more b =
-      into (inl (rw (met-line (flagOf g q e b) g q e (record { line = e ∷ es; calls = calls ++ more }) (replyOf g q e b) b) (le-refl _)))
+      into (inl (rw (met-line (flagOf g q e b) g q (record { line = e ∷ es; calls = calls ++ more }) (replyOf g q e b) b) (le-refl _)))
 
 module _ (g : Geometry) (x : Lists) where
   meet-alike : (d : Decoded) (l : Lists) (b : Target) → Alike x (meetOn g d l b) (meetOn g d (behind x l) b)
@@ -159,13 +160,13 @@ then {l″ = l″} u v = record {
   callsIs = u .callsIs ∙ ap (λ (x : List CallOutcome). u .calls ++ x) (v .callsIs) ∙ sym (append-assoc (u .calls) (v .calls) (l″ .calls));
 }
 
-met-used : (c : Bool) (g : Geometry) (q : Request) (ev : LineEvent) (l : Lists) (a : Reply) (b : Target) → Used l ((met c g q ev l a b) .lists)
-met-used true g q ev l a b = used (first (l .line)) (perhaps (callsOn g q b) (l .calls))
-met-used false g q ev l a b = used (first (l .line)) (whole (l .calls))
+met-used : (c : Bool) (g : Geometry) (q : Request) (l : Lists) (a : Reply) (b : Target) → Used l ((met c g q l a b) .lists)
+met-used true g q l a b = used (first (l .line)) (perhaps (callsOn g q b) (l .calls))
+met-used false g q l a b = used (first (l .line)) (whole (l .calls))
 
-transferred-used : (g : Geometry) (q : Request) (l : Lists) (b : Target) → Used l ((transferred g q (nextEvent (l .line)) l b) .lists)
+transferred-used : (g : Geometry) (q : Request) (l : Lists) (b : Target) → Used l ((transferred g q l b) .lists)
 unfolding transferred
-transferred-used g q l b = met-used (flagOf g q (nextEvent (l .line)) b) g q (nextEvent (l .line)) l (replyOf g q (nextEvent (l .line)) b) b
+transferred-used g q l b = met-used (flagOf g q (nextEvent (l .line)) b) g q l (replyOf g q (nextEvent (l .line)) b) b
 
 meet-used : (g : Geometry) (d : Decoded) (l : Lists) (b : Target) → Used l ((meetOn g d l b) .lists)
 meet-used g (Known Xres) l b = used (whole (l .line)) (whole (l .calls))

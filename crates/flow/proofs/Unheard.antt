@@ -77,7 +77,7 @@ no e h = false≢true (sym e ∙ h)
 
 module _ (g : Geometry) (calls : List CallOutcome) (b : Target) where
   abbrev transferOn : Request → List LineEvent → Met
-  transferOn q line = transferred g q (nextEvent line) (record { line = line; calls = calls }) b
+  transferOn q line = transferred g q (record { line = line; calls = calls }) b
 
   abbrev meetWith : Decoded → List LineEvent → Met
   meetWith d line = meetOn g d (record { line = line; calls = calls }) b
@@ -86,7 +86,7 @@ module _ (g : Geometry) (calls : List CallOutcome) (b : Target) where
   abbrev transferBy : (kills bars : Bool) → Request → List LineEvent → Met
   transferBy kills bars q line =
       let e = nextEvent line in
-      met (not kills && not bars && carriedOut (e .outcome)) g q e (record { line = line; calls = calls })
+      met (not kills && not bars && carriedOut (e .outcome)) g q (record { line = line; calls = calls })
       (cond kills (silentReply (e .filler)) (replyTo (e .outcome) bars (isRead q) (gives q b) (e .filler))) b
 
   transfer-ahead : (es : List LineEvent) (q : Request) → Ahead es (transferOn q)
@@ -145,7 +145,7 @@ module _ (g : Geometry) (calls : List CallOutcome) (b : Target) where
   unfolding carry
   idcode-ends =
       rw (decodes attempt)
-      (carried-keeps g (λ z. seals b z ≡ false) ReadIdcode (λ o c z h. h) clean (record { line = []; calls = calls }) b (no-seal b b (same-running b b refl)))
+      (carried-keeps g (λ z. seals b z ≡ false) ReadIdcode (λ o c z h. h) (record { line = []; calls = calls }) b (no-seal b b (same-running b b refl)))
 
   -- so that no reset and no attempt seals
   is-outside : (q : Request) → seals b ((meetWith (decode (packetOf q)) []) .target) ≡ true → Outside q

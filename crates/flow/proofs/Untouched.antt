@@ -12,18 +12,9 @@ use Rattle.flow.specs.declared.Place.{Place}
 use Rattle.flow.specs.declared.Place.the-variants.{InFlash, InLocks, InParams, AtLevel, AtSysreq, AtSysarg, AtTestMode, Elsewhere}
 use Rattle.flow.specs.declared.Request.{Request}
 use Rattle.flow.specs.declared.Request.the-variants.{Xres, LineReset, ReadIdcode, ReadDrw, WriteTar, WriteDrw, WriteSetup}
-use Rattle.flow.proofs.Acquiring.{still-0, still-15}
+use Rattle.flow.proofs.Calling.{Harmless, still}
 use Rattle.flow.proofs.Meeting.{carried-keeps, request-keeps}
 use Rattle.parts.specs.declared.Geometry.{Geometry}
-
--- calls that alter nothing, failed or not
-pub data Harmless : ℕ → Type 0 where
-  ids : Harmless 0
-  imo : Harmless 0x15
-
-still : {c : ℕ} → Harmless c → (g : Geometry) (y : Bool) (r : Residue) (b : Target) → (finish g y r c b) .memory ≡ b .memory
-still ids g y r b = still-0 g y r b
-still imo g y r b = still-15 g y r b
 
 abbrev Resting : Running → Type 0
 Resting idle = Unit {0}

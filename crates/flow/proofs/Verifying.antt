@@ -22,13 +22,13 @@ use Rattle.flow.specs.declared.Purpose.{Purpose}
 use Rattle.flow.specs.declared.Place.the-variants.{InFlash, InLocks, AtLevel}
 use Rattle.flow.specs.declared.Purpose.the-variants.{FlashWord, LockWord, StoredLevel}
 use Rattle.flow.proofs.Access.{aim, admits-open, read-still}
-use Rattle.flow.proofs.Legs.{Core, core, Known, Leg, leg-append, leg-pieces}
+use Rattle.flow.proofs.Legs.{Core, core, Known, Leg, halt, leg-append, leg-pieces}
 use Rattle.flow.proofs.Lists.{same-word}
 use Rattle.flow.proofs.Locking.{macro-leg}
 use Rattle.flow.proofs.Phases.{Level, isOpen, isProtected, isKill, Valid, Wrote, Locked, all-held, level-safe, wrote-all}
 use Rattle.flow.proofs.Places.{place-flash, place-locks, place-level}
 use Rattle.flow.proofs.Polling.{idleAt}
-use Rattle.flow.proofs.Reaches.{Allowance, withTransfer, withRead, withMoves, Env, sync, Frame, at-rest, Stood, Stands, Reaches, tally}
+use Rattle.flow.proofs.Reaches.{Allowance, withTransfer, withRead, withMoves, Env, sync, Frame, at-rest, OnPlan, OnPlanFor, Reaches, tally}
 use Rattle.flow.proofs.Table.{Facts}
 use Rattle.lent.proofs.Words.{part-word}
 use Rattle.image.specs.Image.{Image}
@@ -44,9 +44,9 @@ pub data Holds (g : Geometry) (c : Core) (a w : ℕ) : Type 0 where
 
 level-read : {l : ℕ} → Level l → (o : ℕ) → eqb (levelShown (levelWord l o)) l ≡ true
 unfolding levelShown
-level-read isOpen o = let e : (o / 268435456 * 268435456 + 0 * 16777216 + o % 16777216) / 16777216 % 16 ≡ 0 = omega arith in rw e
-level-read isProtected o = let e : (o / 268435456 * 268435456 + 2 * 16777216 + o % 16777216) / 16777216 % 16 ≡ 2 = omega arith in rw e
-level-read isKill o = let e : (o / 268435456 * 268435456 + 4 * 16777216 + o % 16777216) / 16777216 % 16 ≡ 4 = omega arith in rw e
+level-read isOpen o = let e : (o / 0x10000000 * 0x10000000 + 0 * 0x1000000 + o % 0x1000000) / 0x1000000 % 16 ≡ 0 = omega arith in rw e
+level-read isProtected o = let e : (o / 0x10000000 * 0x10000000 + 2 * 0x1000000 + o % 0x1000000) / 0x1000000 % 16 ≡ 2 = omega arith in rw e
+level-read isKill o = let e : (o / 0x10000000 * 0x10000000 + 4 * 0x1000000 + o % 0x1000000) / 0x1000000 % 16 ≡ 4 = omega arith in rw e
 
 -- a purpose that takes the word w, and costs what any read does
 record Takes (i : Image) (u : Purpose) (w : ℕ) : Type 0 where
@@ -74,8 +74,8 @@ takes-locks i m o h = record {
 
 module _ {i : Image} (f : Frame i) (y : Entry) where
   word-reaches : (s a w : ℕ) (u : Purpose) → Takes i u w → {z : Bool} {n x k : ℕ} {later : List Move} {κ : Allowance} {e : Env} {b : Target} → Holds (i .geometry) (core b) a w → b .effect ≡ 1 → b .running ≡ idle → f .Safe z (b .memory)
-      → Stands f y n (read s a u) later κ e
-      → (next : (n′ : ℕ) (e′ : Env) → Stood f y n′ later κ e′ → Reaches f z (sync (position y n′) (tally 0 0 k) (aim a w b) (idleAt a) e′))
+      → OnPlanFor f (position y n) (read s a u) later κ e
+      → (next : (n′ : ℕ) (e′ : Env) → OnPlan f y n′ later κ e′ → Reaches f z (sync (position y n′) (tally 0 0 k) (aim a w b) (idleAt a) e′))
       → Reaches f z (sync (position y n) (tally 0 0 k) b (idleAt x) e)
   unfolding noticeRead withMoves read
   word-reaches s a w u takes {z = z} {k = k} {κ = κ} {b = b} (flashHolds o hp hw) he quiet safe st next =
@@ -88,9 +88,9 @@ module _ {i : Image} (f : Frame i) (y : Entry) where
   -- where P holds, OPEN is in effect, and the words from a on are those that u takes
   words-leg : (s a n : ℕ) (u : ℕ → Purpose) (w : ℕ → ℕ) {z : Bool} (P : Known) → ((j : ℕ) → j < n → Takes i (u (4 * j)) (w j))
       → ((j : ℕ) → j < n → (k : ℕ) (c : Core) → P k c → Holds (i .geometry) c (a + 4 * j) (w j)) → ((k : ℕ) (c : Core) → P k c → c .effect ≡ 1) → ((k : ℕ) (c : Core) → P k c → c .running ≡ idle)
-      → ((k : ℕ) (c : Core) → P k c → f .Safe z (c .memory)) → Leg f z z y (compareWords s a u n) P P
+      → ((k : ℕ) (c : Core) → P k c → f .Safe z (c .memory)) → Leg f y (compareWords s a u n) (halt z P) (halt z P)
   words-leg s a n u w {z} P takes held opens quiets safes =
-      leg-pieces f y _ (λ j. P) (λ j. z) _
+      leg-pieces f y _ (λ _. halt z P) _
       (λ j h. record {
         along = λ n x k later κ e b p st next.
             word-reaches s (a + 4 * j) (w j) (u (4 * j)) (takes j h) (held j h k (core b) p) (opens k (core b) p) (quiets k (core b) p) (safes k (core b) p) st λ n′ e′ st′. next k _ p n′ _ e′ st′;
@@ -99,7 +99,7 @@ module _ {i : Image} (f : Frame i) (y : Entry) where
 
   module _ (fx : Facts (i .geometry)) (v : Valid i) where
     -- step 6
-    row-leg : (r : ℕ) → r < rowsOf (i .geometry) → Leg f false false y (verifyRow (i .geometry) r) (Wrote f (rowsOf (i .geometry))) (Wrote f (rowsOf (i .geometry)))
+    row-leg : (r : ℕ) → r < rowsOf (i .geometry) → Leg f y (verifyRow (i .geometry) r) (halt false (Wrote f (rowsOf (i .geometry)))) (halt false (Wrote f (rowsOf (i .geometry))))
     unfolding verifyRow flashSize
     row-leg r hr =
         words-leg 6 (r * rowBytes (i .geometry)) (rowBytes (i .geometry) / 4) (FlashWord r) (λ j. wordAt (i .flash) (r * rowBytes (i .geometry) + 4 * j)) (Wrote f (rowsOf (i .geometry)))
@@ -110,11 +110,11 @@ module _ {i : Image} (f : Frame i) (y : Entry) where
         within : r * rowBytes (i .geometry) + rowBytes (i .geometry) ≤ flashSize (i .geometry)
         within = let l : suc r * rowBytes (i .geometry) ≤ rowsOf (i .geometry) * rowBytes (i .geometry) = mul-le-mul-right (rowBytes (i .geometry)) hr in omega (arith, suc-mul r (rowBytes (i .geometry)))
 
-    pub flash-leg : Leg f false false y (inTurn (verifyRow (i .geometry)) 0 (rowsOf (i .geometry))) (Wrote f (rowsOf (i .geometry))) (Wrote f (rowsOf (i .geometry)))
-    flash-leg = leg-pieces f y (verifyRow (i .geometry)) (λ r. Wrote f (rowsOf (i .geometry))) (λ r. false) _ row-leg (rowsOf (i .geometry)) 0 (omega arith)
+    pub flash-leg : Leg f y (inTurn (verifyRow (i .geometry)) 0 (rowsOf (i .geometry))) (halt false (Wrote f (rowsOf (i .geometry)))) (halt false (Wrote f (rowsOf (i .geometry))))
+    flash-leg = leg-pieces f y (verifyRow (i .geometry)) (λ _. halt false (Wrote f (rowsOf (i .geometry)))) _ row-leg (rowsOf (i .geometry)) 0 (omega arith)
 
     -- step 8 of a macro, straight after its lock call
-    verify-leg : (m : ℕ) → m < macrosOf (i .geometry) → Leg f (eqb m 0) (eqb m 0) y (verifyMacro (i .geometry) m) (Locked f m) (Locked f m)
+    verify-leg : (m : ℕ) → m < macrosOf (i .geometry) → Leg f y (verifyMacro (i .geometry) m) (halt (eqb m 0) (Locked f m)) (halt (eqb m 0) (Locked f m))
     unfolding verifyMacro
     verify-leg m hm =
         words-leg 8 (locksAt (i .geometry) m) (locksIn (i .geometry) m / 4) (LockWord m) (λ j. wordAt (i .protection) (lockStart (i .geometry) m + 4 * j)) (Locked f m)
@@ -124,22 +124,22 @@ module _ {i : Image} (f : Frame i) (y : Entry) where
         (λ k c p. p .opened .effect) (λ k c p. p .opened .quiet) (λ k c p. level-safe f m p)
 
     -- steps 7 and 8, from the highest macro down to 0
-    pub macros-leg : Leg f false true y (inTurn (λ k. lockAndVerify i (macroDown (i .geometry) k)) 0 (macrosOf (i .geometry))) (Locked f (macrosOf (i .geometry))) (Locked f 0)
+    pub macros-leg : Leg f y (inTurn (λ k. lockAndVerify i (macroDown (i .geometry) k)) 0 (macrosOf (i .geometry))) (halt false (Locked f (macrosOf (i .geometry)))) (halt true (Locked f 0))
     macros-leg =
-        let l = leg-pieces f y (λ k. lockAndVerify i (macroDown (i .geometry) k)) (λ k. Locked f (macrosOf (i .geometry) - k)) (λ k. eqb (macrosOf (i .geometry) - k) 0) (macrosOf (i .geometry)) each (macrosOf (i .geometry)) 0 (omega arith) in
+        let l = leg-pieces f y (λ k. lockAndVerify i (macroDown (i .geometry) k)) (λ k. halt (eqb (macrosOf (i .geometry) - k) 0) (Locked f (macrosOf (i .geometry) - k))) (macrosOf (i .geometry)) each (macrosOf (i .geometry)) 0 (omega arith) in
         let a : macrosOf (i .geometry) - 0 ≡ macrosOf (i .geometry) = omega arith in
         let z : macrosOf (i .geometry) - macrosOf (i .geometry) ≡ 0 = omega arith in
         let y₀ : eqb (macrosOf (i .geometry)) 0 ≡ false = ne-eqb (macrosOf (i .geometry)) 0 (λ q. omega (arith, fx .any)) in
         rw (a, z, y₀) at l
       where
         each : (k : ℕ) → k < macrosOf (i .geometry)
-            → Leg f (eqb (macrosOf (i .geometry) - k) 0) (eqb (macrosOf (i .geometry) - suc k) 0) y (lockAndVerify i (macroDown (i .geometry) k)) (Locked f (macrosOf (i .geometry) - k)) (Locked f (macrosOf (i .geometry) - suc k))
+            → Leg f y (lockAndVerify i (macroDown (i .geometry) k)) (halt (eqb (macrosOf (i .geometry) - k) 0) (Locked f (macrosOf (i .geometry) - k))) (halt (eqb (macrosOf (i .geometry) - suc k) 0) (Locked f (macrosOf (i .geometry) - suc k)))
         each k h =
             let m = macroDown (i .geometry) k in
             let e : macrosOf (i .geometry) - k ≡ suc (macrosOf (i .geometry) - suc k) = omega arith in
             rw (e, eqb·suc-zero) (leg-append f y (lockMacro i m) (verifyMacro (i .geometry) m) (macro-leg f fx v m (omega arith) y) (verify-leg m (omega arith)))
 
-    pub level-leg : Leg f true true y (read 8 (levelAt (i .geometry)) StoredLevel) (Locked f 0) (Locked f 0)
+    pub level-leg : Leg f y (read 8 (levelAt (i .geometry)) StoredLevel) (halt true (Locked f 0)) (halt true (Locked f 0))
     unfolding judge noticeRead withMoves read
     level-leg = record {
       along = λ n x k later κ e b p st next.

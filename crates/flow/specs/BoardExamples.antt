@@ -28,27 +28,33 @@ memoryWith f k t l = record { flash = f; locks = k; latch = t; stored = l }
 abbrev pub small : (stored : ℕ) → Memory
 small l = memoryWith (1 ∷ 2 ∷ 3 ∷ 4 ∷ []) (5 ∷ 6 ∷ 7 ∷ 8 ∷ []) (9 ∷ 10 ∷ 11 ∷ 12 ∷ []) l
 
--- what is not given: registers, PARAMS and the privileged sum
-abbrev pub boardWith : Memory → (effect tar posted sysarg sysreq : ℕ) → (params : List ℕ) → Running → Target
-boardWith m e a w g q ps r = record {
+-- the words in TAR, posted, and in the two registers of a call
+pub record Held : Type 0 where
+  pub tar : ℕ
+  pub posted : ℕ
+  pub sysarg : ℕ
+  pub sysreq : ℕ
+
+abbrev pub boardWith : Memory → (effect : ℕ) → Held → (params : List ℕ) → Running → Target
+boardWith m e h ps r = record {
   silicon = record { idcode = 0x0BB11477; high = 0x0A; low = 0x23; revision = 0x45; family = 0x9A; «privileged_sum» = 0x0FFFFFFE };
   memory = m;
   effect = e;
   params = ps;
-  sysarg = g;
-  sysreq = q;
+  sysarg = h .sysarg;
+  sysreq = h .sysreq;
   testMode = 0x80000000;
-  tar = a;
-  posted = w;
+  tar = h .tar;
+  posted = h .posted;
   running = r;
 }
 
 -- OPEN stored, this level in effect, TAR here, this word posted
 abbrev pub board : (effect tar posted : ℕ) → Target
-board e a w = boardWith (small 1) e a w 0x51 0x52 (0x61 ∷ 0x62 ∷ 0x63 ∷ []) idle
+board e a w = boardWith (small 1) e (record { tar = a; posted = w; sysarg = 0x51; sysreq = 0x52 }) (0x61 ∷ 0x62 ∷ 0x63 ∷ []) idle
 
 abbrev pub withParams : (effect tar posted : ℕ) → List ℕ → Target
-withParams e a w ps = boardWith (small 1) e a w 0x51 0x52 ps idle
+withParams e a w ps = boardWith (small 1) e (record { tar = a; posted = w; sysarg = 0x51; sysreq = 0x52 }) ps idle
 
 -- ---- lists
 
@@ -157,37 +163,38 @@ pub record PacketExamples : Type 0 where
 
 -- 'XRES puts the stored level in effect, clears SYSREQ and drops a running call as failed.'
 pub record ResetExamples : Type 0 where
-  pub xres : after Xres none (board 2 4 7) ≡ becomes (boardWith (small 1) 1 4 7 0x51 0 (0x61 ∷ 0x62 ∷ 0x63 ∷ []) idle) ResetDone
-  pub restores : after Xres none (boardWith (small 2) 4 4 7 0x51 0x52 [] idle) ≡ becomes (boardWith (small 2) 2 4 7 0x51 0 [] idle) ResetDone
+  pub xres : after Xres none (board 2 4 7) ≡ becomes (boardWith (small 1) 1 (record { tar = 4; posted = 7; sysarg = 0x51; sysreq = 0 }) (0x61 ∷ 0x62 ∷ 0x63 ∷ []) idle) ResetDone
+  pub restores : after Xres none (boardWith (small 2) 4 (record { tar = 4; posted = 7; sysarg = 0x51; sysreq = 0x52 }) [] idle)
+      ≡ becomes (boardWith (small 2) 2 (record { tar = 4; posted = 7; sysarg = 0x51; sysreq = 0 }) [] idle) ResetDone
   -- a call that would have succeeded: 'any flash, locks and latch' are left, filled to size
-  pub drops : after Xres none (boardWith (small 1) 1 4 7 PARAMS 0x80000006 [] (busy 3 true (residue 0x51234567 false) 6))
-      ≡ becomes (boardWith (memoryWith (21 ∷ 22 ∷ 0 ∷ 0 ∷ []) (23 ∷ 0 ∷ 0 ∷ 0 ∷ []) (24 ∷ 0 ∷ 0 ∷ 0 ∷ []) 1) 1 4 7 0x51234567 0 [] idle) ResetDone
+  pub drops : after Xres none (boardWith (small 1) 1 (record { tar = 4; posted = 7; sysarg = PARAMS; sysreq = 0x80000006 }) [] (busy 3 true (residue 0x51234567 false) 6))
+      ≡ becomes (boardWith (memoryWith (21 ∷ 22 ∷ 0 ∷ 0 ∷ []) (23 ∷ 0 ∷ 0 ∷ 0 ∷ []) (24 ∷ 0 ∷ 0 ∷ 0 ∷ []) 1) 1 (record { tar = 4; posted = 7; sysarg = 0x51234567; sysreq = 0 }) [] idle) ResetDone
   -- a dropped 0x0D that had stored its level: that level comes into effect
-  pub dropsLevel : (after Xres none (boardWith (small 1) 1 4 7 0x2E0B6 0x8000000D [] (busy 0 true (residue 0 true) 0x0D))) .target .effect ≡ 2
+  pub dropsLevel : (after Xres none (boardWith (small 1) 1 (record { tar = 4; posted = 7; sysarg = 0x2E0B6; sysreq = 0x8000000D }) [] (busy 0 true (residue 0 true) 0x0D))) .target .effect ≡ 2
   -- no reset takes an entry
   pub takesNone : (after Xres (onLine Faults) (board 1 4 7)) .lists ≡ onLine Faults
   pub lineReset : after LineReset none (board 2 4 7) ≡ becomes (board 2 4 7) ResetDone
 
 -- call c on a board with this level in effect, this word in SYSARG and these words from PARAMS on
 abbrev pub succeeding : (c effect sysarg : ℕ) → List ℕ → Target
-succeeding c e a ps = finish partOne true (residue 0 false) c (boardWith (small 2) e SYSREQ 7 a (0x80000000 + c) ps (busy 0 true (residue 0 false) c))
+succeeding c e a ps = finish partOne true (residue 0 false) c (boardWith (small 2) e (record { tar = SYSREQ; posted = 7; sysarg = a; sysreq = 0x80000000 + c }) ps (busy 0 true (residue 0 false) c))
 
 abbrev pub failing : (c sysarg : ℕ) → Residue → Target
-failing c a r = finish partOne false r c (boardWith (small 1) 1 SYSREQ 7 a (0x80000000 + c) [] (busy 0 false r c))
+failing c a r = finish partOne false r c (boardWith (small 1) 1 (record { tar = SYSREQ; posted = 7; sysarg = a; sysreq = 0x80000000 + c }) [] (busy 0 false r c))
 
 -- a call from its write of SYSREQ to what it leaves; the keys of the words are not looked at
 pub record CallExamples : Type 0 where
   -- 'Per call: how many DRW reads of SYSREQ post it busy (bit 31 set), then success or failure, which takes effect there.'
   pub begins : after (WriteDrw 0x80000015) (onCall (outcome 2 true)) (board 1 SYSREQ 7)
-      ≡ becomes (boardWith (small 1) 1 SYSREQ 7 0x51 0x80000015 (0x61 ∷ 0x62 ∷ 0x63 ∷ []) (busy 2 true (residue 0 false) 0x15)) (answer 1 0 0)
+      ≡ becomes (boardWith (small 1) 1 (record { tar = SYSREQ; posted = 7; sysarg = 0x51; sysreq = 0x80000015 }) (0x61 ∷ 0x62 ∷ 0x63 ∷ []) (busy 2 true (residue 0 false) 0x15)) (answer 1 0 0)
   pub noCall : (after (WriteDrw 0x15) (onCall (outcome 2 true)) (board 1 SYSREQ 7)) .lists ≡ onCall (outcome 2 true)
   pub noCallStores : (after (WriteDrw 0x15) none (board 1 SYSREQ 7)) .target .sysreq ≡ 0x15
-  pub busyRead : after ReadDrw (onLine Clean) (boardWith (small 1) 1 SYSREQ 7 0x51 0x80000015 [] (busy 1 true (residue 0 false) 0x15))
-      ≡ becomes (boardWith (small 1) 1 SYSREQ 0xFEDCBA98 0x51 0x80000015 [] (busy 0 true (residue 0 false) 0x15)) (okayWith 7)
-  pub takesEffect : after ReadDrw none (boardWith (small 1) 1 SYSREQ 7 0x51 0x80000015 [] (busy 0 true (residue 0 false) 0x15))
-      ≡ becomes (boardWith (small 1) 1 SYSREQ 0 0xA0000000 0 [] idle) (okayWith 7)
-  pub fails : after ReadDrw none (boardWith (small 1) 1 SYSREQ 7 0x51 0x80000015 [] (busy 0 false (residue 0xB0000000 false) 0x15))
-      ≡ becomes (boardWith (small 1) 1 SYSREQ 0 0xB0000000 0 [] idle) (okayWith 7)
+  pub busyRead : after ReadDrw (onLine Clean) (boardWith (small 1) 1 (record { tar = SYSREQ; posted = 7; sysarg = 0x51; sysreq = 0x80000015 }) [] (busy 1 true (residue 0 false) 0x15))
+      ≡ becomes (boardWith (small 1) 1 (record { tar = SYSREQ; posted = 0xFEDCBA98; sysarg = 0x51; sysreq = 0x80000015 }) [] (busy 0 true (residue 0 false) 0x15)) (okayWith 7)
+  pub takesEffect : after ReadDrw none (boardWith (small 1) 1 (record { tar = SYSREQ; posted = 7; sysarg = 0x51; sysreq = 0x80000015 }) [] (busy 0 true (residue 0 false) 0x15))
+      ≡ becomes (boardWith (small 1) 1 (record { tar = SYSREQ; posted = 0; sysarg = 0xA0000000; sysreq = 0 }) [] idle) (okayWith 7)
+  pub fails : after ReadDrw none (boardWith (small 1) 1 (record { tar = SYSREQ; posted = 7; sysarg = 0x51; sysreq = 0x80000015 }) [] (busy 0 false (residue 0xB0000000 false) 0x15))
+      ≡ becomes (boardWith (small 1) 1 (record { tar = SYSREQ; posted = 0; sysarg = 0xB0000000; sysreq = 0 }) [] idle) (okayWith 7)
   -- past the list's end 'success without busy reads'
   pub past : (after (WriteDrw 0x80000015) none (board 1 SYSREQ 7)) .target .running
       ≡ busy 0 true (record { flash = []; locks = []; latch = []; sysarg = 0; newLevel = false }) 0x15

@@ -13,7 +13,7 @@ use Rattle.parts.specs.Sizes.{PARAMS}
 
 -- a board with this level stored and in effect, this word in SYSARG, and this under way
 abbrev pub during : (level sysarg : ℕ) → Running → Target
-during l a x = boardWith (small l) l SYSREQ 7 a 0 (0x61 ∷ 0x62 ∷ 0x63 ∷ []) x
+during l a x = boardWith (small l) l (record { tar = SYSREQ; posted = 7; sysarg = a; sysreq = 0 }) (0x61 ∷ 0x62 ∷ 0x63 ∷ []) x
 
 -- call c, which with the power on would be busy three times more and then succeed
 abbrev pub underWay : (c : ℕ) → Running
@@ -70,7 +70,7 @@ poweredUp b r latch params w = record {
 
 -- the board at rest with this memory, PARAMS and state
 abbrev pub other : Memory → (params : List ℕ) → Running → Target
-other m ps x = boardWith m 1 SYSREQ 7 PARAMS 0 ps x
+other m ps x = boardWith m 1 (record { tar = SYSREQ; posted = 7; sysarg = PARAMS; sysreq = 0 }) ps x
 
 pub record CutExamples : Type 0 where
   -- any residue; and what has no charge is anything of its size

@@ -4,15 +4,15 @@ use mathlib.Core.List.{[], _∷_}
 use Prim.Native.Nat.{ℕ, zero, suc, _+_, _*_, _-_, _/_, _%_}
 use lib.Dec.{eqb, leb}
 use lib.ListN.{getD}
+use lib.Seq.{sets}
 use Rattle.flow.specs.Calls.{finish, reset}
 use Rattle.flow.specs.Map.{place}
 use Rattle.flow.specs.Packets.{isRead}
-use Rattle.flow.specs.Target.{Target, CallOutcome, Running, idle, busy, Lists, nextEvent, nextOutcome, rest, lay, setTar, setPosted, setParams, setSysarg, setTestMode, setSysreq}
+use Rattle.flow.specs.Target.{Target, CallOutcome, Running, idle, busy, Lists, nextEvent, nextOutcome, rest, setTar, setPosted, setParams, setSysarg, setTestMode, setSysreq}
 use Rattle.flow.specs.declared.Answer.{Answer}
 use Rattle.flow.specs.declared.Answer.the-variants.{ResetDone, Transferred}
 use Rattle.flow.specs.declared.Decoded.{Decoded}
 use Rattle.flow.specs.declared.Decoded.the-variants.{Known, Unknown}
-use Rattle.flow.specs.declared.LineEvent.{LineEvent}
 use Rattle.flow.specs.declared.Packet as Packets
 use Rattle.flow.specs.declared.Packet.{Packet}
 use Rattle.flow.specs.declared.Place.{Place}
@@ -56,12 +56,12 @@ decode (Packets.the-variants.Write r w p) =
 
 -- the stored level as step 8 reads it, 'with 0 and 1 exchanged'; the other bits are any
 abbrev pub levelWord : (level other : ℕ) → ℕ
-levelWord l o = o / 268435456 * 268435456 + cond (eqb l 0) 1 (cond (eqb l 1) 0 l) * 16777216 + o % 16777216
+levelWord l o = o / 0x10000000 * 0x10000000 + cond (eqb l 0) 1 (cond (eqb l 1) 0 l) * 0x1000000 + o % 0x1000000
 
 -- a DRW read of SYSREQ posts it busy (bit 31 set), or the call takes effect there
 abbrev pub tick : Geometry → (other : ℕ) → Running → Target → Target
 tick g o idle b = setPosted (b .sysreq) b
-tick g o (busy (suc n) s r c) b = setPosted (2147483648 + o % 2147483648) (setSysreq (b .sysreq) (busy n s r c) b)
+tick g o (busy (suc n) s r c) b = setPosted (0x80000000 + o % 0x80000000) (setSysreq (b .sysreq) (busy n s r c) b)
 tick g o (busy zero s r c) b = let t = finish g s r c b in setPosted (t .sysreq) t
 
 -- 'A DRW read gives the posted word, then posts the word at TAR'
@@ -77,7 +77,7 @@ fetch g o Elsewhere b = setPosted o b
 
 -- a write of SYSREQ; bit 31 starts a call
 abbrev pub isCall : ℕ → Bool
-isCall w = leb 2147483648 w
+isCall w = leb 0x80000000 w
 
 abbrev pub begin : Bool → ℕ → CallOutcome → Target → Target
 begin false w o b = setSysreq w (b .running) b
@@ -86,7 +86,7 @@ begin true w o b = setSysreq w (busy (o .busyReads) (o .succeeds) (o .residue) (
 abbrev pub store : ℕ → CallOutcome → Place → Target → Target
 store w o (InFlash a) b = b
 store w o (InLocks a) b = b
-store w o (InParams k) b = setParams (lay (b .params) k (w ∷ [])) b
+store w o (InParams k) b = setParams (sets (b .params) k (w ∷ [])) b
 store w o AtLevel b = b
 store w o AtSysreq b = begin (isCall w) w o b
 store w o AtSysarg b = setSysarg w b
@@ -209,30 +209,31 @@ pub record Met : Type 0 where
   pub answer : Answer
   pub lists : Lists
 
-abbrev pub met : Bool → Geometry → Request → LineEvent → Lists → Reply → Target → Met
-met false g q e l a b = record { target = b; answer = Transferred a; lists = record { line = rest (l .line); calls = l .calls } }
-met true g q e l a b = record {
-  target = carry g q (e .other) (nextOutcome (l .calls)) b;
+abbrev pub met : (through : Bool) → Geometry → Request → Lists → Reply → Target → Met
+met false g q l a b = record { target = b; answer = Transferred a; lists = record { line = rest (l .line); calls = l .calls } }
+met true g q l a b = record {
+  target = carry g q ((nextEvent (l .line)) .other) (nextOutcome (l .calls)) b;
   answer = Transferred a;
   lists = record { line = rest (l .line); calls = cond (callsOn g q b) (rest (l .calls)) (l .calls) };
 }
 
-unfoldable pub transferred : Geometry → Request → LineEvent → Lists → Target → Met
-transferred g q e l b =
+unfoldable pub transferred : Geometry → Request → Lists → Target → Met
+transferred g q l b =
+    let e = nextEvent (l .line) in
     met
     (not (killed b) && not (barred g q b) && carriedOut (e .outcome))
-    g q e l
+    g q l
     (cond (killed b) (silentReply (e .filler)) (replyTo (e .outcome) (barred g q b) (isRead q) (gives q b) (e .filler)))
     b
 
 abbrev pub meetOn : Geometry → Decoded → Lists → Target → Met
 meetOn g (Known Xres) l b = record { target = reset g b; answer = ResetDone; lists = l }
 meetOn g (Known LineReset) l b = record { target = b; answer = ResetDone; lists = l }
-meetOn g (Known ReadIdcode) l b = transferred g ReadIdcode (nextEvent (l .line)) l b
-meetOn g (Known ReadDrw) l b = transferred g ReadDrw (nextEvent (l .line)) l b
-meetOn g (Known (WriteTar a)) l b = transferred g (WriteTar a) (nextEvent (l .line)) l b
-meetOn g (Known (WriteDrw w)) l b = transferred g (WriteDrw w) (nextEvent (l .line)) l b
-meetOn g (Known (WriteSetup r w)) l b = transferred g (WriteSetup r w) (nextEvent (l .line)) l b
+meetOn g (Known ReadIdcode) l b = transferred g ReadIdcode l b
+meetOn g (Known ReadDrw) l b = transferred g ReadDrw l b
+meetOn g (Known (WriteTar a)) l b = transferred g (WriteTar a) l b
+meetOn g (Known (WriteDrw w)) l b = transferred g (WriteDrw w) l b
+meetOn g (Known (WriteSetup r w)) l b = transferred g (WriteSetup r w) l b
 meetOn g Unknown l b =
     record { target = b; answer = Transferred (silentReply ((nextEvent (l .line)) .filler)); lists = record { line = rest (l .line); calls = l .calls } }
 

@@ -28,7 +28,7 @@ marked s LineReset ws = ws
 marked s ReadIdcode ws = ws
 marked s ReadDrw ws = ws
 marked s (WriteTar a) ws = cond (eqb s 8) (a ∷ ws) ws
-marked s (WriteDrw w) ws = cond (eqb s 7 && eqb (w % 65536) 0xE0B6) (w ∷ ws) ws
+marked s (WriteDrw w) ws = cond (eqb s 7 && eqb (w % 0x10000) 0xE0B6) (w ∷ ws) ws
 marked s (WriteSetup r w) ws = ws
 
 unfoldable pub marks : List Move → List ℕ

@@ -16,7 +16,7 @@ use Rattle.image.specs.Image.{Image}
 
 -- call 0x0D under way with this level in effect, this word in SYSARG and so many busy reads left
 abbrev pub locking : (effect sysarg busyReads : ℕ) → (succeeds : Bool) → Target
-locking e a n y = boardWith (small 1) e SYSREQ 7 a 0x8000000D [] (busy n y (residue 0 false) 0x0D)
+locking e a n y = boardWith (small 1) e (record { tar = SYSREQ; posted = 7; sysarg = a; sysreq = 0x8000000D }) [] (busy n y (residue 0 false) 0x0D)
 
 abbrev pub sealedBy : Request → Lists → Target → Bool
 sealedBy q l b = seals b ((after q l b) .target)
@@ -30,7 +30,7 @@ latch = 9 ∷ 10 ∷ 11 ∷ 12 ∷ []
 
 -- the board of that image with this under way
 abbrev pub holding : Running → Target
-holding x = boardWith (memoryWith (1 ∷ 2 ∷ 3 ∷ 4 ∷ []) (5 ∷ 6 ∷ 7 ∷ 8 ∷ []) latch 2) 1 SYSREQ 7 0 0 [] x
+holding x = boardWith (memoryWith (1 ∷ 2 ∷ 3 ∷ 4 ∷ []) (5 ∷ 6 ∷ 7 ∷ 8 ∷ []) latch 2) 1 (record { tar = SYSREQ; posted = 7; sysarg = 0; sysreq = 0 }) [] x
 
 pub record SealingExamples : Type 0 where
   -- PROTECTED sent to macro 0, OPEN in effect

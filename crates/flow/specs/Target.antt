@@ -1,8 +1,8 @@
 -- The state of the target, the plain board of document 01, and the two free lists that drive it. Assumes nothing.
 use mathlib.Core.Bool.{Bool, true, false}
 use mathlib.Core.List.{List, [], _∷_, _++_}
-use Prim.Native.Nat.{ℕ, _+_}
-use lib.ListN.{length, take, drop, replicate}
+use Prim.Native.Nat.{ℕ}
+use lib.ListN.{length, take, replicate}
 use Rattle.flow.specs.declared.LineEvent.{LineEvent}
 use Rattle.flow.specs.declared.Silicon.{Silicon}
 use Rattle.flow.specs.declared.TransferOutcome.the-variants.{Clean}
@@ -64,10 +64,6 @@ nextOutcome (o ∷ os) = o
 abbrev pub rest : {A : Type 0} → List A → List A
 rest [] = []
 rest (x ∷ xs) = xs
-
--- bytes x laid over a list from o on; the list keeps its size
-abbrev pub lay : List ℕ → (o : ℕ) → List ℕ → List ℕ
-lay l o x = take (length l) (take o l ++ (x ++ drop (o + length x) l))
 
 -- any bytes, cut or filled to the size of a list
 abbrev pub sized : List ℕ → List ℕ → List ℕ

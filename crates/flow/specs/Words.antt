@@ -25,7 +25,7 @@ unfoldable pub idsFit : Geometry → Header → (sysarg sysreq : ℕ) → Bool
 idsFit g h a q = eqb (a / 256 % 256) (metadataAt h 2) && eqb (q % 256) (metadataAt h 5) && lowFits (g .part) (a % 256)
 
 abbrev pub levelIn : (sysreq : ℕ) → ℕ
-levelIn q = q / 4096 % 16
+levelIn q = q / 0x1000 % 16
 
 -- 'top byte of the word .., its low four bits, with 0 and 1 exchanged'
 unfoldable pub levelShown : (word : ℕ) → ℕ

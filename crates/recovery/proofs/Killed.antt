@@ -8,7 +8,6 @@ use Rattle.flow.specs.Calls.{reset}
 use Rattle.flow.specs.Exchange.{decode, transferred, meetOn, meet}
 use Rattle.flow.specs.Target.{Memory, idle, Target, Lists}
 use Rattle.flow.specs.declared.Decoded.{Decoded}
-use Rattle.flow.specs.declared.LineEvent.{LineEvent}
 use Rattle.flow.specs.declared.Packet.{Packet}
 use Rattle.flow.specs.declared.Packet.the-variants as Packets
 use Rattle.flow.specs.declared.Request.{Request}
@@ -42,9 +41,9 @@ module _ (g : Geometry) (b₀ : Target) (kill : b₀ .memory .stored ≡ 4) wher
         effect = ap (λ (m : Memory). m .stored) (s .memory) ∙ kill;
       })
 
-  transfer-silent : (q : Request) (e : LineEvent) (l : Lists) (b : Target) → Silent b → Silent ((transferred g q e l b) .target)
+  transfer-silent : (q : Request) (l : Lists) (b : Target) → Silent b → Silent ((transferred g q l b) .target)
   unfolding transferred
-  transfer-silent q e l b s = rw (eq-eqb (b .effect) 4 (s .effect)) s
+  transfer-silent q l b s = rw (eq-eqb (b .effect) 4 (s .effect)) s
 
   packet-silent : (d : Decoded) (l : Lists) (b : Target) → Silent b → Silent ((meetOn g d l b) .target)
   packet-silent = packet-keeps g Silent (λ b s. reset-silent b (s .same)) transfer-silent

@@ -86,14 +86,14 @@ module _ {g : Geometry} (x : Start g) (b b′ : Target) (l : Lists) (n k : ℕ) 
 -- ---- any number of cuts
 
 -- demand 3 allows it, or KILL is stored
-data Stands (g : Geometry) (b : Target) : Type 0 where
-  awake : Startable g b → Stands g b
-  dead : b .memory .stored ≡ 4 → b .running ≡ idle → Stands g b
+data AfterCut (g : Geometry) (b : Target) : Type 0 where
+  awake : Startable g b → AfterCut g b
+  dead : b .memory .stored ≡ 4 → b .running ≡ idle → AfterCut g b
 
-stands-once : (g : Geometry) (b b′ : Target) → Once g b b′ → Stands g b′
-stands-once g b b′ o = by (b′ .memory .stored) refl (o .sound)
+after-once : (g : Geometry) (b b′ : Target) → Once g b b′ → AfterCut g b′
+after-once g b b′ o = by (b′ .memory .stored) refl (o .sound)
   where
-    by : (l : ℕ) → b′ .memory .stored ≡ l → Level l → Stands g b′
+    by : (l : ℕ) → b′ .memory .stored ≡ l → Level l → AfterCut g b′
     by l e isOpen = awake (o .startable (λ h. omega arith))
     by l e isProtected = awake (o .startable (λ h. omega arith))
     by l e isKill = dead e (o .quiet)
@@ -101,33 +101,33 @@ stands-once g b b′ o = by (b′ .memory .stored) refl (o .sound)
 -- where a chain of cuts has come to
 record Come (g : Geometry) (b₀ b : Target) : Type 0 where
   pub silicon : b .silicon ≡ b₀ .silicon
-  pub stands : Stands g b
+  pub board : AfterCut g b
 
 one-more : {g : Geometry} (b₀ b b′ : Target) (x : Start g) (l : Lists) (n k : ℕ) (s : State) → Leads x b l n k s → CutTo (s .target) b′ → Come g b₀ b → Come g b₀ b′
-one-more {g} b₀ b b′ x l n k s leads c come = by (come .stands)
+one-more {g} b₀ b b′ x l n k s leads c come = by (come .board)
   where
-    by : Stands g b → Come g b₀ b′
+    by : AfterCut g b → Come g b₀ b′
     by (awake may) =
         let o = cut-once x b b′ l n k s leads c may in
-        record { silicon = o .silicon ∙ come .silicon; stands = stands-once g b b′ o }
+        record { silicon = o .silicon ∙ come .silicon; board = after-once g b b′ o }
     by (dead kill quiet) =
         let d = cut-killed x b b′ l n k s leads c kill quiet in
-        record { silicon = d .silicon ∙ come .silicon; stands = dead (d .killed .level) (d .quiet) }
+        record { silicon = d .silicon ∙ come .silicon; board = dead (d .killed .level) (d .quiet) }
 
 comes : (g : Geometry) (b₀ b : Target) → Startable g b₀ → Interrupted g b₀ b → Come g b₀ b
-comes g b₀ b may never = record { silicon = refl; stands = awake may }
+comes g b₀ b may never = record { silicon = refl; board = awake may }
 comes g b₀ b may (cut {b = b₁} before x l n k s leads c) = one-more b₀ b₁ b x l n k s leads c (comes g b₀ b₁ may before)
 
 pub cuts-leave : CutsLeave
 cuts-leave g b₀ b may cuts =
     let c = comes g b₀ b may cuts in
-    record { silicon = c .silicon; quiet = at-rest (c .stands); neverVirgin = never-virgin (c .stands); startable = startable (c .stands) }
+    record { silicon = c .silicon; quiet = at-rest (c .board); neverVirgin = never-virgin (c .board); startable = startable (c .board) }
   where
-    at-rest : Stands g b → b .running ≡ idle
+    at-rest : AfterCut g b → b .running ≡ idle
     at-rest (awake may) = may .quiet
     at-rest (dead kill quiet) = quiet
 
-    never-virgin : Stands g b → b .memory .stored ≡ 0 → ⊥
+    never-virgin : AfterCut g b → b .memory .stored ≡ 0 → ⊥
     never-virgin (awake may) e = by (may .level)
       where
         by : (b .memory .stored ≡ 1) ⊎ (b .memory .stored ≡ 2) → ⊥
@@ -135,7 +135,7 @@ cuts-leave g b₀ b may cuts =
         by (inr h) = omega arith
     never-virgin (dead kill quiet) e = omega arith
 
-    startable : Stands g b → ¬ (b .memory .stored ≡ 4) → Startable g b
+    startable : AfterCut g b → ¬ (b .memory .stored ≡ 4) → Startable g b
     startable (awake may) no-kill = may
     startable (dead kill quiet) no-kill = absurd (no-kill kill)
 

@@ -16,7 +16,6 @@ use Rattle.flow.specs.Session as Flow
 use Rattle.flow.specs.Target.{Target, Lists, nextEvent}
 use Rattle.flow.specs.declared.Answer.{Answer}
 use Rattle.flow.specs.declared.Decoded.the-variants.{Known}
-use Rattle.flow.specs.declared.LineEvent.{LineEvent}
 use Rattle.flow.specs.declared.Reply.{Reply}
 use Rattle.flow.specs.declared.Request.{Request}
 use Rattle.flow.specs.declared.Request.the-variants.{Xres, LineReset, ReadIdcode, ReadDrw, WriteTar, WriteDrw, WriteSetup}
@@ -37,23 +36,23 @@ use Rattle.session.specs.declared.Session.{Session}
 
 -- ---- the target answers a reset with 'reset done', and every other request by an acknowledgement
 
-met-fits : (t : Bool) (g : Geometry) (q : Request) (e : LineEvent) (l : Lists) (a : Reply) (b : Target)
-    → answers q ((met t g q e l a b) .answer) ≡ not (isReset q)
-met-fits true g q e l a b = refl
-met-fits false g q e l a b = refl
+met-fits : (t : Bool) (g : Geometry) (q : Request) (l : Lists) (a : Reply) (b : Target)
+    → answers q ((met t g q l a b) .answer) ≡ not (isReset q)
+met-fits true g q l a b = refl
+met-fits false g q l a b = refl
 
-transfer-fits : (g : Geometry) (q : Request) (e : LineEvent) (l : Lists) (b : Target) → answers q ((transferred g q e l b) .answer) ≡ not (isReset q)
+transfer-fits : (g : Geometry) (q : Request) (l : Lists) (b : Target) → answers q ((transferred g q l b) .answer) ≡ not (isReset q)
 unfolding transferred
-transfer-fits g q e l b = met-fits (not (killed b) && not (barred g q b) && carriedOut (e .outcome)) g q e l _ b
+transfer-fits g q l b = met-fits (not (killed b) && not (barred g q b) && carriedOut ((nextEvent (l .line)) .outcome)) g q l _ b
 
 pub fits : (g : Geometry) (q : Request) (l : Lists) (b : Target) → answers q ((meetOn g (Known q) l b) .answer) ≡ true
 fits g Xres l b = refl
 fits g LineReset l b = refl
-fits g ReadIdcode l b = transfer-fits g ReadIdcode (nextEvent (l .line)) l b
-fits g ReadDrw l b = transfer-fits g ReadDrw (nextEvent (l .line)) l b
-fits g (WriteTar w) l b = transfer-fits g (WriteTar w) (nextEvent (l .line)) l b
-fits g (WriteDrw w) l b = transfer-fits g (WriteDrw w) (nextEvent (l .line)) l b
-fits g (WriteSetup r w) l b = transfer-fits g (WriteSetup r w) (nextEvent (l .line)) l b
+fits g ReadIdcode l b = transfer-fits g ReadIdcode l b
+fits g ReadDrw l b = transfer-fits g ReadDrw l b
+fits g (WriteTar w) l b = transfer-fits g (WriteTar w) l b
+fits g (WriteDrw w) l b = transfer-fits g (WriteDrw w) l b
+fits g (WriteSetup r w) l b = transfer-fits g (WriteSetup r w) l b
 
 -- ---- what stands, handed out
 

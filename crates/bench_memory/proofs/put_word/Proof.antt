@@ -1,8 +1,8 @@
 -- One store, where there is room. Assumes nothing.
 use mathlib.Core.List.{[], _∷_}
-use mathlib.Core.Path.{sym}
+use mathlib.Core.Path.{refl}
 use borrow.Author.Needs.{needs}
-use Rattle.bench_memory.proofs.Laying.{lay-sets, lay-none}
+use Rattle.bench_memory.proofs.Laying.{lay-none}
 use Rattle.bench_memory.proofs.put_word.Statement.{statement}
 use Rattle.bench_memory.proofs.put_word.Tie as tie
 
@@ -13,5 +13,5 @@ put-word-spec =
     (λ c. search needs)
     (λ c. search needs)
     (λ c. search needs)
-    (λ c. sym (lay-sets (c .before .args .params .now) (c .before .args .k) (c .before .args .w ∷ [])))
+    (λ c. refl)
     (λ c. lay-none (c .before .args .params .now) (c .before .args .k) (c .before .args .w ∷ []) (c .if1 .left)))
