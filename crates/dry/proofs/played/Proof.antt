@@ -3,13 +3,14 @@ use Prim.Native.Nat.{_-_}
 use native.Mathlib.Omega.{arith}
 use borrow.Author.Needs.{needs}
 use Rattle.bench_calls.specs.Board.{lent}
+use Rattle.dry.specs.Playing.{moment}
 use Rattle.dry.proofs.Playing.{Playing, first-turn, next-turn, report-planned, none-refused, report-comes}
 use Rattle.dry.proofs.played.Statement.{statement}
 use Rattle.dry.proofs.played.Tie as tie
 
 abbrev Inv-loop : tie.InvT-loop
 Inv-loop g image flash₀ locks₀ latch₀ params₀ s₀ r₀ stands₀ turns₀ flash locks latch params s r stands turns =
-    Playing g image (lent flash₀ locks₀ latch₀ params₀) s₀ r₀ stands₀ (lent flash locks latch params) s r stands turns
+    Playing g image (moment s₀ stands₀ r₀ (lent flash₀ locks₀ latch₀ params₀)) (moment s stands r (lent flash locks latch params)) turns
 
 abbrev μ-loop : tie.MeasureT-loop
 μ-loop g image flash₀ locks₀ latch₀ params₀ s₀ r₀ stands₀ turns₀ flash locks latch params s r stands turns = 265637747 - turns
