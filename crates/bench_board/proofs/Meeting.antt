@@ -6,7 +6,7 @@ use Prim.Native.Nat.{ℕ}
 use lib.Dec.{eqb}
 use Rattle.bench_calls.specs.Board.{Buffers, Left, callOutcomeOf, targetOf}
 use Rattle.bench_calls.specs.Ends.{Makes, Resets}
-use Rattle.bench_board.specs.Meets.{keeping, MakesIn, Carries, Calls, Replies, Decides, metOf, listsOf}
+use Rattle.bench_board.specs.Meets.{keeping, Seen, seen, MakesIn, carried, Carries, Calls, Replies, Decides, metOf, listsOf}
 use Rattle.bench_calls.specs.declared.CallOutcome.{CallOutcome}
 use Rattle.bench_board.specs.declared.Decision.{Decision}
 use Rattle.flow.specs.declared.LineEvent.{LineEvent}
@@ -29,9 +29,9 @@ use Rattle.flow.specs.declared.Request.the-variants.{Xres, LineReset, ReadIdcod
 use Rattle.parts.specs.declared.Geometry.{Geometry}
 
 -- a request carried out
-module _ (g : Geometry) (fs ks ps : List ℕ) (q : Request) (other : ℕ) (o : CallOutcome) (p : Place) (r : Registers) where
+module _ (g : Geometry) (v : Seen) (q : Request) (other : ℕ) (o : CallOutcome) (p : Place) (r : Registers) where
   abbrev Out : Change → Type 0
-  Out n = Carries g fs ks ps q other o p r n
+  Out n = Carries g v (carried q other o) p r n
 
   -- the request as it is known
   abbrev done : (x : Left) (b : Buffers) → Request → Target
@@ -40,7 +40,7 @@ module _ (g : Geometry) (fs ks ps : List ℕ) (q : Request) (other : ℕ) (o : C
   pub carry-none : (k : Request) → q ≡ k → ((x : Left) (b : Buffers) → targetOf x r b ≡ done x b k) → Out (keeping r)
   carry-none k e f w x b hf hk hp = f x b ∙ sym (ap (λ (t : Request). done x b t) e)
 
-  pub carry-read : (n : Change) → q ≡ ReadDrw → MakesIn fs ks ps r n (λ x t. fetch g other p t) → Out n
+  pub carry-read : (n : Change) → q ≡ ReadDrw → MakesIn v r n (λ x t. fetch g other p t) → Out n
   unfolding carry
   carry-read n e m w x b hf hk hp =
       m x b hf hk hp
@@ -51,11 +51,11 @@ module _ (g : Geometry) (fs ks ps : List ℕ) (q : Request) (other : ℕ) (o : C
   unfolding carry
   carry-tar n a e m w x b hf hk hp = m x b ∙ sym (ap (λ (t : Request). done x b t) e)
 
-  pub carry-write : (n : Change) (v : ℕ) → q ≡ WriteDrw v → Makes r n (λ x t. store v (callOutcomeOf x o) p t) → Out n
+  pub carry-write : (n : Change) (d : ℕ) → q ≡ WriteDrw d → Makes r n (λ x t. store d (callOutcomeOf x o) p t) → Out n
   unfolding carry
-  carry-write n v e m w x b hf hk hp =
+  carry-write n d e m w x b hf hk hp =
       m x b
-      ∙ ap (λ (s : Place). store v (callOutcomeOf x o) s (targetOf x r b)) w
+      ∙ ap (λ (s : Place). store d (callOutcomeOf x o) s (targetOf x r b)) w
       ∙ sym (ap (λ (t : Request). done x b t) e)
 
 -- what requests that alter nothing carry out
@@ -73,7 +73,7 @@ module _ (g : Geometry) (other : ℕ) (o : CallOutcome) (r : Registers) (x : Lef
   none-idcode = refl
 
 -- a transfer
-module _ (g : Geometry) (fs ks ps : List ℕ) (q : Request) (e : LineEvent) (o : CallOutcome) (p : Place) (r : Registers) (bars : Bool) (a : Reply)
+module _ (g : Geometry) (v : Seen) (q : Request) (e : LineEvent) (o : CallOutcome) (p : Place) (r : Registers) (bars : Bool) (a : Reply)
     (at : p ≡ place g (r .tar)) (shut : bars ≡ (eqb (r .effect) 2 && overDrw q && guarded p)) (said : Replies q e bars r a) where
   abbrev through : Bool
   through = not (eqb (r .effect) 4) && not bars && carriedOut (e .outcome)
@@ -106,8 +106,8 @@ module _ (g : Geometry) (fs ks ps : List ℕ) (q : Request) (e : LineEvent) (o :
   saidBy x b =
       let t = targetOf x r b in cond (killed t) (silentReply (e .filler)) (replyTo (e .outcome) bars (isRead q) (gives q t) (e .filler))
 
-  pub carried-out : (n : Change) (s : Bool) → through ≡ true → Carries g fs ks ps q (e .other) o p r n → Calls q p s
-      → Decides fs ks ps r e o (record { change = n; answer = Transferred a; «line_used» = true; «call_used» = s }) (λ l t. transferred g q e l t)
+  pub carried-out : (n : Change) (s : Bool) → through ≡ true → Carries g v (carried q (e .other) o) p r n → Calls q p s
+      → Decides v r e o (record { change = n; answer = Transferred a; «line_used» = true; «call_used» = s }) (λ l t. transferred g q e l t)
   carried-out n s h m k x b hf hk hp =
       ap (λ (t : Target). told x t a s) (m at x b hf hk hp)
       ∙ ap (λ (y : Reply). told x (carry g q (e .other) (callOutcomeOf x o) (targetOf x r b)) y s) (said x b)
@@ -116,22 +116,22 @@ module _ (g : Geometry) (fs ks ps : List ℕ) (q : Request) (e : LineEvent) (o :
       ∙ sym (met-so x b)
 
   pub left-out : through ≡ false
-      → Decides fs ks ps r e o (record { change = keeping r; answer = Transferred a; «line_used» = true; «call_used» = false }) (λ l t. transferred g q e l t)
+      → Decides v r e o (record { change = keeping r; answer = Transferred a; «line_used» = true; «call_used» = false }) (λ l t. transferred g q e l t)
   left-out h x b hf hk hp =
       ap (λ (y : Reply). told x (targetOf x r b) y false) (said x b)
       ∙ sym (ap (λ (z : Bool). metThrough x b z) h)
       ∙ sym (met-so x b)
 
 -- a packet
-module _ (g : Geometry) (fs ks ps : List ℕ) (q : Request) (e : LineEvent) (o : CallOutcome) (r : Registers) where
+module _ (g : Geometry) (v : Seen) (q : Request) (e : LineEvent) (o : CallOutcome) (r : Registers) where
   -- the request as it is known
-  pub meet-as : (d : Decision) (k : Request) → q ≡ k → Decides fs ks ps r e o d (λ l t. meetOn g (Known k) l t)
-      → Decides fs ks ps r e o d (λ l t. meetOn g (Known q) l t)
+  pub meet-as : (d : Decision) (k : Request) → q ≡ k → Decides v r e o d (λ l t. meetOn g (Known k) l t)
+      → Decides v r e o d (λ l t. meetOn g (Known q) l t)
   meet-as d k h m x b hf hk hp =
       m x b hf hk hp ∙ sym (ap (λ (t : Request). meetOn g (Known t) (listsOf x e o) (targetOf x r b)) h)
 
-  pub meet-transfer : (d : Decision) (k : Request) → q ≡ k → Decides fs ks ps r e o d (λ l t. transferred g q e l t)
-      → Decides fs ks ps r e o d (λ l t. transferred g k e l t)
+  pub meet-transfer : (d : Decision) (k : Request) → q ≡ k → Decides v r e o d (λ l t. transferred g q e l t)
+      → Decides v r e o d (λ l t. transferred g k e l t)
   meet-transfer d k h m x b hf hk hp =
       m x b hf hk hp ∙ ap (λ (t : Request). transferred g t e (listsOf x e o) (targetOf x r b)) h
 
@@ -142,29 +142,29 @@ module _ (g : Geometry) (fs ks ps : List ℕ) (q : Request) (e : LineEvent) (o :
   abbrev resetBy : Change → Decision
   resetBy n = record { change = n; answer = ResetDone; «line_used» = false; «call_used» = false }
 
-  pub meet-xres : (n : Change) → q ≡ Xres → Resets r n → Decides fs ks ps r e o (resetBy n) (λ l t. meetOn g (Known q) l t)
+  pub meet-xres : (n : Change) → q ≡ Xres → Resets r n → Decides v r e o (resetBy n) (λ l t. meetOn g (Known q) l t)
   meet-xres n h m =
       meet-as (resetBy n) Xres h (λ x b hf hk hp. ap (λ (t : Target). resetMet x t) (m g x b))
 
-  pub meet-line : q ≡ LineReset → Decides fs ks ps r e o (resetBy (keeping r)) (λ l t. meetOn g (Known q) l t)
+  pub meet-line : q ≡ LineReset → Decides v r e o (resetBy (keeping r)) (λ l t. meetOn g (Known q) l t)
   meet-line h = meet-as (resetBy (keeping r)) LineReset h (λ x b hf hk hp. refl)
 
-module _ (g : Geometry) (fs ks ps : List ℕ) (p : Packet) (e : LineEvent) (o : CallOutcome) (r : Registers) (d : Decision) where
-  pub decoded-as : (k : Decoded) → k ≡ decode p → Decides fs ks ps r e o d (λ l t. meetOn g k l t) → Decides fs ks ps r e o d (λ l t. meet g p l t)
+module _ (g : Geometry) (v : Seen) (p : Packet) (e : LineEvent) (o : CallOutcome) (r : Registers) (d : Decision) where
+  pub decoded-as : (k : Decoded) → k ≡ decode p → Decides v r e o d (λ l t. meetOn g k l t) → Decides v r e o d (λ l t. meet g p l t)
   unfolding meet
   decoded-as k h m x b hf hk hp = m x b hf hk hp ∙ ap (λ (t : Decoded). meetOn g t (listsOf x e o) (targetOf x r b)) h
 
 -- a packet that is no request
-pub meet-unknown : (g : Geometry) (fs ks ps : List ℕ) (p : Packet) (e : LineEvent) (o : CallOutcome) (r : Registers) (a : Reply) → Unknown ≡ decode p
+pub meet-unknown : (g : Geometry) (v : Seen) (p : Packet) (e : LineEvent) (o : CallOutcome) (r : Registers) (a : Reply) → Unknown ≡ decode p
     → a ≡ silentReply (e .filler)
-    → Decides fs ks ps r e o (record { change = keeping r; answer = Transferred a; «line_used» = true; «call_used» = false }) (λ l t. meet g p l t)
-meet-unknown g fs ks ps p e o r a k h =
-    decoded-as g fs ks ps p e o r (record { change = keeping r; answer = Transferred a; «line_used» = true; «call_used» = false }) Unknown k
+    → Decides v r e o (record { change = keeping r; answer = Transferred a; «line_used» = true; «call_used» = false }) (λ l t. meet g p l t)
+meet-unknown g v p e o r a k h =
+    decoded-as g v p e o r (record { change = keeping r; answer = Transferred a; «line_used» = true; «call_used» = false }) Unknown k
     (λ x b hf hk hp. rw h)
 
 -- once the act is performed
 pub performed : (g : Geometry) (x : Left) (e : LineEvent) (o : CallOutcome) (p : Packet) (r : Registers) (d : Decision) (b b′ : Buffers)
-    → Decides (b .flash) (b .locks) (b .params) r e o d (λ l t. meet g p l t) → b′ ≡ buffersAfter x (d .change .act) b
+    → Decides (seen (b .flash) (b .locks) (b .params)) r e o d (λ l t. meet g p l t) → b′ ≡ buffersAfter x (d .change .act) b
     → metOf x e o (record { registers = d .change .registers; answer = d .answer; «line_used» = d .«line_used»; «call_used» = d .«call_used» }) b′
     ≡ meet g p (listsOf x e o) (targetOf x r b)
 performed g x e o p r d b b′ m h =

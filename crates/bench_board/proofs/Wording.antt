@@ -7,7 +7,7 @@ use borrow.Author.Tests.{le-leb, lt-leb}
 use lib.ListN.{getD}
 use Rattle.bench_calls.specs.Board.{residueOf, callOutcomeOf, runningOf, targetOf}
 use Rattle.bench_calls.specs.Ends.{Makes, MakesOf, Alters}
-use Rattle.bench_board.specs.Meets.{keeping, asking, MakesIn}
+use Rattle.bench_board.specs.Meets.{keeping, asking, Seen, MakesIn}
 use Rattle.bench_calls.specs.declared.CallOutcome.{CallOutcome}
 use Rattle.bench_calls.specs.declared.Change.{Change}
 use Rattle.bench_calls.specs.declared.Registers.{Registers}
@@ -54,23 +54,23 @@ module _ (g : Geometry) (fs ps : List ℕ) (r : Registers) (other : ℕ) (n : Ch
   tick-running o c e m x b hf hp = m x b hf hp ∙ sym (ap (λ (k : Running). tick g other (runningOf x k) (targetOf x r b)) e)
 
 -- the word at TAR, posted
-module _ (g : Geometry) (fs ks ps : List ℕ) (r : Registers) (other : ℕ) (n : Change) (at : Place) where
+module _ (g : Geometry) (v : Seen) (r : Registers) (other : ℕ) (n : Change) (at : Place) where
   abbrev Read : Type 0
-  Read = MakesIn fs ks ps r n (λ x t. fetch g other at t)
+  Read = MakesIn v r n (λ x t. fetch g other at t)
 
-  pub read-flash : (a w : ℕ) → at ≡ InFlash a → w ≡ wordAt fs a → Makes r n (λ x t. setPosted w t) → Read
-  read-flash a w e v m x b hf hk hp = m x b ∙ rw (e, v, hf)
+  pub read-flash : (a w : ℕ) → at ≡ InFlash a → w ≡ wordAt (v .flash) a → Makes r n (λ x t. setPosted w t) → Read
+  read-flash a w e is m x b hf hk hp = m x b ∙ rw (e, is, hf)
 
-  pub read-locks : (a w : ℕ) → at ≡ InLocks a → w ≡ wordAt ks a → Makes r n (λ x t. setPosted w t) → Read
-  read-locks a w e v m x b hf hk hp = m x b ∙ rw (e, v, hk)
+  pub read-locks : (a w : ℕ) → at ≡ InLocks a → w ≡ wordAt (v .locks) a → Makes r n (λ x t. setPosted w t) → Read
+  read-locks a w e is m x b hf hk hp = m x b ∙ rw (e, is, hk)
 
-  pub read-params : (a w : ℕ) → at ≡ InParams a → w ≡ getD ps a 0 → Makes r n (λ x t. setPosted w t) → Read
-  read-params a w e v m x b hf hk hp = m x b ∙ rw (e, v, hp)
+  pub read-params : (a w : ℕ) → at ≡ InParams a → w ≡ getD (v .params) a 0 → Makes r n (λ x t. setPosted w t) → Read
+  read-params a w e is m x b hf hk hp = m x b ∙ rw (e, is, hp)
 
   pub read-level : (w : ℕ) → at ≡ AtLevel → w ≡ levelWord (r .stored % 16) other → Makes r n (λ x t. setPosted w t) → Read
-  read-level w e v m x b hf hk hp = m x b ∙ rw (e, v)
+  read-level w e is m x b hf hk hp = m x b ∙ rw (e, is)
 
-  pub read-sysreq : at ≡ AtSysreq → MakesOf fs ps r n (λ x t. tick g other (t .running) t) → Read
+  pub read-sysreq : at ≡ AtSysreq → MakesOf (v .flash) (v .params) r n (λ x t. tick g other (t .running) t) → Read
   read-sysreq e m x b hf hk hp = m x b hf hp ∙ rw e
 
   pub read-sysarg : at ≡ AtSysarg → Makes r n (λ x t. setPosted (r .sysarg) t) → Read
