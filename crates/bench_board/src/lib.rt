@@ -17,7 +17,6 @@ use flow::Decoded;
 use flow::LineEvent;
 use flow::Packet;
 use flow::Request;
-use flow::Silicon;
 use parts::Geometry;
 
 // How a packet is met, before the memory is written.

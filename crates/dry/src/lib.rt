@@ -1,6 +1,5 @@
 // The dry run of part 1's text on a board that is OPEN, without mishap (document 01, 'The dry run program').
 ghost use mathlib.Core.Path.{_≡_};
-ghost use Prim.Native.Nat.{_+_};
 ghost use lib.ListN.{length, take, drop};
 ghost use Rattle.bench_calls.specs.Board.{lent};
 ghost use Rattle.dry.specs.Playing.{calmEvent, calmOutcome, openFor, moment, Turns, Playable, Started, reportIn, DoneAsPlanned};
