@@ -1,12 +1,11 @@
 -- How a packet is met, over plain variables. Assumes nothing.
 use mathlib.Core.Bool.{Bool, true, false, _&&_, not, cond}
-use mathlib.Core.List.{List, [], _∷_}
+use mathlib.Core.List.{[], _∷_}
 use mathlib.Core.Path.{_≡_, refl, sym, ap, _∙_}
-use Prim.Native.Nat.{ℕ}
 use lib.Dec.{eqb}
 use Rattle.bench_calls.specs.Board.{Buffers, Left, callOutcomeOf, targetOf}
-use Rattle.bench_calls.specs.Ends.{Makes, Resets}
-use Rattle.bench_board.specs.Meets.{keeping, MakesIn, Carries, Calls, Replies, Decides, metOf, listsOf}
+use Rattle.bench_calls.specs.Ends.{Resets}
+use Rattle.bench_board.specs.Meets.{keeping, Seen, seen, carried, Carries, Calls, Replies, Decides, metOf, listsOf}
 use Rattle.bench_calls.specs.declared.CallOutcome.{CallOutcome}
 use Rattle.bench_board.specs.declared.Decision.{Decision}
 use Rattle.flow.specs.declared.LineEvent.{LineEvent}
@@ -14,66 +13,22 @@ use Rattle.bench_calls.specs.declared.Change.{Change}
 use Rattle.bench_calls.specs.declared.Registers.{Registers}
 use Rattle.flow.specs.declared.Place.{Place}
 use Rattle.bench_effects.specs.Acts.{buffersAfter}
-use Rattle.flow.specs.Exchange.{decode, fetch, store, carry, guarded, overDrw, carriedOut, gives, killed, silentReply, replyTo, barred, met, transferred, meetOn, meet}
+use Rattle.flow.specs.Exchange.{decode, carry, guarded, overDrw, carriedOut, gives, killed, silentReply, replyTo, barred, met, transferred, meetOn, meet}
 use Rattle.flow.specs.Exchange as Flow
 use Rattle.flow.specs.Map.{place}
 use Rattle.flow.specs.Packets.{isRead}
-use Rattle.flow.specs.Target.{Target, setTar}
+use Rattle.flow.specs.Target.{Target}
 use Rattle.flow.specs.declared.Answer.the-variants.{ResetDone, Transferred}
 use Rattle.flow.specs.declared.Decoded.{Decoded}
 use Rattle.flow.specs.declared.Decoded.the-variants.{Known, Unknown}
 use Rattle.flow.specs.declared.Packet.{Packet}
 use Rattle.flow.specs.declared.Reply.{Reply}
 use Rattle.flow.specs.declared.Request.{Request}
-use Rattle.flow.specs.declared.Request.the-variants.{Xres, LineReset, ReadIdcode, ReadDrw, WriteTar, WriteDrw}
+use Rattle.flow.specs.declared.Request.the-variants.{Xres}
 use Rattle.parts.specs.declared.Geometry.{Geometry}
 
--- a request carried out
-module _ (g : Geometry) (fs ks ps : List ℕ) (q : Request) (other : ℕ) (o : CallOutcome) (p : Place) (r : Registers) where
-  abbrev Out : Change → Type 0
-  Out n = Carries g fs ks ps q other o p r n
-
-  -- the request as it is known
-  abbrev done : (x : Left) (b : Buffers) → Request → Target
-  done x b k = carry g k other (callOutcomeOf x o) (targetOf x r b)
-
-  pub carry-none : (k : Request) → q ≡ k → ((x : Left) (b : Buffers) → targetOf x r b ≡ done x b k) → Out (keeping r)
-  carry-none k e f w x b hf hk hp = f x b ∙ sym (ap (λ (t : Request). done x b t) e)
-
-  pub carry-read : (n : Change) → q ≡ ReadDrw → MakesIn fs ks ps r n (λ x t. fetch g other p t) → Out n
-  unfolding carry
-  carry-read n e m w x b hf hk hp =
-      m x b hf hk hp
-      ∙ ap (λ (s : Place). fetch g other s (targetOf x r b)) w
-      ∙ sym (ap (λ (t : Request). done x b t) e)
-
-  pub carry-tar : (n : Change) (a : ℕ) → q ≡ WriteTar a → Makes r n (λ x t. setTar a t) → Out n
-  unfolding carry
-  carry-tar n a e m w x b hf hk hp = m x b ∙ sym (ap (λ (t : Request). done x b t) e)
-
-  pub carry-write : (n : Change) (v : ℕ) → q ≡ WriteDrw v → Makes r n (λ x t. store v (callOutcomeOf x o) p t) → Out n
-  unfolding carry
-  carry-write n v e m w x b hf hk hp =
-      m x b
-      ∙ ap (λ (s : Place). store v (callOutcomeOf x o) s (targetOf x r b)) w
-      ∙ sym (ap (λ (t : Request). done x b t) e)
-
--- what requests that alter nothing carry out
-module _ (g : Geometry) (other : ℕ) (o : CallOutcome) (r : Registers) (x : Left) (b : Buffers) where
-  pub none-xres : targetOf x r b ≡ carry g Xres other (callOutcomeOf x o) (targetOf x r b)
-  unfolding carry
-  none-xres = refl
-
-  pub none-line : targetOf x r b ≡ carry g LineReset other (callOutcomeOf x o) (targetOf x r b)
-  unfolding carry
-  none-line = refl
-
-  pub none-idcode : targetOf x r b ≡ carry g ReadIdcode other (callOutcomeOf x o) (targetOf x r b)
-  unfolding carry
-  none-idcode = refl
-
 -- a transfer
-module _ (g : Geometry) (fs ks ps : List ℕ) (q : Request) (e : LineEvent) (o : CallOutcome) (p : Place) (r : Registers) (bars : Bool) (a : Reply)
+module _ (g : Geometry) (v : Seen) (q : Request) (e : LineEvent) (o : CallOutcome) (p : Place) (r : Registers) (bars : Bool) (a : Reply)
     (at : p ≡ place g (r .tar)) (shut : bars ≡ (eqb (r .effect) 2 && overDrw q && guarded p)) (said : Replies q e bars r a) where
   abbrev through : Bool
   through = not (eqb (r .effect) 4) && not bars && carriedOut (e .outcome)
@@ -106,8 +61,8 @@ module _ (g : Geometry) (fs ks ps : List ℕ) (q : Request) (e : LineEvent) (o :
   saidBy x b =
       let t = targetOf x r b in cond (killed t) (silentReply (e .filler)) (replyTo (e .outcome) bars (isRead q) (gives q t) (e .filler))
 
-  pub carried-out : (n : Change) (s : Bool) → through ≡ true → Carries g fs ks ps q (e .other) o p r n → Calls q p s
-      → Decides fs ks ps r e o (record { change = n; answer = Transferred a; «line_used» = true; «call_used» = s }) (λ l t. transferred g q l t)
+  pub carried-out : (n : Change) (s : Bool) → through ≡ true → Carries g v (carried q (e .other) o) p r n → Calls q p s
+      → Decides v r e o (record { change = n; answer = Transferred a; «line_used» = true; «call_used» = s }) (λ l t. transferred g q l t)
   carried-out n s h m k x b hf hk hp =
       ap (λ (t : Target). told x t a s) (m at x b hf hk hp)
       ∙ ap (λ (y : Reply). told x (carry g q (e .other) (callOutcomeOf x o) (targetOf x r b)) y s) (said x b)
@@ -116,55 +71,33 @@ module _ (g : Geometry) (fs ks ps : List ℕ) (q : Request) (e : LineEvent) (o :
       ∙ sym (met-so x b)
 
   pub left-out : through ≡ false
-      → Decides fs ks ps r e o (record { change = keeping r; answer = Transferred a; «line_used» = true; «call_used» = false }) (λ l t. transferred g q l t)
+      → Decides v r e o (record { change = keeping r; answer = Transferred a; «line_used» = true; «call_used» = false }) (λ l t. transferred g q l t)
   left-out h x b hf hk hp =
       ap (λ (y : Reply). told x (targetOf x r b) y false) (said x b)
       ∙ sym (ap (λ (z : Bool). metThrough x b z) h)
       ∙ sym (met-so x b)
 
 -- a packet
-module _ (g : Geometry) (fs ks ps : List ℕ) (q : Request) (e : LineEvent) (o : CallOutcome) (r : Registers) where
-  -- the request as it is known
-  pub meet-as : (d : Decision) (k : Request) → q ≡ k → Decides fs ks ps r e o d (λ l t. meetOn g (Known k) l t)
-      → Decides fs ks ps r e o d (λ l t. meetOn g (Known q) l t)
-  meet-as d k h m x b hf hk hp =
-      m x b hf hk hp ∙ sym (ap (λ (t : Request). meetOn g (Known t) (listsOf x e o) (targetOf x r b)) h)
+pub meet-xres : (g : Geometry) (v : Seen) (q : Request) (e : LineEvent) (o : CallOutcome) (r : Registers) (n : Change) → q ≡ Xres → Resets r n
+    → Decides v r e o (record { change = n; answer = ResetDone; «line_used» = false; «call_used» = false }) (λ l t. meetOn g (Known q) l t)
+meet-xres g v q e o r n h m x b hf hk hp = rw h (ap (λ (t : Target). record { target = t; answer = ResetDone; lists = listsOf x e o }) (m g x b))
 
-  pub meet-transfer : (d : Decision) (k : Request) → q ≡ k → Decides fs ks ps r e o d (λ l t. transferred g q l t)
-      → Decides fs ks ps r e o d (λ l t. transferred g k l t)
-  meet-transfer d k h m x b hf hk hp =
-      m x b hf hk hp ∙ ap (λ (t : Request). transferred g t (listsOf x e o) (targetOf x r b)) h
-
-  -- a reset: neither list is used
-  abbrev resetMet : (x : Left) → Target → Flow.Met
-  resetMet x t = record { target = t; answer = ResetDone; lists = listsOf x e o }
-
-  abbrev resetBy : Change → Decision
-  resetBy n = record { change = n; answer = ResetDone; «line_used» = false; «call_used» = false }
-
-  pub meet-xres : (n : Change) → q ≡ Xres → Resets r n → Decides fs ks ps r e o (resetBy n) (λ l t. meetOn g (Known q) l t)
-  meet-xres n h m =
-      meet-as (resetBy n) Xres h (λ x b hf hk hp. ap (λ (t : Target). resetMet x t) (m g x b))
-
-  pub meet-line : q ≡ LineReset → Decides fs ks ps r e o (resetBy (keeping r)) (λ l t. meetOn g (Known q) l t)
-  meet-line h = meet-as (resetBy (keeping r)) LineReset h (λ x b hf hk hp. refl)
-
-module _ (g : Geometry) (fs ks ps : List ℕ) (p : Packet) (e : LineEvent) (o : CallOutcome) (r : Registers) (d : Decision) where
-  pub decoded-as : (k : Decoded) → k ≡ decode p → Decides fs ks ps r e o d (λ l t. meetOn g k l t) → Decides fs ks ps r e o d (λ l t. meet g p l t)
+module _ (g : Geometry) (v : Seen) (p : Packet) (e : LineEvent) (o : CallOutcome) (r : Registers) (d : Decision) where
+  pub decoded-as : (k : Decoded) → k ≡ decode p → Decides v r e o d (λ l t. meetOn g k l t) → Decides v r e o d (λ l t. meet g p l t)
   unfolding meet
   decoded-as k h m x b hf hk hp = m x b hf hk hp ∙ ap (λ (t : Decoded). meetOn g t (listsOf x e o) (targetOf x r b)) h
 
 -- a packet that is no request
-pub meet-unknown : (g : Geometry) (fs ks ps : List ℕ) (p : Packet) (e : LineEvent) (o : CallOutcome) (r : Registers) (a : Reply) → Unknown ≡ decode p
+pub meet-unknown : (g : Geometry) (v : Seen) (p : Packet) (e : LineEvent) (o : CallOutcome) (r : Registers) (a : Reply) → Unknown ≡ decode p
     → a ≡ silentReply (e .filler)
-    → Decides fs ks ps r e o (record { change = keeping r; answer = Transferred a; «line_used» = true; «call_used» = false }) (λ l t. meet g p l t)
-meet-unknown g fs ks ps p e o r a k h =
-    decoded-as g fs ks ps p e o r (record { change = keeping r; answer = Transferred a; «line_used» = true; «call_used» = false }) Unknown k
+    → Decides v r e o (record { change = keeping r; answer = Transferred a; «line_used» = true; «call_used» = false }) (λ l t. meet g p l t)
+meet-unknown g v p e o r a k h =
+    decoded-as g v p e o r (record { change = keeping r; answer = Transferred a; «line_used» = true; «call_used» = false }) Unknown k
     (λ x b hf hk hp. rw h)
 
 -- once the act is performed
 pub performed : (g : Geometry) (x : Left) (e : LineEvent) (o : CallOutcome) (p : Packet) (r : Registers) (d : Decision) (b b′ : Buffers)
-    → Decides (b .flash) (b .locks) (b .params) r e o d (λ l t. meet g p l t) → b′ ≡ buffersAfter x (d .change .act) b
+    → Decides (seen (b .flash) (b .locks) (b .params)) r e o d (λ l t. meet g p l t) → b′ ≡ buffersAfter x (d .change .act) b
     → metOf x e o (record { registers = d .change .registers; answer = d .answer; «line_used» = d .«line_used»; «call_used» = d .«call_used» }) b′
     ≡ meet g p (listsOf x e o) (targetOf x r b)
 performed g x e o p r d b b′ m h =

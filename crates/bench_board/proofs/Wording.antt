@@ -4,24 +4,19 @@ use mathlib.Core.Path.{_≡_, sym, ap, _∙_}
 use Prim.Native.Nat.{ℕ, suc, _+_, _-_, _%_, _≤_, _<_}
 use native.Mathlib.Omega.{arith}
 use borrow.Author.Tests.{le-leb, lt-leb}
-use lib.ListN.{getD}
 use Rattle.bench_calls.specs.Board.{residueOf, callOutcomeOf, runningOf, targetOf}
 use Rattle.bench_calls.specs.Ends.{Makes, MakesOf, Alters}
-use Rattle.bench_board.specs.Meets.{keeping, asking, MakesIn}
+use Rattle.bench_board.specs.Meets.{keeping, asking}
 use Rattle.bench_calls.specs.declared.CallOutcome.{CallOutcome}
 use Rattle.bench_calls.specs.declared.Change.{Change}
 use Rattle.bench_calls.specs.declared.Registers.{Registers}
 use Rattle.bench_calls.specs.declared.Running.{Running}
 use Rattle.bench_calls.specs.declared.Running.the-variants.{Idle, Busy}
-use Rattle.flow.specs.declared.Place.{Place}
-use Rattle.flow.specs.declared.Place.the-variants.{InFlash, InLocks, InParams, AtLevel, AtSysreq, AtSysarg, AtTestMode, Elsewhere}
 use Rattle.bench_effects.specs.Acts.{buffersAfter}
 use Rattle.bench_effects.specs.declared.Act.{Act}
-use Rattle.bench_effects.specs.declared.Act.the-variants.{PutWord}
 use Rattle.flow.specs.Calls.{finish}
-use Rattle.flow.specs.Exchange.{levelWord, tick, fetch, isCall, begin, store}
-use Rattle.flow.specs.Target.{Target, busy, setPosted, setSysarg, setTestMode}
-use Rattle.lent.specs.Words.{wordAt}
+use Rattle.flow.specs.Exchange.{tick, isCall, begin}
+use Rattle.flow.specs.Target.{Target, busy, setPosted}
 use Rattle.parts.specs.declared.Geometry.{Geometry}
 
 -- an outcome with n busy reads left
@@ -53,35 +48,6 @@ module _ (g : Geometry) (fs ps : List ℕ) (r : Registers) (other : ℕ) (n : Ch
       → MakesOf fs ps r n (λ x t. tick g other (t .running) t)
   tick-running o c e m x b hf hp = m x b hf hp ∙ sym (ap (λ (k : Running). tick g other (runningOf x k) (targetOf x r b)) e)
 
--- the word at TAR, posted
-module _ (g : Geometry) (fs ks ps : List ℕ) (r : Registers) (other : ℕ) (n : Change) (at : Place) where
-  abbrev Read : Type 0
-  Read = MakesIn fs ks ps r n (λ x t. fetch g other at t)
-
-  pub read-flash : (a w : ℕ) → at ≡ InFlash a → w ≡ wordAt fs a → Makes r n (λ x t. setPosted w t) → Read
-  read-flash a w e v m x b hf hk hp = m x b ∙ rw (e, v, hf)
-
-  pub read-locks : (a w : ℕ) → at ≡ InLocks a → w ≡ wordAt ks a → Makes r n (λ x t. setPosted w t) → Read
-  read-locks a w e v m x b hf hk hp = m x b ∙ rw (e, v, hk)
-
-  pub read-params : (a w : ℕ) → at ≡ InParams a → w ≡ getD ps a 0 → Makes r n (λ x t. setPosted w t) → Read
-  read-params a w e v m x b hf hk hp = m x b ∙ rw (e, v, hp)
-
-  pub read-level : (w : ℕ) → at ≡ AtLevel → w ≡ levelWord (r .stored % 16) other → Makes r n (λ x t. setPosted w t) → Read
-  read-level w e v m x b hf hk hp = m x b ∙ rw (e, v)
-
-  pub read-sysreq : at ≡ AtSysreq → MakesOf fs ps r n (λ x t. tick g other (t .running) t) → Read
-  read-sysreq e m x b hf hk hp = m x b hf hp ∙ rw e
-
-  pub read-sysarg : at ≡ AtSysarg → Makes r n (λ x t. setPosted (r .sysarg) t) → Read
-  read-sysarg e m x b hf hk hp = m x b ∙ rw e
-
-  pub read-test-mode : at ≡ AtTestMode → Makes r n (λ x t. setPosted (r .«test_mode») t) → Read
-  read-test-mode e m x b hf hk hp = m x b ∙ rw e
-
-  pub read-elsewhere : at ≡ Elsewhere → Makes r n (λ x t. setPosted other t) → Read
-  read-elsewhere e m x b hf hk hp = m x b ∙ rw e
-
 -- a write of SYSREQ
 module _ (r : Registers) (w : ℕ) (o : CallOutcome) where
   pub call-begun : 0x80000000 ≤ w → Makes r (keeping (asking w (r .posted) (Busy o (w % 256)) r)) (λ x t. begin (isCall w) w (callOutcomeOf x o) t)
@@ -89,32 +55,3 @@ module _ (r : Registers) (w : ℕ) (o : CallOutcome) where
 
   pub sysreq-written : w < 0x80000000 → Makes r (keeping (asking w (r .posted) (r .running) r)) (λ x t. begin (isCall w) w (callOutcomeOf x o) t)
   sysreq-written h x b = rw (lt-leb 0x80000000 w h)
-
--- a word written at TAR
-module _ (r : Registers) (w : ℕ) (o : CallOutcome) (at : Place) where
-  abbrev Written : Change → Type 0
-  Written n = Makes r n (λ x t. store w (callOutcomeOf x o) at t)
-
-  pub write-flash : (a : ℕ) → at ≡ InFlash a → Written (keeping r)
-  write-flash a e x b = rw e
-
-  pub write-locks : (a : ℕ) → at ≡ InLocks a → Written (keeping r)
-  write-locks a e x b = rw e
-
-  pub write-params : (k : ℕ) → at ≡ InParams k → Written (record { registers = r; act = PutWord k w })
-  write-params k e x b = rw e
-
-  pub write-level : at ≡ AtLevel → Written (keeping r)
-  write-level e x b = rw e
-
-  pub write-sysreq : (n : Change) → at ≡ AtSysreq → Makes r n (λ x t. begin (isCall w) w (callOutcomeOf x o) t) → Written n
-  write-sysreq n e m x b = m x b ∙ rw e
-
-  pub write-sysarg : (n : Change) → at ≡ AtSysarg → Makes r n (λ x t. setSysarg w t) → Written n
-  write-sysarg n e m x b = m x b ∙ rw e
-
-  pub write-test-mode : (n : Change) → at ≡ AtTestMode → Makes r n (λ x t. setTestMode w t) → Written n
-  write-test-mode n e m x b = m x b ∙ rw e
-
-  pub write-elsewhere : at ≡ Elsewhere → Written (keeping r)
-  write-elsewhere e x b = rw e

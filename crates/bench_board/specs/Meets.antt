@@ -62,17 +62,35 @@ asking w p k r = record {
 
 -- ---- what inner functions promise: an act is performed later, so they speak of every memory that it may be performed on
 
+-- the lent buffers that a request reads
+pub record Seen : Type 0 where
+  pub flash : List ℕ
+  pub locks : List ℕ
+  pub params : List ℕ
+
+abbrev pub seen : (flash locks params : List ℕ) → Seen
+seen f l p = record { flash = f; locks = l; params = p }
+
 -- registers and memory after are the target that f makes of the one before, if flash, locks and PARAMS are these
-abbrev pub MakesIn : (flash locks params : List ℕ) → Registers → Change → (Left → Target → Target) → Type 0
-MakesIn fs ks ps r n f =
-    (x : Left) (b : Buffers) → b .flash ≡ fs → b .locks ≡ ks → b .params ≡ ps
+abbrev pub MakesIn : Seen → Registers → Change → (Left → Target → Target) → Type 0
+MakesIn v r n f =
+    (x : Left) (b : Buffers) → b .flash ≡ v .flash → b .locks ≡ v .locks → b .params ≡ v .params
     → targetOf x (n .registers) (buffersAfter x (n .act) b) ≡ f x (targetOf x r b)
 
 -- ---- transfers
 
+-- a request to carry out, the word read where nothing is, and how a call that it starts will go
+pub record Carried : Type 0 where
+  pub request : Request
+  pub other : ℕ
+  pub call : CallOutcome
+
+abbrev pub carried : Request → (other : ℕ) → CallOutcome → Carried
+carried q w o = record { request = q; other = w; call = o }
+
 -- a request carried out where TAR points
-abbrev pub Carries : Geometry → (flash locks params : List ℕ) → Request → (other : ℕ) → CallOutcome → Place → Registers → Change → Type 0
-Carries g fs ks ps q w o p r n = p ≡ place g (r .tar) → MakesIn fs ks ps r n (λ x t. carry g q w (callOutcomeOf x o) t)
+abbrev pub Carries : Geometry → Seen → Carried → Place → Registers → Change → Type 0
+Carries g v k p r n = p ≡ place g (r .tar) → MakesIn v r n (λ x t. carry g (k .request) (k .other) (callOutcomeOf x (k .call)) t)
 
 -- the word that a read gives
 abbrev pub Gives : Request → Registers → (word : ℕ) → Type 0
@@ -98,6 +116,6 @@ metBy x e o d b =
     (buffersAfter x (d .change .act) b)
 
 -- a packet is met as f says, if flash, locks and PARAMS are these
-abbrev pub Decides : (flash locks params : List ℕ) → Registers → LineEvent → CallOutcome → Decision → (Lists → Target → Flow.Met) → Type 0
-Decides fs ks ps r e o d f =
-    (x : Left) (b : Buffers) → b .flash ≡ fs → b .locks ≡ ks → b .params ≡ ps → metBy x e o d b ≡ f (listsOf x e o) (targetOf x r b)
+abbrev pub Decides : Seen → Registers → LineEvent → CallOutcome → Decision → (Lists → Target → Flow.Met) → Type 0
+Decides v r e o d f =
+    (x : Left) (b : Buffers) → b .flash ≡ v .flash → b .locks ≡ v .locks → b .params ≡ v .params → metBy x e o d b ≡ f (listsOf x e o) (targetOf x r b)

@@ -5,7 +5,6 @@ use Prim.Native.Nat.{ℕ, _%_, _<_}
 use native.Mathlib.Omega.{arith}
 use lib.Dec.{leb}
 use Rattle.bench_calls.specs.Board.{Buffers, Left, targetOf}
-use Rattle.bench_calls.specs.declared.CallOutcome.{CallOutcome}
 use Rattle.bench_calls.specs.declared.Registers.{Registers}
 use Rattle.bench_calls.specs.declared.Running.{Running}
 use Rattle.bench_calls.specs.declared.Running.the-variants.{Idle, Busy}
@@ -14,7 +13,7 @@ use Rattle.bench_c.specs.BoardClaims.{RegistersInWords, BoardClaims}
 use Rattle.flow.specs.Target as Flow
 use Rattle.flow.specs.Target.{Target, idle, busy}
 use Rattle.lent.specs.Words.{wordAt}
-use Rattle.layout.proofs.Bytes.{low32, low-same, flag-same}
+use Rattle.layout.proofs.Bytes.{low-same, flag-same}
 use Rattle.layout.specs.Bytes.{flagByte}
 
 small : (n : ℕ) → n < 16 → n % 16 ≡ n

@@ -16,7 +16,7 @@ use Rattle.bench_calls.specs.declared.Registers.{Registers}
 use Rattle.bench_calls.specs.declared.Running.{Running}
 use Rattle.bench_calls.specs.declared.Running.the-variants.{Idle, Busy}
 use Rattle.bench_c.specs.BoardAsked.{askedFor, askedOf}
-use Rattle.bench_c.specs.BoardBytes.{callOutcomeAt, isCallOutcome, registersIn, isBoard, eventIn, isEvent, packetIn, isPacket, siliconBytes, runBytes, runningBytes, wordsBytes, boardBytes, replyBytes, answerBytes, usedOf, emptied, RunningPut, BoardPut}
+use Rattle.bench_c.specs.BoardBytes.{callOutcomeAt, registersIn, eventIn, packetIn, siliconBytes, runBytes, runningBytes, wordsBytes, boardBytes, replyBytes, answerBytes, usedOf, emptied, RunningPut, BoardPut}
 use Rattle.bench_c.specs.BoardCalls.{Bench, benchOf, buffersOf, Handed, Benched, benched, benchAfter, isBench, sizesFit, meetFor, meetCall}
 use Rattle.bench_c.specs.declared.Asked.{Asked}
 use Rattle.bench_c.specs.declared.Asked.the-variants.{Returned, Meets}

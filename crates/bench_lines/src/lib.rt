@@ -1,5 +1,4 @@
 // The board's side of the wire: its answers.
-ghost use mathlib.Core.Bool.{true, false};
 ghost use mathlib.Core.Path.{_≡_};
 ghost use Rattle.flow.specs.Exchange.{replyWith, silentReply, noisyAck, noisyReply, okayReply, wrongParityReply, replyTo, carriedOut};
 use flow::Reply;

@@ -1,5 +1,4 @@
 // The board's side of the wire: packets read bit by bit.
-ghost use mathlib.Core.Bool.{true, false};
 ghost use mathlib.Core.Path.{_≡_};
 ghost use Rattle.flow.specs.Exchange.{wellFormed, readAt, writeAt, decode};
 use flow::Decoded;

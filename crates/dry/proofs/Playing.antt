@@ -6,10 +6,7 @@ use Prim.Native.Nat.{ℕ, suc, _+_, _≤_, _<_}
 use native.Mathlib.Omega.{arith}
 use lib.Dec.{eqb}
 use lib.ListN.{length}
-use Rattle.bench_calls.specs.Board.{Buffers, targetOf}
-use Rattle.bench_calls.specs.declared.Registers.{Registers}
-use Rattle.dry.specs.Playing.{noLists, nothing, meets, Turns, Started, reportIn, DoneAsPlanned}
-use Rattle.dry.specs.declared.AfterTurn.{AfterTurn}
+use Rattle.dry.specs.Playing.{noLists, Moment, moment, boardAt, meets, Turns, Started, reportIn, DoneAsPlanned}
 use Rattle.dry.proofs.Meets.{same-met}
 use Rattle.flow.specs.Terms.{Calm, calmEnd, callsEnd, entryOf, Used, entries}
 use Rattle.flow.specs.Examples.{partOne}
@@ -77,22 +74,22 @@ unrefused h bytes e n f =
     let t : false ≡ true = cc z in
     absurd (false≢true t)
 
--- after n answers: the session s, the outcome o, and a board with these registers and buffers, its lists at their end
-pub record Stands (h : Header) (bytes : List ℕ) (b₀ : Target) (n : ℕ) (s : Session) (o : Outcome) (r : Registers) (b : Buffers) : Type 0 where
+-- after n answers the session, what stands and the board are these, the lists at their end
+pub record PlayedTo (h : Header) (bytes : List ℕ) (b₀ : Target) (n : ℕ) (m : Moment) : Type 0 where
   pub state : State
   pub steps : Steps partOne bytes n 0 (begun (startOf h bytes true) b₀ noLists) state
-  pub session : state .session ≡ s
-  pub stands : state .stands ≡ o
-  pub target : state .target ≡ targetOf nothing r b
+  pub session : state .session ≡ m .session
+  pub stands : state .stands ≡ m .stands
+  pub target : state .target ≡ boardAt m
   pub lists : state .lists ≡ noLists
 
-module _ (bytes : List ℕ) (s₀ : Session) (o₀ : Outcome) (r₀ : Registers) (b₀ : Buffers) (w : Started bytes s₀ o₀ r₀ b₀) where
-  abbrev At : (n : ℕ) → Session → Outcome → Registers → Buffers → Type 0
-  At n s o r b = Stands (w .header) bytes (targetOf nothing r₀ b₀) n s o r b
+module _ (bytes : List ℕ) (m₀ : Moment) (w : Started bytes m₀) where
+  abbrev At : ℕ → Moment → Type 0
+  At n m = PlayedTo (w .header) bytes (boardAt m₀) n m
 
-  pub at-start : At 0 s₀ o₀ r₀ b₀
+  pub at-start : At 0 m₀
   at-start = record {
-    state = begun (startOf (w .header) bytes true) (targetOf nothing r₀ b₀) noLists;
+    state = begun (startOf (w .header) bytes true) (boardAt m₀) noLists;
     steps = none;
     session = sym (w .session);
     stands = sym (w .stands);
@@ -100,104 +97,95 @@ module _ (bytes : List ℕ) (s₀ : Session) (o₀ : Outcome) (r₀ : Registers)
     lists = refl;
   }
 
-  pub turned : (n : ℕ) (s : Session) (p : Packet) (r : Registers) (b : Buffers) (t : AfterTurn) (b′ : Buffers) → At n s (Ask p) r b
-      → Turns partOne s bytes p r b t b′
-      → At (suc n) (t .session) (t .stands) (t .registers) b′
-  turned n s p r b t b′ v u =
-      let x = v .state in
-      let m : reaction partOne p x ≡ meets partOne p r b = ap (λ (l : Lists). meet partOne p l (x .target)) (v .lists) ∙ ap (meet partOne p noLists) (v .target) in
-      let g : stepWith (x .session) bytes ((reaction partOne p x) .answer) ≡ stepWith s bytes ((meets partOne p r b) .answer)
-      = ap (λ (y : Session). stepWith y bytes ((reaction partOne p x) .answer)) (v .session) ∙ ap (λ (y : Met). stepWith s bytes (y .answer)) m in
-      record {
-        state = answered partOne p (reaction partOne p x) (stepWith (x .session) bytes ((reaction partOne p x) .answer)) x;
-        steps = snoc (v .steps) p (v .stands);
-        session = ap (λ (y : Given). y .session) g ∙ sym (u .session);
-        stands = ap (λ (y : Outcome). standing y ((stepWith (x .session) bytes ((reaction partOne p x) .answer)) .outcome)) (v .stands)
-            ∙ ap (λ (y : Given). standing (Ask p) (y .outcome)) g ∙ sym (u .stands);
-        target = ap (λ (y : Met). y .target) m ∙ sym (u .target);
-        lists = ap (λ (y : Met). y .lists) m ∙ (same-met partOne (targetOf nothing r b) p) .lists;
-      }
+  module _ (n : ℕ) (m : Moment) (v : At n m) where
+    pub turned : (p : Packet) (m′ : Moment) → m .stands ≡ Ask p → Turns partOne bytes p m m′ → At (suc n) m′
+    turned p m′ e u =
+        let x = v .state in
+        let asked = v .stands ∙ e in
+        let r : reaction partOne p x ≡ meets partOne p m = ap (λ (l : Lists). meet partOne p l (x .target)) (v .lists) ∙ ap (meet partOne p noLists) (v .target) in
+        let g : stepWith (x .session) bytes ((reaction partOne p x) .answer) ≡ stepWith (m .session) bytes ((meets partOne p m) .answer)
+        = ap (λ (y : Session). stepWith y bytes ((reaction partOne p x) .answer)) (v .session) ∙ ap (λ (y : Met). stepWith (m .session) bytes (y .answer)) r in
+        record {
+          state = answered partOne p (reaction partOne p x) (stepWith (x .session) bytes ((reaction partOne p x) .answer)) x;
+          steps = snoc (v .steps) p asked;
+          session = ap (λ (y : Given). y .session) g ∙ sym (u .session);
+          stands = ap (λ (y : Outcome). standing y ((stepWith (x .session) bytes ((reaction partOne p x) .answer)) .outcome)) asked
+              ∙ ap (λ (y : Given). standing (Ask p) (y .outcome)) g ∙ sym (u .stands);
+          target = ap (λ (y : Met). y .target) r ∙ sym (u .target);
+          lists = ap (λ (y : Met). y .lists) r ∙ (same-met partOne (boardAt m) p) .lists;
+        }
 
-  claim : (n : ℕ) (s : Session) (o : Outcome) (r : Registers) (b : Buffers) → (v : At n s o r b)
-      → Demand3 (imageOf partOne (w .header) bytes) (targetOf nothing r₀ b₀) noLists n (v .state)
-  claim n s o r b v =
-      demand3 partOne (w .header) bytes true (w .passes) (unrefused (w .header) bytes (w .passes .checked)) (targetOf nothing r₀ b₀) (w .startable) noLists n 0
-      (v .state) (v .steps)
+    not-started : (x : ℕ) → ¬ ((startOf (w .header) bytes true) .outcome ≡ Refused x)
+    not-started = unrefused (w .header) bytes (w .passes .checked)
 
-  from-open : entryOf (targetOf nothing r₀ b₀) ≡ FromOpen
-  from-open = rw (w .stored) refl
+    claim : Demand3 (imageOf partOne (w .header) bytes) (boardAt m₀) noLists n (v .state)
+    claim = demand3 partOne (w .header) bytes true (w .passes) not-started (boardAt m₀) (w .startable) noLists n 0 (v .state) (v .steps)
 
-  pub done-planned : (n : ℕ) (s : Session) (x : Report) (r : Registers) (b : Buffers) → At n s (Reported x) r b → DoneAsPlanned x
-  done-planned n s x r b v =
-      let c = claim n s (Reported x) r b v in
-      let d = c .calm (calm-used (c .used)) (w .right) x (v .stands) in
-      record { number = d .0; transfers = d .1 ∙ ap (plan partOne) from-open }
+    from-open : entryOf (boardAt m₀) ≡ FromOpen
+    from-open = rw (w .stored) refl
 
-  pub not-refused : (n : ℕ) (s : Session) (k : ℕ) (r : Registers) (b : Buffers) → At n s (Refused k) r b → ⊥
-  not-refused n s k r b v = stands-unrefused (v .steps) (unrefused (w .header) bytes (w .passes .checked)) k (v .stands)
+    pub done-planned : (x : Report) → m .stands ≡ Reported x → DoneAsPlanned x
+    done-planned x e =
+        let d = claim .calm (calm-used (claim .used)) (w .right) x (v .stands ∙ e) in
+        record { number = d .0; transfers = d .1 ∙ ap (plan partOne) from-open }
 
-  most-turns : (n : ℕ) → 265637747 ≤ n
-      → (most (imageOf partOne (w .header) bytes) (targetOf nothing r₀ b₀)) .transfers + (most (imageOf partOne (w .header) bytes) (targetOf nothing r₀ b₀)) .xresets
-      + (most (imageOf partOne (w .header) bytes) (targetOf nothing r₀ b₀)) .lineResets ≤ n
-  unfolding mostTraffic plan lockPlan loops rowsOf locksIn
-  most-turns n h = rw from-open h
+    pub not-refused : (k : ℕ) → m .stands ≡ Refused k → ⊥
+    not-refused k e = stands-unrefused (v .steps) not-started k (v .stands ∙ e)
 
-  -- once so many packets were met, a report stands
-  pub at-end : (n : ℕ) (s : Session) (o : Outcome) (r : Registers) (b : Buffers) → At n s o r b → 265637747 ≤ n → DoneAsPlanned (reportIn o)
-  at-end n s o r b v h =
-      let e = (claim n s o r b v) .comes (most-turns n h) in
-      let f : Reported (e .report) ≡ o = sym (e .is) ∙ v .stands in
-      subst (λ (y : Outcome). DoneAsPlanned (reportIn y)) f (done-planned n s (e .report) r b (subst (λ (y : Outcome). At n s y r b) (sym f) v))
+    most-turns : 265637747 ≤ n
+        → (most (imageOf partOne (w .header) bytes) (boardAt m₀)) .transfers + (most (imageOf partOne (w .header) bytes) (boardAt m₀)) .xresets
+        + (most (imageOf partOne (w .header) bytes) (boardAt m₀)) .lineResets ≤ n
+    unfolding mostTraffic plan lockPlan loops rowsOf locksIn
+    most-turns h = rw from-open h
+
+    -- once so many packets were met, a report stands
+    pub at-end : 265637747 ≤ n → DoneAsPlanned (reportIn (m .stands))
+    at-end h =
+        let e = claim .comes (most-turns h) in
+        let f : m .stands ≡ Reported (e .report) = sym (v .stands) ∙ e .is in
+        subst (λ (y : Outcome). DoneAsPlanned (reportIn y)) (sym f) (done-planned (e .report) f)
 
 -- what a loop of turns keeps: the buffers' lengths, and what stands after so many
-pub record Playing (g : Geometry) (bytes : List ℕ) (b₀ : Buffers) (s₀ : Session) (r₀ : Registers) (o₀ : Outcome) (b : Buffers) (s : Session) (r : Registers) (o : Outcome) (n : ℕ) : Type 0 where
-  pub flash : length (b .flash) ≡ length (b₀ .flash)
-  pub locks : length (b .locks) ≡ length (b₀ .locks)
-  pub latch : length (b .latch) ≡ length (b₀ .latch)
-  pub params : length (b .params) ≡ length (b₀ .params)
+pub record Playing (g : Geometry) (bytes : List ℕ) (m₀ m : Moment) (n : ℕ) : Type 0 where
+  pub flash : length (m .buffers .flash) ≡ length (m₀ .buffers .flash)
+  pub locks : length (m .buffers .locks) ≡ length (m₀ .buffers .locks)
+  pub latch : length (m .buffers .latch) ≡ length (m₀ .buffers .latch)
+  pub params : length (m .buffers .params) ≡ length (m₀ .buffers .params)
   pub few : n ≤ 265637747
   pub is : g ≡ partOne
-  pub stands : (w : Started bytes s₀ o₀ r₀ b₀) → Stands (w .header) bytes (targetOf nothing r₀ b₀) n s o r b
+  pub stands : (w : Started bytes m₀) → PlayedTo (w .header) bytes (boardAt m₀) n m
 
-module _ {g : Geometry} {bytes : List ℕ} {b₀ : Buffers} {s₀ : Session} {r₀ : Registers} {o₀ : Outcome} where
-  pub first-turn : g ≡ partOne → Playing g bytes b₀ s₀ r₀ o₀ b₀ s₀ r₀ o₀ 0
-  first-turn e = record {
-    flash = refl;
-    locks = refl;
-    latch = refl;
-    params = refl;
-    few = omega arith;
-    is = e;
-    stands = λ w. at-start bytes s₀ o₀ r₀ b₀ w;
-  }
+module _ {g : Geometry} {bytes : List ℕ} {m₀ : Moment} where
+  pub first-turn : g ≡ partOne → Playing g bytes m₀ m₀ 0
+  first-turn e = record { flash = refl; locks = refl; latch = refl; params = refl; few = omega arith; is = e; stands = λ w. at-start bytes m₀ w }
 
-  module _ {b : Buffers} {s : Session} {r : Registers} {o : Outcome} {n : ℕ} (v : Playing g bytes b₀ s₀ r₀ o₀ b s r o n) where
-    pub next-turn : {p : Packet} {t : AfterTurn} {b′ : Buffers} → n < 265637747 → o ≡ Ask p → Turns g s bytes p r b t b′
-        → length (b′ .flash) ≡ length (b .flash) → length (b′ .locks) ≡ length (b .locks)
-        → length (b′ .latch) ≡ length (b .latch) → length (b′ .params) ≡ length (b .params)
-        → Playing g bytes b₀ s₀ r₀ o₀ b′ (t .session) (t .registers) (t .stands) (n + 1)
-    next-turn {p} {t} {b′} h e u f k l m = record {
+  module _ {m : Moment} {n : ℕ} (v : Playing g bytes m₀ m n) where
+    -- while p stands
+    abbrev asking : Packet → Moment
+    asking p = moment (m .session) (Ask p) (m .registers) (m .buffers)
+
+    pub next-turn : {p : Packet} {m′ : Moment} → n < 265637747 → m .stands ≡ Ask p → Turns g bytes p (asking p) m′
+        → length (m′ .buffers .flash) ≡ length (m .buffers .flash) → length (m′ .buffers .locks) ≡ length (m .buffers .locks)
+        → length (m′ .buffers .latch) ≡ length (m .buffers .latch) → length (m′ .buffers .params) ≡ length (m .buffers .params)
+        → Playing g bytes m₀ m′ (n + 1)
+    next-turn {p} {m′} h e u f k l t = record {
       flash = f ∙ v .flash;
       locks = k ∙ v .locks;
       latch = l ∙ v .latch;
-      params = m ∙ v .params;
+      params = t ∙ v .params;
       few = omega arith;
       is = v .is;
       stands = λ w.
-          subst (λ (k : ℕ). Stands (w .header) bytes (targetOf nothing r₀ b₀) k (t .session) (t .stands) (t .registers) b′) (omega arith)
-          (turned bytes s₀ o₀ r₀ b₀ w n s p r b t b′
-          (subst (λ (y : Outcome). Stands (w .header) bytes (targetOf nothing r₀ b₀) n s y r b) e (v .stands w))
-          (subst (λ (y : Geometry). Turns y s bytes p r b t b′) (v .is) u));
+          subst (λ (k : ℕ). PlayedTo (w .header) bytes (boardAt m₀) k m′) (omega arith)
+          (turned bytes m₀ w n m (v .stands w) p m′ e (rw (e, ← v .is) u));
     }
 
-    pub report-planned : Started bytes s₀ o₀ r₀ b₀ → {x : Report} → o ≡ Reported x → DoneAsPlanned (reportIn o)
-    report-planned w {x} e =
-        subst (λ (y : Outcome). DoneAsPlanned (reportIn y)) (sym e)
-        (done-planned bytes s₀ o₀ r₀ b₀ w n s x r b (subst (λ (y : Outcome). Stands (w .header) bytes (targetOf nothing r₀ b₀) n s y r b) e (v .stands w)))
+    module _ (w : Started bytes m₀) where
+      pub report-planned : {x : Report} → m .stands ≡ Reported x → DoneAsPlanned (reportIn (m .stands))
+      report-planned {x} e = subst (λ (y : Outcome). DoneAsPlanned (reportIn y)) (sym e) (done-planned bytes m₀ w n m (v .stands w) x e)
 
-    pub none-refused : Started bytes s₀ o₀ r₀ b₀ → {k : ℕ} → o ≡ Refused k → DoneAsPlanned (reportIn o)
-    none-refused w {k} e =
-        absurd (not-refused bytes s₀ o₀ r₀ b₀ w n s k r b (subst (λ (y : Outcome). Stands (w .header) bytes (targetOf nothing r₀ b₀) n s y r b) e (v .stands w)))
+      pub none-refused : {k : ℕ} → m .stands ≡ Refused k → DoneAsPlanned (reportIn (m .stands))
+      none-refused {k} e = absurd (not-refused bytes m₀ w n m (v .stands w) k e)
 
-    pub report-comes : Started bytes s₀ o₀ r₀ b₀ → 265637747 ≤ n → DoneAsPlanned (reportIn o)
-    report-comes w h = at-end bytes s₀ o₀ r₀ b₀ w n s o r b (v .stands w) h
+      pub report-comes : 265637747 ≤ n → DoneAsPlanned (reportIn (m .stands))
+      report-comes h = at-end bytes m₀ w n m (v .stands w) h

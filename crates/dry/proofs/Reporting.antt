@@ -11,7 +11,7 @@ use lib.ListN.{length, drop, drop-of-length-le}
 use Rattle.bench_calls.specs.Board.{Buffers}
 use Rattle.bench_calls.specs.declared.Registers.{Registers}
 use Rattle.dry.specs.Runs.{readNumber, ranBy, ranOn}
-use Rattle.dry.specs.Playing.{openFor, Playable, Started, DoneAsPlanned}
+use Rattle.dry.specs.Playing.{openFor, moment, Playable, Started, DoneAsPlanned}
 use Rattle.dry.specs.declared.Ran.the-variants.{Refused}
 use Rattle.dry.proofs.Taking.{TakenWell, GoodReading, reading-good}
 use Rattle.flow.specs.Terms.{Passes}
@@ -109,10 +109,10 @@ module _ (text buffer : List ℕ) (wide : 16416 ≡ length buffer) where
 module _ (h : Header) (bytes : List ℕ) (p : Playable h bytes) where
   pub staged : (f : Given) (r : Registers) (b : Buffers) → f ≡ startOf h bytes true → r ≡ openFor h
       → length (b .flash) ≡ 16384 → length (b .locks) ≡ 32 → length (b .latch) ≡ 64 → length (b .params) ≡ 18
-      → Started bytes (f .session) (f .outcome) r b
+      → Started bytes (moment (f .session) (f .outcome) r b)
   unfolding flashSize lockTotal rowsOf
   staged f r b e k flash locks latch params =
-      subst (λ (x : Registers). Started bytes (f .session) (f .outcome) x b) (sym k) (record {
+      subst (λ (x : Registers). Started bytes (moment (f .session) (f .outcome) x b)) (sym k) (record {
         header = h;
         passes = p .passes;
         session = ap (λ (x : Given). x .session) e;

@@ -7,8 +7,7 @@ use Rattle.bench_board.specs.Meets.{listsOf, metOf}
 use Rattle.bench_calls.specs.declared.CallOutcome.{CallOutcome}
 use Rattle.flow.specs.declared.LineEvent.{LineEvent}
 use Rattle.bench_board.specs.declared.Met as Code
-use Rattle.bench_calls.specs.declared.Registers.{Registers}
-use Rattle.dry.specs.Playing.{nothing, calmEvent, calmOutcome, meets, Turns}
+use Rattle.dry.specs.Playing.{nothing, calmEvent, calmOutcome, Moment, moment, boardAt, meets, Turns}
 use Rattle.dry.proofs.Meets.{handed, same-met}
 use Rattle.flow.specs.Exchange.{Met, meet}
 use Rattle.flow.specs.declared.Packet.{Packet}
@@ -18,28 +17,25 @@ use Rattle.session.specs.Given.{stepWith}
 use Rattle.session.specs.declared.Given.{Given}
 use Rattle.session.specs.declared.Outcome.{Outcome}
 use Rattle.session.specs.declared.Outcome.the-variants.{Ask}
-use Rattle.session.specs.declared.Session.{Session}
 
-module _ (g : Geometry) (s : Session) (bytes : List ℕ) (p : Packet) (r : Registers) (b b′ : Buffers) (m : Code.Met) where
+module _ (g : Geometry) (bytes : List ℕ) (p : Packet) (z : Moment) (b′ : Buffers) (m : Code.Met) where
   -- handed an OK and a success, the board met the packet as it does without mishap
   calm-met : (e : LineEvent) (o : CallOutcome) → e ≡ calmEvent → o ≡ calmOutcome
-      → metOf nothing e o m b′ ≡ meet g p (listsOf nothing e o) (targetOf nothing r b)
-      → (targetOf nothing (m .registers) b′ ≡ (meets g p r b) .target) × (m .answer ≡ (meets g p r b) .answer)
+      → metOf nothing e o m b′ ≡ meet g p (listsOf nothing e o) (boardAt z)
+      → (targetOf nothing (m .registers) b′ ≡ (meets g p z) .target) × (m .answer ≡ (meets g p z) .answer)
   calm-met e o h k f =
-      let q : meet g p (listsOf nothing e o) (targetOf nothing r b) ≡ meet g p handed (targetOf nothing r b)
-      = ap (λ (y : LineEvent). meet g p (listsOf nothing y o) (targetOf nothing r b)) h
-      ∙ ap (λ (y : CallOutcome). meet g p (listsOf nothing calmEvent y) (targetOf nothing r b)) k in
-      let z = same-met g (targetOf nothing r b) p in
-      (ap (λ (y : Met). y .target) (f ∙ q) ∙ z .target, ap (λ (y : Met). y .answer) (f ∙ q) ∙ z .answer)
+      let q : meet g p (listsOf nothing e o) (boardAt z) ≡ meet g p handed (boardAt z) = rw (h, k) in
+      let s = same-met g (boardAt z) p in
+      (ap (λ (y : Met). y .target) (f ∙ q) ∙ s .target, ap (λ (y : Met). y .answer) (f ∙ q) ∙ s .answer)
 
   pub turn-taken : {e : LineEvent} {o : CallOutcome} {x : Given} {n : Outcome} → e ≡ calmEvent → o ≡ calmOutcome
-      → metOf nothing e o m b′ ≡ meet g p (listsOf nothing e o) (targetOf nothing r b)
-      → x ≡ stepWith s bytes (m .answer)
+      → metOf nothing e o m b′ ≡ meet g p (listsOf nothing e o) (boardAt z)
+      → x ≡ stepWith (z .session) bytes (m .answer)
       → n ≡ standing (Ask p) (x .outcome)
-      → Turns g s bytes p r b (record { registers = m .registers; session = x .session; stands = n }) b′
+      → Turns g bytes p z (moment (x .session) n (m .registers) b′)
   turn-taken {e} {o} {x} {n} h k f i j =
       let c = calm-met e o h k f in
-      let y : x ≡ stepWith s bytes ((meets g p r b) .answer) = i ∙ ap (stepWith s bytes) (c .1) in
+      let y : x ≡ stepWith (z .session) bytes ((meets g p z) .answer) = i ∙ ap (stepWith (z .session) bytes) (c .1) in
       record {
         target = c .0;
         session = ap (λ (z : Given). z .session) y;

@@ -10,12 +10,11 @@ use Rattle.flow.specs.declared.LineEvent.{LineEvent}
 use Rattle.flow.specs.declared.TransferOutcome.the-variants.{Clean}
 use Rattle.bench_calls.specs.declared.Registers.{Registers}
 use Rattle.bench_calls.specs.declared.Running.the-variants.{Idle}
-use Rattle.dry.specs.declared.AfterTurn.{AfterTurn}
 use Rattle.flow.specs.Terms.{Passes, Startable, RightPart}
 use Rattle.flow.specs.Examples.{partOne}
 use Rattle.flow.specs.Exchange.{Met, meet}
 use Rattle.flow.specs.Plan.{plan}
-use Rattle.flow.specs.Target.{Lists}
+use Rattle.flow.specs.Target.{Lists, Target}
 use Rattle.flow.specs.declared.Entry.the-variants.{FromOpen}
 use Rattle.flow.specs.declared.Packet.{Packet}
 use Rattle.image.specs.Checks.{metadataAt}
@@ -65,15 +64,28 @@ openFor h = record {
   running = Idle;
 }
 
+-- between two turns: the session, what stands, and the board
+pub record Moment : Type 0 where
+  pub session : Session
+  pub stands : Outcome
+  pub registers : Registers
+  pub buffers : Buffers
+
+abbrev pub moment : Session → Outcome → Registers → Buffers → Moment
+moment s o r b = record { session = s; stands = o; registers = r; buffers = b }
+
+abbrev pub boardAt : Moment → Target
+boardAt m = targetOf nothing (m .registers) (m .buffers)
+
 -- how the board meets a packet without mishap
-abbrev pub meets : Geometry → Packet → Registers → Buffers → Met
-meets g p r b = meet g p noLists (targetOf nothing r b)
+abbrev pub meets : Geometry → Packet → Moment → Met
+meets g p m = meet g p noLists (boardAt m)
 
 -- the board meets the packet, the session steps on its answer, and this then stands
-pub record Turns (g : Geometry) (s : Session) (bytes : List ℕ) (p : Packet) (r : Registers) (b : Buffers) (t : AfterTurn) (b′ : Buffers) : Type 0 where
-  pub target : targetOf nothing (t .registers) b′ ≡ (meets g p r b) .target
-  pub session : t .session ≡ (stepWith s bytes ((meets g p r b) .answer)) .session
-  pub stands : t .stands ≡ standing (Ask p) ((stepWith s bytes ((meets g p r b) .answer)) .outcome)
+pub record Turns (g : Geometry) (bytes : List ℕ) (p : Packet) (before after : Moment) : Type 0 where
+  pub target : boardAt after ≡ (meets g p before) .target
+  pub session : after .session ≡ (stepWith (before .session) bytes ((meets g p before) .answer)) .session
+  pub stands : after .stands ≡ standing (Ask p) ((stepWith (before .session) bytes ((meets g p before) .answer)) .outcome)
 
 -- an image of part 1 that passes, with metadata of bytes
 pub record Playable (h : Header) (bytes : List ℕ) : Type 0 where
@@ -81,14 +93,14 @@ pub record Playable (h : Header) (bytes : List ℕ) : Type 0 where
   pub ids : (k : ℕ) → metadataAt h k < 256
 
 -- what starting gave on an image that passes, and a board of the right part that may be started on
-pub record Started (bytes : List ℕ) (s : Session) (o : Outcome) (r : Registers) (b : Buffers) : Type 0 where
+pub record Started (bytes : List ℕ) (first : Moment) : Type 0 where
   pub header : Header
   pub passes : Passes partOne header bytes
-  pub session : s ≡ (startOf header bytes true) .session
-  pub stands : o ≡ (startOf header bytes true) .outcome
-  pub startable : Startable partOne (targetOf nothing r b)
-  pub stored : r .stored ≡ 1
-  pub right : RightPart (imageOf partOne header bytes) ((targetOf nothing r b) .silicon)
+  pub session : first .session ≡ (startOf header bytes true) .session
+  pub stands : first .stands ≡ (startOf header bytes true) .outcome
+  pub startable : Startable partOne (boardAt first)
+  pub stored : first .registers .stored ≡ 1
+  pub right : RightPart (imageOf partOne header bytes) ((boardAt first) .silicon)
 
 -- the report that stands
 abbrev pub reportIn : Outcome → Report

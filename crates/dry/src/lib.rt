@@ -1,9 +1,8 @@
 // The dry run of part 1's text on a board that is OPEN, without mishap (document 01, 'The dry run program').
 ghost use mathlib.Core.Path.{_≡_};
-ghost use Prim.Native.Nat.{_+_};
 ghost use lib.ListN.{length, take, drop};
 ghost use Rattle.bench_calls.specs.Board.{lent};
-ghost use Rattle.dry.specs.Playing.{calmEvent, calmOutcome, openFor, Turns, Playable, Started, reportIn, DoneAsPlanned};
+ghost use Rattle.dry.specs.Playing.{calmEvent, calmOutcome, openFor, moment, Turns, Playable, Started, reportIn, DoneAsPlanned};
 ghost use Rattle.dry.specs.Runs.{ranBy, ranOn, LineOf};
 ghost use Rattle.flow.specs.Examples.{partOne};
 ghost use Rattle.io.specs.Counts.{Counts};
@@ -126,7 +125,7 @@ fn take_turn(
     latch: &mut [u8],
     params: &mut [u32],
 ) -> AfterTurn
-    ensures { λ t. ⌜ Turns g s (now (image .entry)) p r (lent (now (flash .entry)) (now (locks .entry)) (now (latch .entry)) (now (params .entry))) t (lent (now (flash .exit)) (now (locks .exit)) (now (latch .exit)) (now (params .exit))) ⌝ }
+    ensures { λ t. ⌜ Turns g (now (image .entry)) p (moment s (Outcome.Ask p) r (lent (now (flash .entry)) (now (locks .entry)) (now (latch .entry)) (now (params .entry)))) (moment (t .session) (t .stands) (t .registers) (lent (now (flash .exit)) (now (locks .exit)) (now (latch .exit)) (now (params .exit)))) ⌝ }
 {
     let nothing = &image[..0];
     let met = bench_board::meet(
@@ -177,7 +176,7 @@ fn played(
     latch: &mut [u8],
     params: &mut [u32],
 ) -> Report
-    requires { ⌜ (g ≡ partOne) × Started (now image) (first .session) (first .outcome) board (lent (now flash) (now locks) (now latch) (now params)) ⌝ }
+    requires { ⌜ (g ≡ partOne) × Started (now image) (moment (first .session) (first .outcome) board (lent (now flash) (now locks) (now latch) (now params))) ⌝ }
     ensures { λ r. ⌜ DoneAsPlanned r ⌝ }
 {
     let mut s = first.session;

@@ -1,3 +1,4 @@
+-- The line of what the cut text comes to. Assumes nothing.
 use borrow.Author.Needs.{needs}
 use Rattle.dry.proofs.line_of.Statement.{statement}
 use Rattle.dry.proofs.line_of.Tie as tie

@@ -1,3 +1,4 @@
+-- By the number. Assumes nothing.
 use borrow.Author.Tests.{eq-eqb, ne-eqb}
 use mathlib.Core.Path.{refl}
 use Rattle.dry.proofs.ran_by.Statement.{statement}

@@ -1,3 +1,4 @@
+-- The table has part 1. Assumes nothing.
 use Rattle.dry.proofs.Reporting.{found-one, always-found}
 use borrow.Author.Needs.{needs}
 use Rattle.dry.proofs.report_for.Statement.{statement}

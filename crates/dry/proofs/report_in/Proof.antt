@@ -1,18 +1,11 @@
+-- By what stands. Assumes nothing.
 use borrow.Author.Needs.{needs}
 use Rattle.dry.proofs.report_in.Statement.{statement}
 use Rattle.dry.proofs.report_in.Tie as tie
 
--- src/lib.rt:161:23
--- src/lib.rt:162:26
--- src/lib.rt:162:32
--- src/lib.rt:163:28
--- src/lib.rt:163:28
--- src/lib.rt:157:1
--- src/lib.rt:157:1
 returns-2 : tie.Need-returns-2
 returns-2 c = rw (c .before .before .stands2 .given .1) (c .no-report .ensures)
 
--- src/lib.rt:157:1
 returns-3 : tie.Need-returns-3
 returns-3 c = rw (c .before .enum-told .given .1) (c .no-report2 .ensures)
 

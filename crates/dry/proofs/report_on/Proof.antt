@@ -1,3 +1,4 @@
+-- The board that is made may be started on. Assumes nothing.
 use mathlib.Core.Path.{refl, sym}
 use Rattle.bench_calls.specs.Board.{lent}
 use Rattle.dry.proofs.Reporting.{staged}

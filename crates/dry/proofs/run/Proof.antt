@@ -1,3 +1,4 @@
+-- Refused by the reader, or done with the plan. Assumes nothing.
 use mathlib.Core.Path.{_∙_}
 use Rattle.dry.proofs.Reporting.{playable, ran-refused, ran-done}
 use borrow.Author.Needs.{needs}

@@ -1,3 +1,4 @@
+-- By whether the text is longer. Assumes nothing.
 use mathlib.Core.Path.{sym, ap, _∙_}
 use native.Mathlib.Omega.{arith}
 use lib.Seq.{take-all, length-take-le}

@@ -1,3 +1,4 @@
+-- The bytes stored, and the rest of the line. Assumes nothing.
 use mathlib.Core.Path.{refl}
 use Rattle.dry.proofs.Lining.{put-on, put-rest}
 use borrow.Author.Needs.{needs}

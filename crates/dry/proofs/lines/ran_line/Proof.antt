@@ -1,3 +1,4 @@
+-- Done, or refused. Assumes nothing.
 use borrow.Author.Needs.{needs}
 use Rattle.dry.proofs.lines.ran_line.Statement.{statement}
 use Rattle.dry.proofs.lines.ran_line.Tie as tie

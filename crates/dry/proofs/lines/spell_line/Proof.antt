@@ -1,3 +1,4 @@
+-- The word, the digits, the line end. Assumes nothing.
 use Prim.Native.Nat.{_≤_}
 use mathlib.Core.Path.{sym}
 use native.Mathlib.Omega.{arith}
