@@ -1,7 +1,7 @@
 -- The claims on bytes hold. Assumes nothing.
-use Rattle.encoding.proofs.Backs.{record-back, session-back, outcome-back}
+use Rattle.decoding.proofs.Backs.{record-back, session-back, outcome-back}
 use Rattle.calls.proofs.ReadWrite.{read-claims, write-claims}
-use Rattle.encoding.proofs.Spelled.{record-whole, session-whole, record-front, session-front}
+use Rattle.decoding.proofs.Spelled.{record-whole, session-whole, record-front, session-front}
 use Rattle.calls.proofs.Starting.{start-claims, started-onward}
 use Rattle.calls.proofs.Stepping.{step-claims, refused-stays, stepped-onward}
 use Rattle.calls.specs.Claims.{ByteClaims}

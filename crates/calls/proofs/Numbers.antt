@@ -7,7 +7,7 @@ use native.Mathlib.Omega.{arith}
 use borrow.Author.Tests.{eqb-false}
 use lib.Dec.{eqb}
 use lib.ListN.{length}
-use Rattle.encoding.proofs.Backs.{outcome-length}
+use Rattle.decoding.proofs.Backs.{outcome-length}
 use Rattle.encoding.proofs.Putting.{put-found}
 use Rattle.encoding.specs.Buffers.{putInto}
 use Rattle.calls.specs.Claims.{Told}

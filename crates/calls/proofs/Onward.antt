@@ -7,10 +7,10 @@ use native.Mathlib.Omega.{arith}
 use borrow.Author.Tests.{lt-ltb, ltb-true, le-leb, leb-true, leb-false}
 use lib.Dec.{leb, ltb}
 use lib.ListN.{length, length-append}
-use Rattle.encoding.proofs.Backs.{Near, near, session-length, is-session}
+use Rattle.decoding.proofs.Backs.{Near, near, session-length, is-session}
 use Rattle.calls.proofs.Called.{step-under, step-room}
 use Rattle.calls.proofs.Numbers.{not-thirteen}
-use Rattle.encoding.proofs.Spelled.{session-front}
+use Rattle.decoding.proofs.Spelled.{session-front}
 use Rattle.calls.specs.Calls.{CallResult, stepInto, stepCall}
 use Rattle.encoding.specs.Values.{Twelve}
 use Rattle.calls.specs.Claims.{Never13}

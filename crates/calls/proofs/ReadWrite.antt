@@ -8,7 +8,7 @@ use borrow.Author.Tests.{eqb-true, leb-true, leb-false, le-leb, lt-leb}
 use lib.Dec.{leb, eqb}
 use lib.ListN.{length, getD, take, drop, replicate, length-drop}
 use lib.Seq.{length-take-le}
-use Rattle.encoding.proofs.Backs.{record-length}
+use Rattle.decoding.proofs.Backs.{record-length}
 use Rattle.calls.proofs.Called.{read-under, read-room, write-partless, write-under, write-room}
 use Rattle.encoding.proofs.Putting.{put-kept, put-found}
 use Rattle.calls.specs.Calls.{CallResult, isFound, inTable, readRefusal, writeRefusal, refusedOr, readCall, writeCall}

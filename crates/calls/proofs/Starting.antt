@@ -7,7 +7,7 @@ use native.Mathlib.Omega.{arith}
 use borrow.Author.Tests.{leb-true, leb-false, le-leb, ne-eqb}
 use lib.Dec.{leb, eqb}
 use lib.ListN.{length, getD, take, drop, replicate}
-use Rattle.encoding.proofs.Backs.{record-twelve, outcome-length, session-length}
+use Rattle.decoding.proofs.Backs.{record-twelve, outcome-length, session-length}
 use Rattle.calls.proofs.Called.{start-partless, start-under-session, start-under-outcome, start-room}
 use Rattle.calls.proofs.Numbers.{either, neither, said, start-free}
 use Rattle.calls.proofs.Onward.{next-step}

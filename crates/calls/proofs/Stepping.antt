@@ -7,13 +7,13 @@ use native.Mathlib.Omega.{arith}
 use borrow.Author.Tests.{eqb-true, eqb-false, leb-true, leb-false, le-leb, eq-eqb, ne-eqb}
 use lib.Dec.{leb, eqb}
 use lib.ListN.{length, getD, take, drop}
-use Rattle.encoding.proofs.Backs.{record-twelve, outcome-length, session-length}
+use Rattle.decoding.proofs.Backs.{record-twelve, outcome-length, session-length}
 use Rattle.calls.proofs.Called.{step-sessionless, step-other, step-under, step-room}
 use Rattle.calls.proofs.Numbers.{either, neither, is-refused, said, step-free}
 use Rattle.calls.proofs.Onward.{next-step}
 use Rattle.encoding.proofs.Putting.{put-front, put-kept, put-found}
 use Rattle.calls.proofs.Refusing.{other-image}
-use Rattle.encoding.proofs.Spelled.{session-whole}
+use Rattle.decoding.proofs.Spelled.{session-whole}
 use Rattle.calls.specs.Calls.{CallResult, stepRefusal, refusedOr, stepInto, stepCall}
 use Rattle.encoding.specs.Buffers.{putInto}
 use Rattle.encoding.specs.Values.{Bytes, Twelve}

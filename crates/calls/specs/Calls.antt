@@ -1,10 +1,10 @@
 -- What the calls over bytes return, and what they leave in the bytes lent to them: document 01, 'Who brings a number about', last paragraph.
 -- A record has 17 bytes, a session 45, an outcome and a length 8. What is lent for one may be longer. Assumes nothing.
 use mathlib.Core.Bool.{Bool, true, false, _&&_, not, cond}
-use mathlib.Core.List.{List, [], _∷_, _++_}
+use mathlib.Core.List.{List, [], _∷_}
 use Prim.Native.Nat.{ℕ}
 use lib.Dec.{eqb, leb}
-use lib.ListN.{length, drop}
+use lib.ListN.{length}
 use Rattle.encoding.specs.Buffers.{putInto}
 use Rattle.encoding.specs.Outcomes.{outcomeBytes, numberOf}
 use Rattle.encoding.specs.Records.{recordBytes, recordIn}

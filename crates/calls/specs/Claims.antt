@@ -4,7 +4,7 @@ use mathlib.Core.Bool.{true, false, _&&_}
 use mathlib.Core.List.{List, _++_}
 use mathlib.Core.Path.{_≡_}
 use Prim.Native.Nat.{ℕ, _≤_, _<_}
-use lib.ListN.{length, getD, take, drop, replicate}
+use lib.ListN.{length, getD, take, replicate}
 use Rattle.calls.specs.Calls.{CallResult, inTable, yes, readCall, writeCall, startCall, stepCall}
 use Rattle.encoding.specs.Buffers.{Kept}
 use Rattle.encoding.specs.Outcomes.{outcomeBytes, outcomeIn, numberOf}

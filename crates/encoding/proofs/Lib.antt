@@ -1,3 +1,1 @@
 pub mod Putting
-pub mod Spelled
-pub mod Backs

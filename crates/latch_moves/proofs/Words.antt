@@ -9,13 +9,14 @@ use lib.Seq.{getD-take, getD-drop, ext-getD}
 use Rattle.flow.proofs.Counting.{length-words}
 use Rattle.flow.specs.Sequence.{write, call, writes, listed, latchList, endMove}
 use Rattle.lent.proofs.Words.{word-same}
+use Rattle.latch_moves.specs.Latched.{told}
 use Rattle.lent.specs.Words.{wordAt, wordsAt}
 use Rattle.call_moves.proofs.Lengths.{length-writes}
 use Rattle.call_moves.proofs.Joined.{at-first, at-second}
 use Rattle.parts.specs.Sizes.{PARAMS}
 use Rattle.parts.specs.declared.Geometry.{Geometry}
 
-pub words-at : (bytes : List ℕ) (o n k : ℕ) → k < n → getD (wordsAt bytes o n) k 0 ≡ wordAt bytes (o + 4 * k)
+words-at : (bytes : List ℕ) (o n k : ℕ) → k < n → getD (wordsAt bytes o n) k 0 ≡ wordAt bytes (o + 4 * k)
 unfolding wordsAt
 words-at bytes o zero k h = absurd (not-suc-le-zero h)
 words-at bytes o (suc n) zero h = let e : o + 4 * 0 ≡ o = omega arith in rw e
@@ -32,41 +33,41 @@ words-same xs ys o p n h =
     words-at xs o n i b ∙ h i b ∙ sym (words-at ys p n i b))
 
 -- bs is the part of n bytes from s on
-module _ (bytes bs : List ℕ) (s n : ℕ) (is : bs ≡ take (s + n - s) (drop s bytes)) (fits : s + n ≤ length bytes) where
+module _ (bytes bs : List ℕ) (s n : ℕ) (is : bs ≡ take (s + n - s) (drop s bytes)) (fits : s + n ≤ length bytes) (few : n ≤ 1024) where
   part : bs ≡ take n (drop s bytes)
   part = let e : s + n - s ≡ n = omega arith in is ∙ ap (λ (x : ℕ). take x (drop s bytes)) e
 
-  pub part-length : length bs ≡ n
-  part-length = ap length part ∙ simp (length-take, length-drop) (omega arith)
+  part-told : told bs ≡ n
+  part-told = let e : length bs ≡ n = ap length part ∙ simp (length-take, length-drop) (omega arith) in omega arith
 
   part-at : (i : ℕ) → i < n → getD bs i 0 ≡ getD bytes (s + i) 0
   part-at i h = ap (λ (l : List ℕ). getD l i 0) part ∙ getD-take n (drop s bytes) i 0 h ∙ getD-drop s bytes i 0
 
   module _ (size : ℕ) where
     -- a part of the first size bytes, and of those after them
-    pub front-word : (o p : ℕ) → o + 4 ≤ n → p ≡ s + o → s + n ≤ size → wordAt bs o ≡ wordAt (take size bytes) p
+    front-word : (o p : ℕ) → o + 4 ≤ n → p ≡ s + o → s + n ≤ size → wordAt bs o ≡ wordAt (take size bytes) p
     front-word o p h e l =
         word-same bs (take size bytes) o p
         (λ k b.
         let t : s + (o + k) ≡ p + k = omega arith in
         part-at (o + k) (omega arith) ∙ ap (λ (x : ℕ). getD bytes x 0) t ∙ sym (getD-take size bytes (p + k) 0 (omega arith)))
 
-    pub back-word : (o p : ℕ) → o + 4 ≤ n → size + p ≡ s + o → wordAt bs o ≡ wordAt (drop size bytes) p
+    back-word : (o p : ℕ) → o + 4 ≤ n → size + p ≡ s + o → wordAt bs o ≡ wordAt (drop size bytes) p
     back-word o p h e =
         word-same bs (drop size bytes) o p
         (λ k b.
         let t : s + (o + k) ≡ size + (p + k) = omega arith in
         part-at (o + k) (omega arith) ∙ ap (λ (x : ℕ). getD bytes x 0) t ∙ sym (getD-drop size bytes (p + k) 0))
 
-    pub front-latch : (m : ℕ) → s + n ≤ size → latchList m (length bs) bs 0 ≡ latchList m n (take size bytes) s
+    pub front-latch : (m : ℕ) → s + n ≤ size → latchList m (told bs) bs 0 ≡ latchList m n (take size bytes) s
     front-latch m l =
         let e : wordsAt bs 0 (n / 4) ≡ wordsAt (take size bytes) s (n / 4) = words-same bs (take size bytes) 0 s (n / 4) (λ k b. front-word (0 + 4 * k) (s + 4 * k) (omega arith) (omega arith) l) in
-        rw (part-length, e)
+        rw (part-told, e)
 
-    pub back-latch : (m p : ℕ) → s ≡ size + p → latchList m (length bs) bs 0 ≡ latchList m n (drop size bytes) p
+    pub back-latch : (m p : ℕ) → s ≡ size + p → latchList m (told bs) bs 0 ≡ latchList m n (drop size bytes) p
     back-latch m p t =
         let e : wordsAt bs 0 (n / 4) ≡ wordsAt (drop size bytes) p (n / 4) = words-same bs (drop size bytes) 0 p (n / 4) (λ k b. back-word (0 + 4 * k) (p + 4 * k) (omega arith) (omega arith)) in
-        rw (part-length, e)
+        rw (part-told, e)
 
 -- ---- the list of a latch call
 

@@ -14,12 +14,12 @@ use Rattle.image.specs.declared.Header.{Header}
 use Rattle.move_counts.proofs.Counts.{length-row, length-lock, length-alike, length-compared}
 use Rattle.call_moves.proofs.Joined.{at-first, at-second, at-piece, div-low, part-ends}
 use Rattle.call_moves.proofs.Lengths.{length-read}
+use Rattle.call_moves.proofs.Reach.{in-reach}
 use Rattle.call_moves.specs.MoveAt.{inReach}
-use Rattle.latch_moves.proofs.Guards.{unguarded}
-use Rattle.latch_moves.proofs.Words.{part-length, front-latch, back-latch}
-use Rattle.latch_moves.specs.Latched.{upTo1024}
+use Rattle.latch_moves.proofs.Words.{front-latch, back-latch}
+use Rattle.latch_moves.specs.Latched.{told}
 use Rattle.moves.specs.Handled.{Handled}
-use Rattle.parts.proofs.Locks.{locks-most, locks-some, locks-alike, locks-end}
+use Rattle.parts.proofs.Locks.{locks-most, locks-alike, locks-end}
 use Rattle.parts.specs.Sizes.{rowBytes, macrosOf, rowsPerMacro, rowsOf, flashSize, locksIn, lockStart, lockTotal, imageSize, locksAt, sysreqOf}
 use Rattle.parts.specs.declared.Geometry.{Geometry}
 
@@ -67,7 +67,6 @@ pub record LockPlace (g : Geometry) (bytes : List ℕ) (m : ℕ) : Type 0 where
   pub low : m < 16
   pub end : flashSize g + lockStart g m + locksIn g m ≤ length bytes
   pub small : flashSize g + lockStart g m + locksIn g m ≤ 67117056
-  pub some : 1 ≤ locksIn g m
   pub most : locksIn g m ≤ 512
 
 row-found : (g : Geometry) (ok : Handled g) (bytes : List ℕ) (exact : length bytes ≡ imageSize g) (r : ℕ) → r < rowsOf g → RowPlace g bytes r
@@ -85,16 +84,15 @@ lock-place g ok bytes exact m l =
       low = omega (arith, ok .macros);
       end = omega arith;
       small = omega (arith, flash-small g ok, rows-few g ok);
-      some = locks-some g m l (omega (arith, ok .macroLow));
       most = omega (arith, ok .macroHigh, locks-most g m);
     }
 
 -- what is sent of a row in step 5, of a macro's locks in step 7
 abbrev rowSent : Geometry → (row : ℕ) → List ℕ → List Move
-rowSent g r bs = listed g 5 4 (latchList (r / rowsPerMacro g) (length bs) bs 0) ++ listed g 5 6 ((key 6 + r * 0x10000) ∷ [])
+rowSent g r bs = listed g 5 4 (latchList (r / rowsPerMacro g) (told bs) bs 0) ++ listed g 5 6 ((key 6 + r * 0x10000) ∷ [])
 
 abbrev locksSent : Geometry → (m level : ℕ) → List ℕ → List Move
-locksSent g m level bs = listed g 7 4 (latchList m (length bs) bs 0) ++ call g 7 0x0D (key 0x0D + level * 0x10000 + m * 0x1000000)
+locksSent g m level bs = listed g 7 4 (latchList m (told bs) bs 0) ++ call g 7 0x0D (key 0x0D + level * 0x10000 + m * 0x1000000)
 
 -- ---- step 5
 
@@ -114,12 +112,12 @@ module _ (g : Geometry) (ok : Handled g) (h : Header) (bytes : List ℕ) (exact 
     row-place = row-found g ok bytes exact (j / b) row-low
 
     pub rows-at : (bs : List ℕ) → bs ≡ take (j / b * rowBytes g + rowBytes g - j / b * rowBytes g) (drop (j / b * rowBytes g) bytes)
-        → {t : Move} → t ≡ upTo1024 bs (inReach (sysreqOf g) (getD (rowSent g (j / b) bs) (j % b) endMove)) → t ≡ getD (inTurn (programRow i) 0 (rowsOf g)) j endMove
+        → {t : Move} → t ≡ inReach (sysreqOf g) (getD (rowSent g (j / b) bs) (j % b) endMove) → t ≡ getD (inTurn (programRow i) 0 (rowsOf g)) j endMove
     unfolding programRow
     rows-at bs is has =
-        let n = part-length bytes bs (j / b * rowBytes g) (rowBytes g) is (row-place .end) in
-        unguarded (sysreqOf g) bs (getD (rowSent g (j / b) bs) (j % b) endMove) (omega (arith, n, ok .rowHigh)) (ok .sysreq) has
-        ∙ rw (front-latch bytes bs (j / b * rowBytes g) (rowBytes g) is (row-place .end) (flashSize g) (j / b / rowsPerMacro g) row-fits)
+        has
+        ∙ in-reach (sysreqOf g) (getD (rowSent g (j / b) bs) (j % b) endMove) (ok .sysreq)
+        ∙ rw (front-latch bytes bs (j / b * rowBytes g) (rowBytes g) is (row-place .end) (ok .rowHigh) (flashSize g) (j / b / rowsPerMacro g) row-fits)
         (sym (at-piece (programRow i) b (λ r. length-row i r ∙ sym e) endMove (rowsOf g) j (omega arith) (rw e low)))
 
   -- ---- steps 7 and 8 of a macro
@@ -128,14 +126,14 @@ module _ (g : Geometry) (ok : Handled g) (h : Header) (bytes : List ℕ) (exact 
     pub lock-at : (start size : ℕ) → start ≡ flashSize g + lockStart g m → size ≡ locksIn g m → m < macrosOf g → (bs : List ℕ)
         → bs ≡ take (start + size - start) (drop start bytes)
         → j < n
-        → {t : Move} → t ≡ upTo1024 bs (inReach (sysreqOf g) (getD (locksSent g m (h .level) bs) j endMove)) → t ≡ getD (lockAndVerify i m) j endMove
+        → {t : Move} → t ≡ inReach (sysreqOf g) (getD (locksSent g m (h .level) bs) j endMove) → t ≡ getD (lockAndVerify i m) j endMove
     unfolding lockMacro
     lock-at start size s z room bs is low has =
         let p = lock-place g ok bytes exact m room in
         let fits : start + size ≤ length bytes = rw (s, z) (p .end) in
-        let len = part-length bytes bs start size is fits in
-        unguarded (sysreqOf g) bs (getD (locksSent g m (h .level) bs) j endMove) (omega (arith, len, z, p .most)) (ok .sysreq) has
-        ∙ rw (back-latch bytes bs start size is fits (flashSize g) m (lockStart g m) s, z)
+        has
+        ∙ in-reach (sysreqOf g) (getD (locksSent g m (h .level) bs) j endMove) (ok .sysreq)
+        ∙ rw (back-latch bytes bs start size is fits (omega (arith, z, p .most)) (flashSize g) m (lockStart g m) s, z)
         (sym (at-first (lockMacro i m) (verifyMacro g m) endMove n j (length-lock i m ∙ sym e) low))
 
     pub check-at : n ≤ j → getD (verifyMacro g m) (j - n) endMove ≡ getD (lockAndVerify i m) j endMove

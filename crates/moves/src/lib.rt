@@ -1,6 +1,5 @@
 // The move at an index of the programming sequence, found by arithmetic (document 01, 'Flow').
 ghost use mathlib.Core.Path.{_≡_};
-ghost use Prim.Native.Nat.{_+_, _*_, _/_, _<_, _≤_};
 ghost use lib.ListN.{length, getD};
 ghost use Rattle.flow.specs.Sequence.{program, afterwards, sequence, endMove};
 ghost use Rattle.flow.specs.declared.Entry.the-variants.{FromOpen, FromProtected};

@@ -1,7 +1,7 @@
 -- 12 for a record under size, 11 or 12 for a length under size, or writing. Assumes nothing.
 use mathlib.Core.Path.{refl, ap, _∙_}
 use Rattle.calls.proofs.Called.{elevenOr12, leaves-as, write-partless, write-under, write-done}
-use Rattle.encoding.proofs.Spelled.{record-found}
+use Rattle.decoding.proofs.Spelled.{record-found}
 use Rattle.image.specs.declared.Header.{Header}
 use borrow.Author.Needs.{needs}
 use Rattle.core_c.proofs.halzuqeen_write.Statement.{statement}

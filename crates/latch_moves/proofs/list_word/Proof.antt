@@ -26,4 +26,4 @@ list-word-spec =
     (λ c. search needs)
     (λ c. search needs)
     (λ c κs. search needs)
-    (λ c. c .word-at .ensures ∙ sym (latch-word _ _ _ _ (at-least _ (c .before .before .if1 .left) (c .before .if2 .left)) (c .before .before .before .before .pre .1))))
+    (λ c. c .word-at .ensures ∙ sym (latch-word _ _ _ _ (at-least _ (c .before .before .if1 .left) (c .before .if2 .left)) (c .before .before .before .before .pre))))

@@ -1,6 +1,6 @@
 -- By the range that the number lies in. Assumes nothing.
 use native.Mathlib.Omega.{arith}
-use borrow.Author.Tests.{eq-eqb, ne-eqb, le-leb, lt-leb}
+use borrow.Author.Tests.{ne-eqb, le-leb, lt-leb}
 use Rattle.session.proofs.bounds.is_failure.Statement.{statement}
 use Rattle.session.proofs.bounds.is_failure.Tie as tie
 

@@ -1,0 +1,49 @@
+-- The metadata, element by element. Assumes nothing.
+use mathlib.Core.List.{List}
+use mathlib.Core.Path.{ap}
+use Prim.Native.Nat.{ℕ, _+_, _*_}
+use native.Mathlib.Omega.{arith}
+use borrow.Author.Tests.{le-leb, lt-leb}
+use lib.ListN.{length, getD}
+use Rattle.sections.proofs.Sections.{spread-part, headerWith}
+use Rattle.encoding.specs.Records.{recordIn}
+use borrow.Author.Needs.{needs}
+use Rattle.decoding.proofs.record_in.Statement.{statement}
+use Rattle.decoding.proofs.record_in.Tie as tie
+
+returns-2 : tie.Need-returns-2
+unfolding recordIn
+returns-2 c =
+    let sums = c .before .before .before in
+    let tested = sums .before .before .before .before .before .before .before .before .before .before .before .before .before .before .before .before in
+    let b = tested .before .before .args .bytes .now in
+    rw (le-leb 17 (length b) (tested .if1 .left), sums .wide2 .ensures .0, sums .before .before .wide .ensures .0)
+    (ap (λ (m : List ℕ). headerWith (getD b 0 0) (getD b 1 0) (getD b 2 0 + 256 * getD b 3 0) m (getD b 16 0)) (spread-part 4 12 b (omega arith)))
+
+pub record-in-spec : {M : Type 1} → statement M
+record-in-spec =
+    tie.close
+    (tie.spec
+    (λ c. rw (lt-leb 17 _ (c .if1 .taken)))
+    (λ c. search needs)
+    (λ c. search needs)
+    (λ c. search needs)
+    (λ c. search needs)
+    (λ c. search needs)
+    (λ c. search needs)
+    (λ c. search needs)
+    (λ c. search needs)
+    (λ c. search needs)
+    (λ c. search needs)
+    (λ c. search needs)
+    (λ c. search needs)
+    (λ c. search needs)
+    (λ c κs. search needs)
+    (λ c. search needs)
+    (λ c κs. search needs)
+    (λ c. search needs)
+    (λ c. search needs)
+    (λ c. search needs)
+    (λ c. search needs)
+    (λ c. search needs)
+    returns-2)

@@ -1,0 +1,21 @@
+-- The session cleared, the refusal put. Assumes nothing.
+use mathlib.Core.Path.{refl, _∙_}
+use Rattle.calls.proofs.Called.{zero-session}
+use borrow.Author.Needs.{needs}
+use Rattle.start_call.proofs.refuse_start.Statement.{statement}
+use Rattle.start_call.proofs.refuse_start.Tie as tie
+
+returns : tie.Need-returns
+returns c =
+    let clearing = c .before .before .before .before .before .before in
+    (refl, (clearing .clear .ensures ∙ zero-session (clearing .before .before .before .before .args .bytes .now), c .before .before .put-outcome .ensures))
+
+pub refuse-start-spec : {M : Type 1} → statement M
+refuse-start-spec =
+    tie.close
+    (tie.spec
+    (λ c κs. search needs)
+    (λ c κs. search needs)
+    (λ c. search needs)
+    (λ c. search needs)
+    returns)
