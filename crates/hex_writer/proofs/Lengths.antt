@@ -9,7 +9,8 @@ use lib.Dec.{eqb}
 use lib.ListN.{length, getD, take, drop, length-append, length-take, length-drop}
 use Rattle.hex_format.specs.Written.{dataLine, newUpper, lowOf, upperOf, linesFrom, textOf, textLength}
 use Rattle.hex_writer.specs.Lines.{upperPast, positionAfter}
-use Rattle.hex_writer.proofs.Lines.{data-length, extended-length, upper-same, upper-new, lines-append}
+use Rattle.hex_lines.proofs.Lines.{data-length, extended-length}
+use Rattle.hex_writer.proofs.Lines.{upper-same, upper-new, lines-append}
 use Rattle.hex_writer.proofs.Whole.{linesLength, text-lines, text-room}
 use Rattle.sections.specs.Sections.{sectionsOf, noSection, sectionBytes}
 use Rattle.image.specs.declared.Header.{Header}

@@ -6,25 +6,13 @@ use native.Mathlib.Omega.{arith}
 use borrow.Author.Tests.{eq-eqb, ne-eqb}
 use lib.ListN.{length, length-append}
 use lib.Seq.{sets, length-sets}
-use Rattle.hex_format.specs.Written.{sumByte, lineText, dataLine, extendedLine, newUpper, upperOf, lowOf, linesFrom}
+use Rattle.hex_format.specs.Written.{dataLine, extendedLine, newUpper, upperOf, lowOf, linesFrom}
 use Rattle.hex_writer.specs.Lines.{onePiece, upperPast, positionAfter}
 use Rattle.hex_writer.specs.declared.Position.{Position}
-use Rattle.hex_writer.proofs.Pairs.{length-pairs}
+use Rattle.hex_lines.proofs.Lines.{data-length, extended-length, data-room, upper-room as extended-room}
+use Rattle.hex_lines.specs.Lines.{linePut, dataPut}
 use Rattle.storing.proofs.Storing.{sets-append}
-use Rattle.pairs.specs.Digits.{pairsOf}
 use Rattle.text.specs.Placing.{Piece}
-
-pub line-length : (bs : List ℕ) → length (lineText bs) ≡ 5 + 2 * length bs
-unfolding lineText
-line-length bs =
-    let all : List ℕ = bs ++ (sumByte bs ∷ []) in
-    omega (arith, length-append (pairsOf all) (13 ∷ 10 ∷ []), length-pairs all, length-append bs (sumByte bs ∷ []))
-
-pub data-length : (low : ℕ) (payload : List ℕ) → length (dataLine low payload) ≡ 13 + 2 * length payload
-data-length low payload = line-length (length payload ∷ low / 256 ∷ low % 256 ∷ 0 ∷ payload) ∙ omega arith
-
-pub extended-length : (upper : ℕ) → length (extendedLine upper) ≡ 17
-extended-length upper = line-length (2 ∷ 0 ∷ 0 ∷ 4 ∷ upper / 256 ∷ upper % 256 ∷ [])
 
 -- the type 4 record: none while the upper half stays, else one
 pub upper-same : (u v : ℕ) → v ≡ u → newUpper u v ≡ []
@@ -83,21 +71,22 @@ module _ (text : List ℕ) (w : Position) (u : ℕ) where
     pub upper-room : w .at + length (newUpper (w .upper) u) ≤ length text → w .at + 17 ≤ length text
     upper-room h = omega (arith, ap length (upper-new (w .upper) u e), extended-length u)
 
-    pub upper-put : (text′ : List ℕ) → text′ ≡ sets text (w .at) (extendedLine u) → Past (w .at + 17) text′
-    upper-put text′ p =
+    pub upper-put : (text′ : List ℕ) → w .at + length (newUpper (w .upper) u) ≤ length text → text′ ≡ linePut text (w .at) (extendedLine u) → Past (w .at + 17) text′
+    upper-put text′ h p =
         let n = upper-new (w .upper) u e in
-        (omega (arith, ap length n, extended-length u), p ∙ ap (sets text (w .at)) (sym n))
+        (omega (arith, ap length n, extended-length u), p ∙ sym (extended-room text (w .at) u (upper-room h)) ∙ ap (sets text (w .at)) (sym n))
 
 -- what `put_piece` leaves
 module _ (text : List ℕ) (w : Position) (a : ℕ) (bs : List ℕ) where
   pub one-room : positionAfter w (onePiece a bs) .at ≤ length text → w .at + length (newUpper (w .upper) (upperOf a)) + 13 + 2 * length bs ≤ length text
   one-room h = omega (arith, ap (λ (p : Position). p .at) (one-after w a bs))
 
-  pub one-put : (at : ℕ) (text₁ text₂ : List ℕ) → Past text w (upperOf a) at text₁ → text₂ ≡ sets text₁ at (dataLine (lowOf a) bs)
+  pub one-put : (at : ℕ) (text₁ text₂ : List ℕ) → length bs ≤ 64 → at + 13 + 2 * length bs ≤ length text₁ → Past text w (upperOf a) at text₁
+      → text₂ ≡ dataPut text₁ at (lowOf a) bs
       → (position (at + 13 + 2 * length bs) (upperOf a) ≡ positionAfter w (onePiece a bs)) × (text₂ ≡ sets text (w .at) (linesFrom (w .upper) (onePiece a bs)))
-  one-put at text₁ text₂ p e = (
+  one-put at text₁ text₂ few h p e = (
     rw (p .0) (sym (one-after w a bs)),
-    e ∙ rw (p .1, p .0) (sym (ap (sets text (w .at)) (one-lines (w .upper) a bs) ∙ sets-append text (w .at) (newUpper (w .upper) (upperOf a)) (dataLine (lowOf a) bs))),
+    e ∙ sym (data-room text₁ at (lowOf a) bs (omega arith) h) ∙ rw (p .1, p .0) (sym (ap (sets text (w .at)) (one-lines (w .upper) a bs) ∙ sets-append text (w .at) (newUpper (w .upper) (upperOf a)) (dataLine (lowOf a) bs))),
   )
 
 -- how far the text has come: the pieces that are left put the rest

@@ -11,7 +11,7 @@ use lib.Seq.{take-at}
 use Rattle.hex_records.specs.Records.{Record, DataRecord, ExtendedAddress, typed, recordOf, ofSpelt, ofBody, lineRecord}
 use Rattle.hex_format.specs.Texts.{upperAfter, eventOf, events}
 use Rattle.hex_format.specs.Written.{sumByte, lineText, dataLine, extendedLine, endLine, newUpper, upperOf, lowOf, linesFrom, writtenText}
-use Rattle.hex_writer.proofs.Pairs.{total-append}
+use Rattle.hex_lines.proofs.Pairs.{total-append}
 use Rattle.hex_writer.proofs.Lines.{upper-same, upper-new}
 use Rattle.lent.specs.Words.{total}
 use Rattle.pairs.proofs.Capitals.{AllBytes, bytes-append, pairs-digits, spelt-pairs}

@@ -4,8 +4,10 @@ use mathlib.Core.Path.{_≡_, refl, sym, ap, _∙_}
 use Prim.Native.Nat.{ℕ, suc, _+_, _*_, _≤_, _<_}
 use native.Mathlib.Omega.{arith}
 use lib.ListN.{length, getD, drop, length-append, drop-of-length-le}
-use lib.Seq.{sets, drop-cons}
+use lib.Seq.{sets, length-sets, drop-cons}
 use Rattle.hex_format.specs.Written.{extendedLine, endLine, linesFrom, writtenText, textOf, uppersIn, writtenLength, textLength}
+use Rattle.hex_lines.proofs.Lines.{extended-length, in-room, upper-room}
+use Rattle.hex_lines.specs.Lines.{linePut}
 use Rattle.hex_writer.specs.Lines.{positionAfter}
 use Rattle.hex_writer.specs.declared.Position.{Position}
 use Rattle.hex_writer.proofs.Lines as lines
@@ -131,22 +133,26 @@ module _ (text : List ℕ) (g : Geometry) (h : Header) (bytes : List ℕ) where
         arith,
         length-append (extendedLine 0) (linesFrom 0 all ++ endLine),
         length-append (linesFrom 0 all) endLine,
-        lines.extended-length 0,
+        extended-length 0,
       )
 
-  pub after-begin : 17 ≤ positionAfter begin all .at
+  after-begin : 17 ≤ positionAfter begin all .at
   unfolding positionAfter
   after-begin = omega arith
 
   pub text-put : (t₁ t₂ t₃ : List ℕ) (w : Position)
-      → t₁ ≡ sets text 0 (extendedLine 0)
+      → length (textOf g h bytes) ≤ length text
+      → t₁ ≡ linePut text 0 (extendedLine 0)
       → w ≡ positionAfter begin all
       → t₂ ≡ sets t₁ 17 (linesFrom 0 all)
-      → t₃ ≡ sets t₂ (w .at) endLine
+      → t₃ ≡ linePut t₂ (w .at) endLine
       → t₃ ≡ sets text 0 (textOf g h bytes)
   unfolding writtenText positionAfter
-  text-put t₁ t₂ t₃ w e₁ ew e₂ e₃ =
-      let n : 0 + length (extendedLine 0) ≡ 17 = omega (arith, lines.extended-length 0) in
+  text-put t₁ t₂ t₃ w fits e₁ ew e₂ e₃ =
+      let first = e₁ ∙ sym (upper-room text 0 0 (omega (arith, text-room, after-begin))) in
+      let kept = ap length e₂ ∙ length-sets t₁ 17 (linesFrom 0 all) ∙ ap length first ∙ length-sets text 0 (extendedLine 0) in
+      let last = e₃ ∙ sym (in-room t₂ (w .at) endLine (omega (arith, text-room, kept, ap (λ (p : Position). p .at) ew))) in
+      let n : 0 + length (extendedLine 0) ≡ 17 = omega (arith, extended-length 0) in
       sym
       (sets-append text 0 (extendedLine 0) (linesFrom 0 all ++ endLine)
-      ∙ rw (n, ← e₁, sets-append, ← e₂) (sym (e₃ ∙ rw ew)))
+      ∙ rw (n, ← first, sets-append, ← e₂) (sym (last ∙ rw ew)))

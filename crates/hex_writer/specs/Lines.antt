@@ -1,16 +1,10 @@
 -- What the functions that put lines leave. Assumes nothing.
 use mathlib.Core.List.{List, [], _∷_}
-use Prim.Native.Nat.{ℕ, zero, suc, _+_}
+use Prim.Native.Nat.{ℕ, _+_}
 use lib.ListN.{length}
 use Rattle.hex_format.specs.Written.{linesFrom, upperOf}
 use Rattle.hex_writer.specs.declared.Position.{Position}
-use Rattle.pairs.specs.Digits.{capital}
 use Rattle.text.specs.Placing.{Piece}
-
--- the capitals of the n numbers from i on
-unfoldable pub capitalsFrom : (i n : ℕ) → List ℕ
-capitalsFrom i zero = []
-capitalsFrom i (suc n) = capital i ∷ capitalsFrom (i + 1) n
 
 abbrev pub onePiece : (address : ℕ) (bytes : List ℕ) → List Piece
 onePiece a bs = record { address = a; bytes = bs } ∷ []

@@ -1,13 +1,10 @@
 // Writes the Intel hex text of an image (document 01, 'Hex text').
 ghost use mathlib.Core.Path.{_≡_};
-ghost use mathlib.Core.List.{_++_};
-ghost use Prim.Native.Nat.{min, _+_, _-_, _*_, _/_, _%_, _≤_, _<_};
+ghost use Prim.Native.Nat.{_+_, _*_, _/_, _≤_, _<_};
 ghost use lib.ListN.{length};
 ghost use lib.Seq.{sets};
-ghost use Rattle.lent.specs.Words.{total};
-ghost use Rattle.pairs.specs.Digits.{capital as capitalOf, pairsOf};
-ghost use Rattle.hex_format.specs.Written.{lineText, dataLine, extendedLine, endLine, newUpper, linesFrom, textOf, textLength};
-ghost use Rattle.hex_writer.specs.Lines.{capitalsFrom, onePiece, positionAfter};
+ghost use Rattle.hex_format.specs.Written.{newUpper, linesFrom, textOf, textLength};
+ghost use Rattle.hex_writer.specs.Lines.{onePiece, positionAfter};
 ghost use Rattle.hex_writer.specs.Writing.{writeOf, textAfter};
 ghost use Rattle.sections.specs.Sections.{sectionsOf, headerBytes, locationBytes, sectionBytes};
 ghost use Rattle.parts.specs.Parts.{lookupOf};
@@ -22,81 +19,10 @@ use sections::Location;
 use sections::Section;
 use text::WriteAnswer;
 
-mod table;
-
 // How far the text has come: the next place, and the upper half of the last address.
 struct Position {
     at: usize,
     upper: u32,
-}
-
-// The capital digit of a number below 16, by the table.
-fn capital(table: &[u8; 16], n: u8) -> u8
-    requires { ⌜ (now table ≡ capitalsFrom 0 16) × (n < 16) ⌝ }
-    ensures { λ r. ⌜ r ≡ capitalOf n ⌝ }
-{
-    table[n as usize]
-}
-
-// Puts the digit pairs of bytes; their sum.
-fn put_pairs(text: &mut [u8], at: usize, bytes: &[u8]) -> u32
-    requires { ⌜ (at + 2 * length (now bytes) ≤ length (now text)) × (length (now bytes) ≤ 255) ⌝ }
-    ensures { λ r. ⌜ r ≡ total (now (bytes .entry)) ⌝ ∗ ⌜ r ≤ 65025 ⌝ }
-    ensures { λ _. ⌜ now (text .exit) ≡ sets (now (text .entry)) at (pairsOf (now (bytes .entry))) ⌝ }
-{
-    let table = table::CAPITALS;
-    let mut sum: u32 = 0;
-    let mut q = at;
-    let mut i: usize = 0;
-    while i < bytes.len() {
-        let b = bytes[i];
-        text[q] = capital(&table, b / 16);
-        text[q + 1] = capital(&table, b % 16);
-        sum += b as u32;
-        q += 2;
-        i += 1;
-    }
-    sum
-}
-
-// The byte that makes a line's sum 0.
-fn sum_byte(sum: u32) -> u8
-    ensures { λ r. ⌜ r ≡ (256 - sum % 256) % 256 ⌝ }
-{
-    ((256 - sum % 256) % 256) as u8
-}
-
-// Puts a line: a colon, the head, the data, the byte that makes the sum 0, CR LF.
-fn put_line(text: &mut [u8], at: usize, head: [u8; 4], payload: &[u8])
-    requires { ⌜ (length (now payload) ≤ 64) × (at + 13 + 2 * length (now payload) ≤ length (now text)) ⌝ }
-    ensures { λ _. ⌜ now (text .exit) ≡ sets (now (text .entry)) at (lineText (head ++ now (payload .entry))) ⌝ }
-{
-    text[at] = b':';
-    let first = put_pairs(text, at + 1, &head);
-    let second = put_pairs(text, at + 9, payload);
-    let end = at + 9 + 2 * payload.len();
-    let last = [sum_byte(first + second)];
-    put_pairs(text, end, &last);
-    text[end + 2] = b'\r';
-    text[end + 3] = b'\n';
-}
-
-// Puts a data record.
-fn put_data(text: &mut [u8], at: usize, low: u32, payload: &[u8])
-    requires { ⌜ (low < 65536) × (length (now payload) ≤ 64) × (at + 13 + 2 * length (now payload) ≤ length (now text)) ⌝ }
-    ensures { λ _. ⌜ now (text .exit) ≡ sets (now (text .entry)) at (dataLine low (now (payload .entry))) ⌝ }
-{
-    let head = [payload.len() as u8, (low / 256) as u8, (low % 256) as u8, 0];
-    put_line(text, at, head, payload);
-}
-
-// Puts a type 4 record.
-fn put_extended(text: &mut [u8], at: usize, upper: u32)
-    requires { ⌜ (upper < 65536) × (at + 17 ≤ length (now text)) ⌝ }
-    ensures { λ _. ⌜ now (text .exit) ≡ sets (now (text .entry)) at (extendedLine upper) ⌝ }
-{
-    let half = [(upper / 256) as u8, (upper % 256) as u8];
-    put_line(text, at, [2, 0, 0, 4], &half);
 }
 
 // Puts a type 4 record where the upper half is a new one; the place after it.
@@ -109,7 +35,7 @@ fn put_upper(text: &mut [u8], position: Position, upper: u32) -> usize
     if upper == position.upper {
         return at;
     }
-    put_extended(text, at, upper);
+    hex_lines::put_extended(text, at, upper as u16);
     at + 17
 }
 
@@ -121,19 +47,11 @@ fn put_piece(text: &mut [u8], position: Position, address: u32, payload: &[u8]) 
 {
     let upper = address / 65536;
     let at = put_upper(text, position, upper);
-    put_data(text, at, address % 65536, payload);
+    hex_lines::put_data(text, at, (address % 65536) as u16, payload);
     Position {
         at: at + 13 + 2 * payload.len(),
         upper,
     }
-}
-
-// Where the piece that starts at `from` ends: after 64 bytes, or at the section's end.
-fn piece_end(from: usize, size: usize) -> usize
-    requires { ⌜ from ≤ size ⌝ }
-    ensures { λ r. ⌜ r ≡ min (from + 64) size ⌝ }
-{
-    if size - from < 64 { size } else { from + 64 }
 }
 
 // Puts the lines of a section's pieces.
@@ -147,7 +65,7 @@ fn put_section(text: &mut [u8], position: Position, address: u32, bytes: &[u8]) 
     let mut from: usize = 0;
     let mut left = (bytes.len() + 63) / 64;
     while 0 < left {
-        let end = piece_end(from, bytes.len());
+        let end = text::piece_end(from, bytes.len());
         w = put_piece(text, w, a, &bytes[from..end]);
         a += 64;
         from = end;
@@ -218,14 +136,6 @@ fn put_sections(
     w
 }
 
-// Puts the end record.
-fn put_end(text: &mut [u8], at: usize)
-    requires { ⌜ at + 13 ≤ length (now text) ⌝ }
-    ensures { λ _. ⌜ now (text .exit) ≡ sets (now (text .entry)) at endLine ⌝ }
-{
-    storing::fill(text, at, b":00000001FF\r\n", 0, 13);
-}
-
 // The length of a section's lines.
 fn lines_length(size: usize) -> usize
     requires { ⌜ size ≤ 33554432 ⌝ }
@@ -255,10 +165,10 @@ fn put_text(text: &mut [u8], g: Geometry, h: Header, bytes: &[u8])
     requires { ⌜ length (textOf g h (now bytes)) ≤ length (now text) ⌝ }
     ensures { λ _. ⌜ now (text .exit) ≡ sets (now (text .entry)) 0 (textOf g h (now (bytes .entry))) ⌝ }
 {
-    put_extended(text, 0, 0);
+    hex_lines::put_extended(text, 0, 0);
     let w = put_sections(text, Position { at: 17, upper: 0 }, g, h, bytes);
     let at = w.at;
-    put_end(text, at);
+    hex_lines::put_end(text, at);
 }
 
 // A refusal: its number, and the length 0.

@@ -1,5 +1,6 @@
 // What the text formats share beside lines and digit pairs: the section that is due, and the answers of reading and writing (document 01, 'Hex text').
 ghost use mathlib.Core.Path.{_≡_};
+ghost use Prim.Native.Nat.{min, _+_};
 ghost use Rattle.image.specs.Image.{noHeader};
 ghost use Rattle.text.specs.Reading.{answerOf, bufferAfter};
 ghost use Rattle.text.specs.Settling.{settled};
@@ -62,4 +63,14 @@ pub fn settle(part: u8, macros: u8, header: [u8; 15], image: &mut [u8]) -> ReadA
     let all = image.len();
     storing::clear(image, all);
     refusal(number)
+}
+
+// Where the piece that starts at `from` ends: after 64 bytes, or at the section's end.
+pub fn piece_end(from: usize, size: usize) -> usize
+    ensures end { λ r. ⌜ r ≡ min (from + 64) size ⌝ }
+{
+    if size <= from {
+        return size;
+    }
+    if size - from < 64 { size } else { from + 64 }
 }

@@ -6,7 +6,7 @@ use native.Mathlib.Omega.{arith}
 use native.Mathlib.Nat.{add-zero}
 use lib.ListN.{length, getD, set, drop, length-set, drop-of-length-le}
 use lib.Seq.{sets, drop-cons}
-use Rattle.hex_writer.specs.Lines.{capitalsFrom}
+use Rattle.hex_lines.specs.Lines.{capitalsFrom}
 use Rattle.hex_format.specs.Written.{sumByte, lineText}
 use Rattle.lent.specs.Words.{total}
 use Rattle.storing.proofs.Storing.{sets-append}

@@ -5,10 +5,10 @@ use native.Mathlib.Omega.{arith}
 use borrow.Author.Needs.{needs}
 use lib.ListN.{getD}
 use Prim.Native.Nat.{ℕ}
-use Rattle.hex_writer.proofs.Pairs.{capitals-at}
+use Rattle.hex_lines.proofs.Pairs.{capitals-at}
 use Rattle.pairs.specs.Digits.{capital as capitalOf}
-use Rattle.hex_writer.proofs.capital.Statement.{statement}
-use Rattle.hex_writer.proofs.capital.Tie as tie
+use Rattle.hex_lines.proofs.capital.Statement.{statement}
+use Rattle.hex_lines.proofs.capital.Tie as tie
 
 returns : tie.Need-returns
 returns c =

@@ -3,11 +3,11 @@ use mathlib.Core.Path.{refl}
 use Prim.Native.Nat.{_-_}
 use native.Mathlib.Omega.{arith}
 use lib.ListN.{length, length-set}
-use Rattle.hex_writer.specs.Lines.{capitalsFrom}
+use Rattle.hex_lines.specs.Lines.{capitalsFrom}
 use Rattle.pairs.specs.Digits.{capital as capitalOf}
-use Rattle.hex_writer.proofs.Pairs.{Putting, start, turn, ended}
-use Rattle.hex_writer.proofs.put_pairs.Statement.{statement}
-use Rattle.hex_writer.proofs.put_pairs.Tie as tie
+use Rattle.hex_lines.proofs.Pairs.{Putting, start, turn, ended}
+use Rattle.hex_lines.proofs.put_pairs.Statement.{statement}
+use Rattle.hex_lines.proofs.put_pairs.Tie as tie
 
 abbrev Inv-loop : tie.InvT-loop
 Inv-loop text₀ at bytes table sum₀ q₀ i₀ text sum q i = Putting text₀ at bytes text sum q i

@@ -1,11 +1,11 @@
 -- The line's parts, one after the other. Assumes nothing.
 use mathlib.Core.Path.{sym, _∙_}
 use lib.ListN.{length-set}
-use Rattle.hex_writer.proofs.Pairs.{line-put, sum-is}
+use Rattle.hex_lines.proofs.Pairs.{line-put, sum-is}
 use native.Mathlib.Omega.{arith}
 use borrow.Author.Needs.{needs}
-use Rattle.hex_writer.proofs.put_line.Statement.{statement}
-use Rattle.hex_writer.proofs.put_line.Tie as tie
+use Rattle.hex_lines.proofs.put_line.Statement.{statement}
+use Rattle.hex_lines.proofs.put_line.Tie as tie
 
 put-pairs-requires : tie.Need-put-pairs-requires
 put-pairs-requires c κs = simp length-set (omega arith)
