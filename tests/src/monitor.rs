@@ -276,10 +276,10 @@ mod tests {
     /// "29 is left with 7"; 33 is "an acknowledgement other than 1, 2, 4 and 7"; inside an attempt neither counts.
     #[test]
     fn silence_and_noise() {
-        let requests = [Packet::write(Register::Tar, 4), Packet::read(Register::Drw)];
+        let packets = [Packet::write(Register::Tar, 4), Packet::read(Register::Drw)];
         for (ack, number) in [(7, 29), (0, 33), (3, 33), (5, 33), (6, 33), (8, 33), (255, 33), (256, 33)] {
             let answer = Answer::Wire { ack, word: 0, parity: false };
-            for packet in requests {
+            for packet in packets {
                 let mut m = monitor();
                 m.observe(packet, answer);
                 assert_eq!(m.mishap, Some(number), "{ack}, {packet:?}");

@@ -210,11 +210,11 @@ fn lines_of(file: &str) -> usize {
 #[test]
 fn requests_add_so_many_lines() {
     let page = promises();
-    for (packet, count) in [("**For One**", 5), ("**For Eleven**", 3)] {
-        let from = page.find(packet).expect("its paragraph");
+    for (request, count) in [("**For One**", 5), ("**For Eleven**", 3)] {
+        let from = page.find(request).expect("its paragraph");
         let paragraph = page[from..].split("\n\n").next().unwrap();
         let files = quoted(paragraph);
-        assert_eq!(files.len(), count, "{packet}");
+        assert_eq!(files.len(), count, "{request}");
         for file in files {
             let after = paragraph.split(file).nth(1).unwrap();
             let said = after.split(|c: char| !c.is_ascii_digit()).find(|digits| !digits.is_empty());

@@ -58,7 +58,7 @@ struct Reads {
     /// 1 where the part has the IMO call.
     imo: usize,
     args: Vec<u32>,
-    requests: Vec<u32>,
+    sysreqs: Vec<u32>,
     tests: Vec<u32>,
 }
 
@@ -67,9 +67,9 @@ impl Reads {
         let sizes = case.header.sizes().expect("a part of the table");
         let imo = usize::from(sizes.part.imo);
         let args = reads_of(&case, sizes.part.sysarg());
-        let requests = reads_of(&case, sizes.part.sysreq);
+        let sysreqs = reads_of(&case, sizes.part.sysreq);
         let tests = reads_of(&case, TEST_MODE);
-        Reads { case, sizes, imo, args, requests, tests }
+        Reads { case, sizes, imo, args, sysreqs, tests }
     }
 
     /// Where step 8 reads the level, and the image's as it is stored.
@@ -110,16 +110,16 @@ impl Maker {
 
     /// Step 2's own Reads: 20 before 21.
     fn identity(&mut self, reads: &Reads, time: usize) {
-        let Reads { case, sizes, imo, args, requests, .. } = reads;
+        let Reads { case, sizes, imo, args, sysreqs, .. } = reads;
         let (part, again) = (sizes.part, ["", " again"][time]);
         let mut add =
             |name: &str, expected, answer| self.add(&format!("{name}{again}"), expected, case, &[answer]);
-        let (arg, packet) = (args[imo + 1 + time * (imo + 3)], requests[imo + 2 + time * (imo + 4)]);
+        let (arg, sysreq) = (args[imo + 1 + time * (imo + 3)], sysreqs[imo + 2 + time * (imo + 4)]);
         let (ids, family) = (0xA000_0000 | u32::from(part.id_high) << 8, u32::from(part.id_family));
         let level = if time == 0 { u32::from(case.stored) } else { 1 };
         add("high", (20, 2), word(arg, ids ^ 0x100));
-        add("family", (20, 2), word(packet, family ^ 1 | level << 12));
-        add("family and level", (20, 2), word(packet, family ^ 1));
+        add("family", (20, 2), word(sysreq, family ^ 1 | level << 12));
+        add("family and level", (20, 2), word(sysreq, family ^ 1));
         if part.number == 1 {
             add("the IDs' top digit is free", (0, 9), word(arg, ids & 0xFFFF));
         }
@@ -131,7 +131,7 @@ impl Maker {
             }
         }
         for level in [0, 2, 3, 4, 9, 15].into_iter().filter(|&level| time == 1 || level != 2) {
-            add(&format!("level {level}"), (21, 2), word(packet, family | level << 12));
+            add(&format!("level {level}"), (21, 2), word(sysreq, family | level << 12));
         }
     }
 
@@ -188,9 +188,9 @@ impl Maker {
 
     /// Macro 0's 0x0D succeeds on the board, and the session hears nothing, or noise.
     fn unheard(&mut self, reads: &Reads) {
-        let Reads { case, requests, .. } = reads;
+        let Reads { case, sysreqs, .. } = reads;
         // The last poll but one is that call's, and its stale read ends it.
-        let ends = requests[requests.len() - 2] - 1;
+        let ends = sysreqs[sysreqs.len() - 2] - 1;
         self.add("silence where macro 0's call ends, carried out", (29, 7), case, &[wrong(ends, 7)]);
         self.add("noise where macro 0's call ends, carried out", (33, 7), case, &[wrong(ends, 3)]);
     }
@@ -233,7 +233,7 @@ impl Maker {
     /// Both sides of each limit.
     pub(super) fn limits(&mut self) {
         let reads = Reads::of(self.base(1, 1, PROTECTED));
-        let Reads { case, requests: polls, tests, .. } = &reads;
+        let Reads { case, sysreqs: polls, tests, .. } = &reads;
         let last = polls.len() - 1;
         // Polls: step 1, IMO, call 0, then step 2's own Read, reopening's 0x0D, all again, sum, rows.
         let which = [0, 1, 2, 4, 5, 6, 7, 9, 10, 11, last - 1, last];
