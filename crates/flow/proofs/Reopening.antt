@@ -28,12 +28,10 @@ use Rattle.flow.proofs.Demand.{right-ids, met-traffic}
 use Rattle.flow.proofs.Entering.{reopenWord, seam, some-moves}
 use Rattle.flow.proofs.Frames.{costs, firstEnv}
 use Rattle.flow.proofs.Legs.{core}
-use Rattle.flow.proofs.Passing.{table-facts}
-use Rattle.flow.proofs.Phases.{callD}
-use Rattle.flow.proofs.Places.{place-sysreq, place-sysarg}
+use Rattle.flow.proofs.Phases.{table-facts, callD}
+use Rattle.flow.proofs.Table.{place-sysreq, place-sysarg, Facts}
 use Rattle.flow.proofs.Polling.{idleAt}
 use Rattle.flow.proofs.Reaches.{Allowance, withMoves, Env, sync, RightIds, Frame, Lasting, OnPlanFor, split, Reaches, here, stop, step, tally, seen}
-use Rattle.flow.proofs.Table.{Facts}
 use Rattle.image.specs.Image.{Image, imageOf}
 use Rattle.image.specs.declared.Header.{Header}
 use Rattle.parts.specs.Sizes.{sysreqOf, sysargOf}
