@@ -23,8 +23,8 @@ use Rattle.flow.specs.declared.Purpose.{Purpose}
 use Rattle.flow.specs.declared.Purpose.the-variants.{Sent, Idcode, TestBit, Poll, Keep}
 use Rattle.flow.specs.declared.Request.the-variants.{LineReset, ReadIdcode, WriteSetup}
 use Rattle.flow.specs.declared.Silicon.{Silicon}
-use Rattle.flow.proofs.Access.{Answering, admits, write-reaches, read-still}
-use Rattle.flow.proofs.Attempts.{barred-off, xres-reaches, trying, attempts}
+use Rattle.flow.proofs.Access.{Answering, admits, write-reaches, read-still, barred-off}
+use Rattle.flow.proofs.Attempts.{xres-reaches, trying, attempts}
 use Rattle.flow.proofs.Calling.{ids, imo, still-call, free-zero}
 use Rattle.flow.proofs.Decoding.{aCtrl, aSelect, aCsw}
 use Rattle.flow.proofs.Legs.{Core, core, Leg, halt}

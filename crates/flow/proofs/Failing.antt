@@ -24,7 +24,7 @@ use Rattle.flow.specs.declared.LineEvent.{LineEvent}
 use Rattle.flow.specs.declared.Request.the-variants.{ReadIdcode, LineReset, WriteSetup}
 use Rattle.flow.specs.declared.TransferOutcome.{TransferOutcome}
 use Rattle.flow.specs.declared.TransferOutcome.the-variants.{Clean, Faults}
-use Rattle.flow.proofs.Attempts.{barred-off}
+use Rattle.flow.proofs.Access.{barred-off}
 use Rattle.flow.proofs.Decoding.{attempt, meets, plain, aCtrl}
 use Rattle.flow.proofs.Hearing.{silence-heard}
 use Rattle.flow.proofs.Mishaps.{right-idcode}

@@ -198,6 +198,10 @@ pub less-room : {i : Image} {f : Frame i} {y : Entry} {n : ℕ} {ms : List Move}
     → OnPlan f y n ms (record { due = κ .due; room = r; xres = κ .xres; lines = κ .lines }) e
 less-room r h st = record { at = st .at; accounted = st .accounted; room = omega (arith, st .room); xres = st .xres; lines = st .lines; calm = st .calm }
 
+-- the same cost from another place on
+pub at-place : {i : Image} {f : Frame i} {y y′ : Entry} {n n′ : ℕ} {ms ms′ : List Move} {κ : Allowance} {e : Env} → OnPlan f y n ms κ e → drop n′ (sequence i y′) ≡ ms′ → OnPlan f y′ n′ ms′ κ e
+at-place st h = record { at = h; accounted = st .accounted; room = st .room; xres = st .xres; lines = st .lines; calm = st .calm }
+
 -- the moves of ms, then the rest, and what they may cost
 abbrev pub OnPlanFor : {i : Image} → Frame i → Position → (ms later : List Move) → Allowance → Env → Type 0
 OnPlanFor f o ms later κ e = OnPlan f (o .entry) (o .at) (ms ++ later) (withMoves ms κ) e
