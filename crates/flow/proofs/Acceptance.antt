@@ -10,12 +10,9 @@ use Rattle.flow.specs.SealingExamples.{SealingExamples}
 use Rattle.flow.specs.SessionExamples.{MoveExamples, AnswerExamples, SessionExamples}
 use Rattle.flow.specs.Starts.{FreeStarts, MostExamples}
 use Rattle.flow.proofs.BoardExamples.{transfer-examples, noise-examples, packet-examples, reset-examples, call-examples}
-use Rattle.flow.proofs.Examples.{key-examples}
-use Rattle.flow.proofs.Judgements.{judge-examples}
+use Rattle.flow.proofs.CutExamples.{sealing-examples}
+use Rattle.flow.proofs.SessionExamples.{key-examples, judge-examples, order-examples, move-examples, answer-examples, session-examples}
 use Rattle.flow.proofs.Mishaps.{word-mishaps, line-mishaps}
-use Rattle.flow.proofs.OrderExamples.{order-examples}
-use Rattle.flow.proofs.SealingExamples.{sealing-examples}
-use Rattle.flow.proofs.SessionExamples.{move-examples, answer-examples, session-examples}
 use Rattle.flow.proofs.Starts.{free-starts, most-examples}
 use Rattle.wire.specs.Examples.{Each}
 

@@ -6,7 +6,7 @@ use Prim.Native.Nat.{ℕ, suc}
 use native.Mathlib.Omega.{arith}
 use lib.Dec.{eqb}
 use mathlib.Core.Logic.{_⊎_, inl, inr}
-use Rattle.flow.specs.Exchange.{carry, barred, guarded, isSysreq, isCall, store, begin, fetch}
+use Rattle.flow.specs.Exchange.{overDrw, carry, barred, guarded, isSysreq, isCall, store, begin, fetch}
 use Rattle.flow.specs.Judge.{judge}
 use Rattle.flow.specs.Map.{place}
 use Rattle.flow.specs.Monitor.{noWaits, Seen, watching, Watch, aimed, noticed, noticeRead, noticeStore}
@@ -20,6 +20,7 @@ use Rattle.flow.specs.declared.Next.the-variants.{Go}
 use Rattle.flow.specs.declared.Place.{Place}
 use Rattle.flow.specs.declared.Place.the-variants.{InFlash, InLocks, InParams, AtLevel, AtSysreq, AtSysarg, AtTestMode, Elsewhere}
 use Rattle.flow.specs.declared.Purpose.{Purpose}
+use Rattle.flow.specs.declared.Request.{Request}
 use Rattle.flow.specs.declared.Request.the-variants.{ReadDrw, WriteTar, WriteDrw}
 use Rattle.flow.proofs.Decoding.{aTar, aDrw, aRead}
 use Rattle.flow.proofs.Reaches.{Allowance, withTransfer, withMoves, Env, tally, seen, sync, after, Frame, Lasting, OnPlan, OnPlanFor, Turn, without, same-running, not-idle, Reaches}
@@ -59,25 +60,19 @@ pub admits : (l : ℕ) (pc : Place) → guarded pc ≡ false → Answering l →
 admits l pc h (inl e) = admits-open l pc e
 admits l pc h (inr e) = record { not-killed = rw e; free = rw (e, h) }
 
-barred-tar : (g : Geometry) (a : ℕ) (b : Target) → barred g (WriteTar a) b ≡ false
+-- outside DRW nothing is barred
+pub barred-off : (g : Geometry) (q : Request) (b : Target) → overDrw q ≡ false → barred g q b ≡ false
 unfolding barred
-barred-tar g a b = by (eqb (b .effect) 2)
+barred-off g q b h = rw h (by (eqb (b .effect) 2))
   where
     by : (y : Bool) → y && false && guarded (place g (b .tar)) ≡ false
     by true = refl
     by false = refl
 
-barred-read : (g : Geometry) (b : Target) (pc : Place) → place g (b .tar) ≡ pc → Admits (b .effect) pc → barred g ReadDrw b ≡ false
+-- what the level in effect admits is not
+barred-at : (g : Geometry) (q : Request) (b : Target) (pc : Place) → overDrw q ≡ true → place g (b .tar) ≡ pc → Admits (b .effect) pc → barred g q b ≡ false
 unfolding barred
-barred-read g b pc h a = rw h (by (eqb (b .effect) 2) (a .free))
-  where
-    by : (y : Bool) → y && guarded pc ≡ false → y && true && guarded pc ≡ false
-    by true e = e
-    by false e = refl
-
-barred-write : (g : Geometry) (w : ℕ) (b : Target) (pc : Place) → place g (b .tar) ≡ pc → Admits (b .effect) pc → barred g (WriteDrw w) b ≡ false
-unfolding barred
-barred-write g w b pc h a = rw h (by (eqb (b .effect) 2) (a .free))
+barred-at g q b pc o h a = rw (o, h) (by (eqb (b .effect) 2) (a .free))
   where
     by : (y : Bool) → y && guarded pc ≡ false → y && true && guarded pc ≡ false
     by true e = e
@@ -123,8 +118,8 @@ module _ {i : Image} (f : Frame i) where
         → Reaches f z (sync (position y n) (tally p c k) b t e)
     unfolding write withMoves carry judge noticed
     write-any st pc hp ok safe safe′ next =
-        transfer f aTar st (ok .not-killed) (barred-tar (i .geometry) a b) safe (λ o. safe) (λ o. without (same-running b (setTar a b) refl)) λ o₁ e₁ h₁ st₁.
-        transfer f aDrw st₁ (ok .not-killed) (barred-write (i .geometry) w (setTar a b) pc hp ok) safe (λ o. rw (hp, h₁) safe′)
+        transfer f aTar st (ok .not-killed) (barred-off (i .geometry) (WriteTar a) b refl) safe (λ o. safe) (λ o. without (same-running b (setTar a b) refl)) λ o₁ e₁ h₁ st₁.
+        transfer f aDrw st₁ (ok .not-killed) (barred-at (i .geometry) (WriteDrw w) (setTar a b) pc refl hp ok) safe (λ o. rw (hp, h₁) safe′)
         (λ o. without (store-ends w (nextOutcome (e₁ .lists .calls)) (place (i .geometry) a) (setTar a b))) λ o₂ e₂ h₂ st₂.
         rw (hp, h₁) (next e₂ (rw (hp, h₁) at h₂) st₂)
 
@@ -160,11 +155,11 @@ module _ {i : Image} (f : Frame i) where
     read-any {z₁} {z₂} st pc hp ok safe b₁ b₂ h₁ h₂ ht he safe₁ safe₂ turn₁ turn₂ next =
         let first : (o : ℕ) → Turn s z b (carry (i .geometry) (WriteTar a) o (nextOutcome (e .lists .calls)) b) z = unfold carry in (λ o. without (same-running b (setTar a b) refl)) in
         let keeps : (o : ℕ) → Lasting (f .Safe z) (carry (i .geometry) (WriteTar a) o (nextOutcome (e .lists .calls)) b) = unfold carry in (λ o. safe) in
-        transfer f aTar st (ok .not-killed) (barred-tar (i .geometry) a b) safe keeps first λ _ e₁ k₁ st₁.
+        transfer f aTar st (ok .not-killed) (barred-off (i .geometry) (WriteTar a) b refl) safe keeps first λ _ e₁ k₁ st₁.
         unfold carry in
-        transfer f {z′ = z₁} aRead st₁ (ok .not-killed) (barred-read (i .geometry) (setTar a b) pc hp ok) safe (λ o. rw (hp, h₁ o) (safe₁ o)) (λ o. rw (hp, h₁ o) (turn₁ o)) λ o e₂ k₂ st₂.
+        transfer f {z′ = z₁} aRead st₁ (ok .not-killed) (barred-at (i .geometry) ReadDrw (setTar a b) pc refl hp ok) safe (λ o. rw (hp, h₁ o) (safe₁ o)) (λ o. rw (hp, h₁ o) (turn₁ o)) λ o e₂ k₂ st₂.
         rw (hp, h₁ o) (
-        transfer f {z′ = z₂} aRead st₂ (rw (he o) (ok .not-killed)) (barred-read (i .geometry) (b₁ o) pc (there o) (rw (he o) ok)) (safe₁ o)
+        transfer f {z′ = z₂} aRead st₂ (rw (he o) (ok .not-killed)) (barred-at (i .geometry) ReadDrw (b₁ o) pc refl (there o) (rw (he o) ok)) (safe₁ o)
         (λ o′. rw (there o, h₂ o o′) (safe₂ o o′)) (λ o′. rw (there o, h₂ o o′) (turn₂ o o′)) λ o′ e₃ k₃ st₃.
         rw (there o, h₂ o o′, hp) (next o o′ e₃ (k₃ ∙ k₂ ∙ k₁) st₃))
       where

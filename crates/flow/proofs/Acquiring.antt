@@ -1,5 +1,5 @@
 -- Steps 1 and 2. Assumes nothing.
-use mathlib.Core.Bool.{Bool, true, false}
+use mathlib.Core.Bool.{true, false}
 use mathlib.Core.List.{List, _∷_, _++_}
 use mathlib.Core.Path.{_≡_, refl, ap, sym, subst, _∙_}
 use Prim.Native.Nat.{ℕ, zero, suc, _+_, _*_, _/_, _%_, _≤_, _<_}
@@ -7,14 +7,14 @@ use native.Mathlib.Omega.{arith}
 use lib.Dec.{eqb}
 use lib.ListN.{length}
 use borrow.Author.Tests.{eq-eqb}
-use Rattle.flow.specs.Calls.{finish, effectOf, sysargAfter, sysreqAfter, afterFailure}
+use Rattle.flow.specs.Calls.{sysargAfter, sysreqAfter}
 use Rattle.flow.specs.Exchange.{carry}
 use Rattle.flow.specs.Judge.{judge}
 use Rattle.flow.specs.Monitor.{noWaits, watching, noticed, noticeRead}
 use Rattle.flow.specs.Run.{Run}
 use Rattle.flow.specs.Sequence.{move, key, write, read, poll, call, imoCall, acquire}
 use Rattle.flow.specs.Session.{position, running}
-use Rattle.flow.specs.Target.{Target, Memory, Residue, idle, setReset}
+use Rattle.flow.specs.Target.{Target, Memory, idle, setReset}
 use Rattle.flow.specs.Words.{free, succeeded, testBitSet, idsFit, levelIn}
 use Rattle.flow.specs.declared.Entry.{Entry}
 use Rattle.flow.specs.declared.Move.{Move}
@@ -23,20 +23,18 @@ use Rattle.flow.specs.declared.Purpose.{Purpose}
 use Rattle.flow.specs.declared.Purpose.the-variants.{Sent, Idcode, TestBit, Poll, Keep}
 use Rattle.flow.specs.declared.Request.the-variants.{LineReset, ReadIdcode, WriteSetup}
 use Rattle.flow.specs.declared.Silicon.{Silicon}
-use Rattle.flow.proofs.Access.{Answering, admits, write-reaches, read-still}
-use Rattle.flow.proofs.Attempts.{barred-off, xres-reaches, trying, attempts}
+use Rattle.flow.proofs.Access.{Answering, admits, write-reaches, read-still, barred-off}
+use Rattle.flow.proofs.Attempts.{xres-reaches, trying, attempts}
 use Rattle.flow.proofs.Calling.{ids, imo, still-call, free-zero}
 use Rattle.flow.proofs.Decoding.{aCtrl, aSelect, aCsw}
 use Rattle.flow.proofs.Legs.{Core, core, Leg, halt}
 use Rattle.flow.proofs.Phases.{plain-call}
-use Rattle.flow.proofs.Places.{place-sysreq, place-sysarg, place-test}
+use Rattle.flow.proofs.Table.{place-sysreq, place-sysarg, place-test, Facts}
 use Rattle.flow.proofs.Polling.{idleAt, poll-idle}
 use Rattle.flow.proofs.Reaches.{Allowance, withTransfer, withRead, withRequest, withMoves, Env, sync, rightSilicon, Frame, Lasting, at-rest, OnPlan, OnPlanFor, less-room, without, same-running, Reaches, tally, seen, after}
-use Rattle.flow.proofs.Table.{Facts}
 use Rattle.flow.proofs.Transfer.{transfer}
 use Rattle.image.specs.Image.{Image}
 use Rattle.parts.specs.Sizes.{rowBytes, sysreqOf, sysargOf, TEST-MODE, imoOf}
-use Rattle.parts.specs.declared.Geometry.{Geometry}
 use Rattle.wire.specs.declared.Register.the-variants.{CtrlStat, Select, Csw}
 
 -- before an acquisition

@@ -1,5 +1,5 @@
 -- The resets and the IDCODE attempts of step 1. Assumes nothing.
-use mathlib.Core.Bool.{Bool, true, false, _&&_}
+use mathlib.Core.Bool.{Bool, true, false}
 use mathlib.Core.List.{List, _∷_}
 use mathlib.Core.Path.{_≡_, refl, ap, sym, _∙_}
 use Prim.Native.Nat.{ℕ, zero, suc, _+_, _-_}
@@ -7,9 +7,8 @@ use native.Mathlib.Omega.{arith}
 use lib.Dec.{eqb, lit≤}
 use borrow.Author.Tests.{lt-ltb, le-ltb}
 use Rattle.flow.specs.Calls.{reset}
-use Rattle.flow.specs.Exchange.{decode, carry, killed, barred, guarded, overDrw, Met, transferred, meet}
+use Rattle.flow.specs.Exchange.{decode, carry, killed, Met, transferred, meet}
 use Rattle.flow.specs.Judge.{goIf, judge}
-use Rattle.flow.specs.Map.{place}
 use Rattle.flow.specs.Monitor.{noWaits, watching, Watch, oneMissed, watchBy, noticed, watch}
 use Rattle.flow.specs.Packets.{again, verdict}
 use Rattle.flow.specs.Plan.{counting}
@@ -27,21 +26,12 @@ use Rattle.flow.specs.declared.Request.{Request}
 use Rattle.flow.specs.declared.Request.the-variants.{Xres, LineReset, ReadIdcode}
 use Rattle.flow.specs.declared.Silicon.{Silicon}
 use Rattle.flow.specs.declared.TransferOutcome.the-variants.{Clean}
+use Rattle.flow.proofs.Access.{barred-off}
 use Rattle.flow.proofs.Decoding.{attempt, meets}
 use Rattle.flow.proofs.Hearing.{listsAfter, Heard, heardOkay, heardWait, heardError, heardErrorDone, hears}
 use Rattle.flow.proofs.Reaches.{Allowance, Env, tally, seen, sync, after, Frame, Lasting, at-rest, OnPlan, at-move, at-next, Turn, without, same-running, Reaches, stop, Onto, steps}
 use Rattle.flow.proofs.Transfer.{more, passed, calm-event, calm-rest}
 use Rattle.image.specs.Image.{Image}
-use Rattle.parts.specs.declared.Geometry.{Geometry}
-
--- outside DRW nothing is barred
-pub barred-off : (g : Geometry) (q : Request) (b : Target) → overDrw q ≡ false → barred g q b ≡ false
-unfolding barred
-barred-off g q b h = rw h (by (eqb (b .effect) 2))
-  where
-    by : (y : Bool) → y && false && guarded (place g (b .tar)) ≡ false
-    by true = refl
-    by false = refl
 
 -- after a reset
 abbrev pub reset-by : Request → Env → Env

@@ -2,14 +2,16 @@
 use mathlib.Core.Path.{_≡_, refl, ap, _∙_}
 use Prim.Native.Nat.{ℕ}
 use lib.Count.{ones, onesIn}
-use Rattle.flow.proofs.Decoding.{attempt, plain, aTar, aDrw, aRead, meets}
+use borrow.Author.Needs.{needs}
 use Rattle.flow.specs.BoardExamples.{after, TransferExamples, NoisyWith, NoiseExamples, PacketExamples, ResetExamples, CallExamples}
 use Rattle.flow.specs.Calls.{bytesIn, effectOf, sysargAfter, sysreqAfter, afterFailure, finish, reset}
 use Rattle.flow.specs.Examples.{partOne}
 use Rattle.flow.specs.Exchange.{Met, decode, carry, barred, noisyAck, transferred, meet}
-use Rattle.flow.specs.Map.{search, regions, lockRegions}
+use Rattle.flow.specs.Map as Maps
+use Rattle.flow.specs.Map.{regions, lockRegions}
 use Rattle.flow.specs.Target.{Target, Lists}
 use Rattle.flow.specs.declared.Request.the-variants.{ReadIdcode, ReadDrw, WriteTar, WriteDrw}
+use Rattle.flow.proofs.Decoding.{attempt, plain, aTar, aDrw, aRead, meets}
 use Rattle.lent.specs.Words.{total, wordAt}
 use Rattle.parts.specs.Sizes.{rowsOf, locksIn, flashSize, lockStart}
 
@@ -27,7 +29,7 @@ byWrite : (w : ℕ) (l : Lists) (b : Target) {m : Met} → transferred partOne (
 byWrite w l b e = meets partOne (plain aDrw) l b ∙ e
 
 pub transfer-examples : TransferExamples
-unfolding transferred carry barred search regions lockRegions rowsOf locksIn lockStart flashSize wordAt
+unfolding transferred carry barred Maps.search regions lockRegions rowsOf locksIn lockStart flashSize wordAt
 transfer-examples = record {
   idcode = byIdcode _ _ refl;
   flash = byRead _ _ refl;
@@ -60,16 +62,8 @@ transfer-examples = record {
 }
 
 noisy-with : (entry : ℕ) → NoisyWith entry (noisyAck entry)
-unfolding transferred carry barred search regions lockRegions rowsOf locksIn lockStart flashSize wordAt
-noisy-with entry = record {
-  readDone = byRead _ _ refl;
-  readNot = byRead _ _ refl;
-  writeDone = byTar 4 _ _ refl;
-  writeNot = byTar 4 _ _ refl;
-  barred = byRead _ _ refl;
-  notBarred = byTar 4 _ _ refl;
-  killed = byTar 4 _ _ refl;
-}
+unfolding meet decode ones onesIn transferred carry barred Maps.search regions lockRegions rowsOf locksIn lockStart flashSize wordAt
+noisy-with entry = search needs
 
 pub noise-examples : NoiseExamples
 noise-examples = record {
@@ -87,32 +81,14 @@ noise-examples = record {
 
 pub packet-examples : PacketExamples
 unfolding meet decode ones onesIn
-packet-examples = record {
-  idcode = refl;
-  tar = refl;
-  startBit = refl;
-  parityBit = refl;
-  stopBit = refl;
-  parkBit = refl;
-  notWrite = refl;
-  notRead = refl;
-  wordParity = refl;
-  met = refl;
-}
+packet-examples = search needs
 
 pub reset-examples : ResetExamples
 unfolding meet decode reset finish afterFailure
-reset-examples = record {
-  xres = refl;
-  restores = refl;
-  drops = refl;
-  dropsLevel = refl;
-  takesNone = refl;
-  lineReset = refl;
-}
+reset-examples = search needs
 
 pub call-examples : CallExamples
-unfolding transferred carry barred search regions lockRegions rowsOf locksIn lockStart flashSize finish effectOf sysargAfter sysreqAfter afterFailure bytesIn total
+unfolding transferred carry barred Maps.search regions lockRegions rowsOf locksIn lockStart flashSize finish effectOf sysargAfter sysreqAfter afterFailure bytesIn total
 call-examples = record {
   begins = byWrite 0x80000015 _ _ refl;
   noCall = ap (λ m. m .lists) (byWrite 0x15 _ _ refl);

@@ -22,10 +22,9 @@ use Rattle.flow.specs.declared.Place.the-variants.{AtSysreq, AtSysarg}
 use Rattle.flow.specs.declared.Purpose.the-variants.{Status}
 use Rattle.flow.proofs.Access.{aim, Answering, admits, write-reaches, call-reaches, read-still}
 use Rattle.flow.proofs.Legs.{core}
-use Rattle.flow.proofs.Places.{place-sysreq, place-sysarg}
+use Rattle.flow.proofs.Table.{place-sysreq, place-sysarg, Facts}
 use Rattle.flow.proofs.Polling.{idleAt, during, looping, loopAt, poll-busy}
 use Rattle.flow.proofs.Reaches.{Allowance, withTransfer, withMoves, Env, sync, Frame, at-rest, OnPlan, OnPlanFor, less-room, Turn, without, reopening, sealing, and-false, Reaches, stop, tally}
-use Rattle.flow.proofs.Table.{Facts}
 use Rattle.image.specs.Image.{Image}
 use Rattle.parts.specs.Sizes.{sysreqOf, sysargOf}
 use Rattle.parts.specs.declared.Geometry.{Geometry}

@@ -5,7 +5,7 @@ use Prim.Native.Nat.{ℕ, zero, suc, _+_, _*_, _/_, _<_, _≤_}
 use native.Mathlib.Nat.{suc-mul}
 use native.Mathlib.Omega.{arith}
 use lib.ListN.{length}
-use Rattle.flow.specs.Plan.{Traffic, counting, trafficIn, isPoll, pollsIn, fromProtected, lockPlan, plan, loops, acquisitions}
+use Rattle.flow.specs.Plan.{Traffic, noTraffic, counting, trafficIn, isPoll, pollsIn, fromProtected, lockPlan, plan, loops, acquisitions}
 use Rattle.flow.specs.Sequence.{write, read, call, writes, listed, inTurn, imoCall, acquire, silicon, privileged, programRow, compareWords, verifyRow, lockMacro, verifyMacro, macroDown, lockAndVerify, program, opening, afterwards, sequence, key}
 use Rattle.flow.specs.Session.{bare, moveCount}
 use Rattle.flow.specs.Totals.{PlanMultiplied, SequenceCounts}
@@ -34,30 +34,27 @@ pub record Totals (ms : List Move) (s p x l : ℕ) : Type 0 where
 abbrev pub total : Traffic → ℕ
 total t = t .transfers + t .xresets + t .lineResets
 
-pub one-more : (q : Request) (t : Traffic) → total (counting q t) ≡ suc (total t)
-one-more Xres t = omega arith
-one-more LineReset t = omega arith
-one-more ReadIdcode t = omega arith
-one-more ReadDrw t = omega arith
-one-more (WriteTar w) t = omega arith
-one-more (WriteDrw w) t = omega arith
-one-more (WriteSetup r w) t = omega arith
-
 -- one request more is counted once, whatever it is
-record Adds (q : Request) (s t u : Traffic) : Type 0 where
-  pub transfers : (counting q u) .transfers + s .transfers ≡ (counting q t) .transfers
-  pub xresets : (counting q u) .xresets + s .xresets ≡ (counting q t) .xresets
-  pub lineResets : (counting q u) .lineResets + s .lineResets ≡ (counting q t) .lineResets
+pub record Adds (q : Request) (t : Traffic) : Type 0 where
+  pub transfers : (counting q t) .transfers ≡ (counting q noTraffic) .transfers + t .transfers
+  pub xresets : (counting q t) .xresets ≡ (counting q noTraffic) .xresets + t .xresets
+  pub lineResets : (counting q t) .lineResets ≡ (counting q noTraffic) .lineResets + t .lineResets
+  pub one : total (counting q noTraffic) ≡ 1
 
-adds : (q : Request) (s t u : Traffic) → u .transfers + s .transfers ≡ t .transfers → u .xresets + s .xresets ≡ t .xresets
-    → u .lineResets + s .lineResets ≡ t .lineResets → Adds q s t u
-adds Xres s t u a b c = record { transfers = omega arith; xresets = omega arith; lineResets = omega arith }
-adds LineReset s t u a b c = record { transfers = omega arith; xresets = omega arith; lineResets = omega arith }
-adds ReadIdcode s t u a b c = record { transfers = omega arith; xresets = omega arith; lineResets = omega arith }
-adds ReadDrw s t u a b c = record { transfers = omega arith; xresets = omega arith; lineResets = omega arith }
-adds (WriteTar w) s t u a b c = record { transfers = omega arith; xresets = omega arith; lineResets = omega arith }
-adds (WriteDrw w) s t u a b c = record { transfers = omega arith; xresets = omega arith; lineResets = omega arith }
-adds (WriteSetup r w) s t u a b c = record { transfers = omega arith; xresets = omega arith; lineResets = omega arith }
+pub adds : (q : Request) (t : Traffic) → Adds q t
+adds Xres t = record { transfers = omega arith; xresets = omega arith; lineResets = omega arith; one = refl }
+adds LineReset t = record { transfers = omega arith; xresets = omega arith; lineResets = omega arith; one = refl }
+adds ReadIdcode t = record { transfers = omega arith; xresets = omega arith; lineResets = omega arith; one = refl }
+adds ReadDrw t = record { transfers = omega arith; xresets = omega arith; lineResets = omega arith; one = refl }
+adds (WriteTar w) t = record { transfers = omega arith; xresets = omega arith; lineResets = omega arith; one = refl }
+adds (WriteDrw w) t = record { transfers = omega arith; xresets = omega arith; lineResets = omega arith; one = refl }
+adds (WriteSetup r w) t = record { transfers = omega arith; xresets = omega arith; lineResets = omega arith; one = refl }
+
+pub one-more : (q : Request) (t : Traffic) → total (counting q t) ≡ suc (total t)
+one-more q t = let a = adds q t in omega (arith, a .transfers, a .xresets, a .lineResets, a .one)
+
+pub never-fewer : (q : Request) (t : Traffic) → t .xresets ≤ (counting q t) .xresets
+never-fewer q t = omega (arith, (adds q t) .xresets)
 
 pub append : (a b : List Move) → Totals (a ++ b) ((trafficIn a) .transfers + (trafficIn b) .transfers) (pollsIn a + pollsIn b)
     ((trafficIn a) .xresets + (trafficIn b) .xresets) ((trafficIn a) .lineResets + (trafficIn b) .lineResets)
@@ -65,8 +62,14 @@ unfolding trafficIn pollsIn
 append [] b = record { transfers = omega arith; polls = omega arith; xresets = omega arith; lineResets = omega arith }
 append (m ∷ a) b =
     let h = append a b in
-    let t = adds (m .request) (trafficIn b) (trafficIn (a ++ b)) (trafficIn a) (sym (h .transfers)) (sym (h .xresets)) (sym (h .lineResets)) in
-    record { transfers = sym (t .transfers); polls = omega (arith, h .polls); xresets = sym (t .xresets); lineResets = sym (t .lineResets) }
+    let x = adds (m .request) (trafficIn a) in
+    let y = adds (m .request) (trafficIn (a ++ b)) in
+    record {
+      transfers = omega (arith, h .transfers, x .transfers, y .transfers);
+      polls = omega (arith, h .polls);
+      xresets = omega (arith, h .xresets, x .xresets, y .xresets);
+      lineResets = omega (arith, h .lineResets, x .lineResets, y .lineResets);
+    }
 
 -- two lists of known counts
 pub joined : {a b : List Move} {s p x l s′ p′ x′ l′ : ℕ} → Totals a s p x l → Totals b s′ p′ x′ l′ → Totals (a ++ b) (s + s′) (p + p′) (x + x′) (l + l′)

@@ -18,8 +18,7 @@ use Rattle.flow.specs.declared.Silicon.{Silicon}
 use Rattle.flow.proofs.Counting.{total, one-more}
 use Rattle.flow.proofs.Entering.{Goes, byOpen, byProtected, start-reaches}
 use Rattle.flow.proofs.Frames.{Sound, not-virgin, Held, Why, mishap, otherId, otherPart, Stopped, Finished, frame, start-on-plan}
-use Rattle.flow.proofs.Passing.{table-facts, valid}
-use Rattle.flow.proofs.Phases.{Level, isOpen, isProtected}
+use Rattle.flow.proofs.Phases.{table-facts, valid, Level, isOpen, isProtected}
 use Rattle.flow.proofs.Reaches.{rightSilicon, RightIds, Frame, Lasting, at-rest, Bounded, going, Reaches, here, stop, step}
 use Rattle.parts.proofs.Table.{both}
 use Rattle.image.specs.Checks.{metadataAt}

@@ -24,12 +24,12 @@ use Rattle.flow.proofs.Access.{Answering}
 use Rattle.flow.proofs.Acquiring.{Fresh, Acquired, acquired-with, acquire-leg, Bytes, ids-read, level-read, silicon-reaches}
 use Rattle.flow.proofs.Calling.{Returned, unlocking, calling}
 use Rattle.flow.proofs.Finishing.{Blank, nothing, program-reaches}
-use Rattle.flow.proofs.Legs.{core}
-use Rattle.flow.proofs.Listing.{ListReturned, listing}
+use Rattle.flow.proofs.Legs.{Core, core}
+use Rattle.flow.proofs.Listing.{listing}
 use Rattle.flow.proofs.Lists.{total-zero}
-use Rattle.flow.proofs.Phases.{Valid, Sized, plain-call, callD}
+use Rattle.flow.proofs.Phases.{Valid, Opened, Sized, plain-call, callD}
 use Rattle.flow.proofs.Polling.{idleAt}
-use Rattle.flow.proofs.Reaches.{withMoves, Env, sync, rightSilicon, RightIds, Frame, at-rest, OnPlan, OnPlanFor, split, Reaches, stop, tally, seen, after}
+use Rattle.flow.proofs.Reaches.{withMoves, Env, sync, rightSilicon, RightIds, Frame, at-rest, OnPlan, OnPlanFor, at-place, split, Reaches, stop, tally, seen, after}
 use Rattle.flow.proofs.Table.{Facts}
 use Rattle.image.specs.Image.{Image}
 use Rattle.parts.specs.Sizes.{sysargOf, sysreqOf}
@@ -85,6 +85,10 @@ unfolding afterwards listed writes write
 some-moves i = omega arith
 
 module _ {i : Image} (f : Frame i) (fx : Facts (i .geometry)) (v : Valid i) (hb : Bytes (f .silicon)) (m : Memory) (sz : Sized f m) (safe : f .Safe false m) where
+  -- erased, and OPEN in effect
+  blank : {k : ℕ} (c : Core) → Opened f c → c .memory ≡ zeroed 1 m → Blank f k c
+  blank c o e = record { opened = o; sized = rw e (zeroed-sized 1 m sz); level = ap (λ (z : Memory). z .stored) e; erased = rw e (total-zero (length (m .flash))) }
+
   -- OPEN: erase, then steps 4 to 9
   open-reaches : {n x k : ℕ} {e : Env} {b : Target} → RightIds i (f .silicon) → m .stored ≡ 1 → Acquired f m k (core b) → OnPlanFor f (position FromOpen n) (afterwards i FromOpen) [] nothing e
       → Reaches f false (sync (position FromOpen n) (tally 0 0 k) b (idleAt x) e)
@@ -92,18 +96,7 @@ module _ {i : Image} (f : Frame i) (fx : Facts (i .geometry)) (v : Valid i) (hb 
   open-reaches {b = b} right one p st =
       listing f fx 3 0x0A (key 0x0A ∷ []) (plain-call 0x0A (omega arith) refl refl) refl (omega arith) (split (listed (i .geometry) 3 0x0A (key 0x0A ∷ [])) (program i) [] nothing st)
       (record { right = right; silicon = p .fresh .silicon; effect = p .effect ∙ one; room = p .fresh .room; quiet = p .fresh .quiet }) (rw (p .fresh .memory) one) λ b₁ r₁ n₁ e₁ st₁.
-      program-reaches f fx v (blank b₁ r₁) st₁
-    where
-      erased : (b₁ : Target) → ListReturned f 0x0A (key 0x0A ∷ []) b b₁ → b₁ .memory ≡ zeroed 1 m
-      erased b₁ r₁ = r₁ .memory ∙ effect-A _ _ _ _ _ ∙ rw (p .fresh .memory, one)
-
-      blank : (b₁ : Target) → ListReturned f 0x0A (key 0x0A ∷ []) b b₁ → {k : ℕ} → Blank f k (core b₁)
-      blank b₁ r₁ = record {
-        opened = r₁ .opened;
-        sized = rw (erased b₁ r₁) (zeroed-sized 1 m sz);
-        level = r₁ .level;
-        erased = rw (erased b₁ r₁) (total-zero (length (m .flash)));
-      }
+      program-reaches f fx v (blank (core b₁) (r₁ .opened) (r₁ .memory ∙ effect-A _ _ _ _ _ ∙ rw (p .fresh .memory, one))) st₁
 
   -- PROTECTED: reopen, steps 1 and 2 again, then 4 to 9
   protected-reaches : {n x k : ℕ} {e : Env} {b : Target} → RightIds i (f .silicon) → m .stored ≡ 2 → Acquired f m k (core b)
@@ -118,21 +111,14 @@ module _ {i : Image} (f : Frame i) (fx : Facts (i .geometry)) (v : Valid i) (hb 
       (split (call (i .geometry) 2 0 (key 0)) (read 2 (sysargOf (i .geometry)) Keep ++ read 2 (sysreqOf (i .geometry)) Reopened) (program i ++ []) (withMoves (program i) nothing)
       (split (silicon (i .geometry) Reopened) (program i) [] nothing st₂)) λ b₃ same n₃ e₃ st₃.
       rw (ids-read i (f .silicon) (zeroed 1 m) 1 hb, right .silicon, level-read (f .silicon) 1 hb (omega arith)) (
-      program-reaches f fx v (subst (Blank f _) (sym same) (blank b₂ k₂ a₂)) st₃)
+      program-reaches f fx v (subst (Blank f _) (sym same) (
+      blank (core b₂) (record { right = right; silicon = a₂ .fresh .silicon; effect = a₂ .effect; room = a₂ .fresh .room; quiet = a₂ .fresh .quiet }) (a₂ .fresh .memory))) st₃)
     where
       erased : (b₁ : Target) → Returned (i .geometry) 0x0D reopenWord b b₁ → b₁ .memory ≡ zeroed 1 m
       erased b₁ ret = ret .memory ∙ effect-reopen _ _ _ _ (p .effect ∙ two) ∙ rw (p .fresh .memory)
 
       fresh : (b₁ : Target) → Returned (i .geometry) 0x0D reopenWord b b₁ → {k : ℕ} → Fresh f (zeroed 1 m) k (core b₁)
       fresh b₁ ret = record { silicon = ret .silicon ∙ p .fresh .silicon; memory = erased b₁ ret; room = rw (ret .params) (p .fresh .room); quiet = ret .ended }
-
-      blank : (b₂ : Target) (k₂ : ℕ) → Acquired f (zeroed 1 m) k₂ (core b₂) → {k : ℕ} → Blank f k (core b₂)
-      blank b₂ k₂ a = record {
-        opened = record { right = right; silicon = a .fresh .silicon; effect = a .effect; room = a .fresh .room; quiet = a .fresh .quiet };
-        sized = rw (a .fresh .memory) (zeroed-sized 1 m sz);
-        level = ap (λ (z : Memory). z .stored) (a .fresh .memory);
-        erased = rw (a .fresh .memory) (total-zero (length (m .flash)));
-      }
 
   -- the entry that the level decides, or another part
   decided : {y : Entry} → Goes m y → (z : Bool) → rightSilicon i (f .silicon) ≡ z → (k : ℕ) {k₁ n : ℕ} {e : Env} {b : Target} → Acquired f m k₁ (core b)
@@ -143,18 +129,11 @@ module _ {i : Image} (f : Frame i) (fx : Facts (i .geometry)) (v : Valid i) (hb 
   decided (byOpen one) true h k p st =
       rw (eq-eqb (m .stored) 1 one) (
       open-reaches (record { idcode = p .idcode; silicon = h }) one (acquired-with p)
-      (record { at = st .at ∙ sym (append-nil (afterwards i FromOpen)); accounted = st .accounted; room = st .room; xres = st .xres; lines = st .lines; calm = st .calm }))
+      (at-place st (st .at ∙ sym (append-nil (afterwards i FromOpen)))))
   decided (byProtected two) true h k {n = n} p st =
       rw two (
       protected-reaches (record { idcode = p .idcode; silicon = h }) two (acquired-with p)
-      (record {
-        at = seam (opening i) (afterwards i FromOpen) (afterwards i FromProtected) (suc n) (st .at) (some-moves i) ∙ sym (append-nil (afterwards i FromProtected));
-        accounted = st .accounted;
-        room = st .room;
-        xres = st .xres;
-        lines = st .lines;
-        calm = st .calm;
-      }))
+      (at-place st (seam (opening i) (afterwards i FromOpen) (afterwards i FromProtected) (suc n) (st .at) (some-moves i) ∙ sym (append-nil (afterwards i FromProtected)))))
 
   -- the whole way
   pub start-reaches : {y : Entry} → Goes m y → {e : Env} {b : Target} → Fresh f m 0 (core b)

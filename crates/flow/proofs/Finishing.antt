@@ -7,14 +7,14 @@ use Prim.Native.Nat.{ℕ, suc, _+_, _-_, _/_, _%_}
 use native.Mathlib.Nat.{zero-mul}
 use native.Mathlib.Omega.{arith}
 use borrow.Author.Tests.{eq-eqb}
-use Rattle.flow.specs.Calls.{finish, effectOf, sysargAfter, sysreqAfter, afterFailure}
+use Rattle.flow.specs.Calls.{sysargAfter, sysreqAfter}
 use Rattle.flow.specs.Judge.{judge}
 use Rattle.flow.specs.Monitor.{noWaits, watching, noticeRead}
 use Rattle.flow.specs.Run.{Run}
 use Rattle.flow.specs.Sealing.{HoldsImage}
 use Rattle.flow.specs.Sequence.{key, call, read, privileged, inTurn, programRow, verifyRow, macroDown, lockAndVerify, program}
 use Rattle.flow.specs.Session.{position, running}
-use Rattle.flow.specs.Target.{Target, Memory, Residue}
+use Rattle.flow.specs.Target.{Target, Memory}
 use Rattle.flow.specs.Words.{free, succeeded, sumsFit}
 use Rattle.flow.specs.declared.Entry.{Entry}
 use Rattle.flow.specs.declared.Move.{Move}
@@ -28,16 +28,14 @@ use Rattle.flow.proofs.Access.{admits-open, read-still}
 use Rattle.flow.proofs.Calling.{sums, still-call}
 use Rattle.flow.proofs.Legs.{Core, core, Leg, halt}
 use Rattle.flow.proofs.Phases.{Valid, Opened, Sized, Wrote, Locked, wrote-all, all-held, none-locked, first-level}
-use Rattle.flow.proofs.Places.{place-sysarg}
+use Rattle.flow.proofs.Table.{place-sysarg, Facts}
 use Rattle.flow.proofs.Polling.{idleAt}
-use Rattle.flow.proofs.Programming.{rows-leg}
+use Rattle.flow.proofs.Writing.{rows-leg}
 use Rattle.flow.proofs.Reaches.{Allowance, withTransfer, withMoves, Env, sync, Frame, at-rest, OnPlan, OnPlanFor, split, Reaches, here, tally, seen, after}
-use Rattle.flow.proofs.Table.{Facts}
 use Rattle.flow.proofs.Verifying.{flash-leg, macros-leg, level-leg}
 use Rattle.image.specs.Image.{Image}
 use Rattle.lent.specs.Words.{total}
 use Rattle.parts.specs.Sizes.{rowBytes, macrosOf, rowsOf, sysargOf, levelAt}
-use Rattle.parts.specs.declared.Geometry.{Geometry}
 
 free-B : (x : Silicon) (l : ℕ) → free (sysreqAfter 0x0B x l) ≡ true
 unfolding free sysreqAfter

@@ -2,11 +2,11 @@
 use mathlib.Core.Bool.{Bool, true, false, false≢true}
 use mathlib.Core.List.{List, [], _∷_}
 use mathlib.Core.Path.{_≡_, refl, sym, subst}
-use Prim.Native.Nat.{ℕ, suc, _+_, _*_, _≤_}
+use Prim.Native.Nat.{ℕ, zero, suc, _+_, _*_, _≤_}
 use native.Mathlib.Omega.{arith}
 use lib.Dec.{eqb}
 use Rattle.flow.specs.Terms.{NoError, Calm, entryOf, delaysIn}
-use Rattle.flow.specs.Monitor.{noWaits, Monitor, linkError, noDelays}
+use Rattle.flow.specs.Monitor.{Monitor, linkError, noDelays}
 use Rattle.flow.specs.Plan.{noTraffic, trafficIn, isPoll, pollsIn, plan, mostTraffic}
 use Rattle.flow.specs.Run.{Run}
 use Rattle.flow.specs.Sealing.{HoldsImage}
@@ -16,15 +16,13 @@ use Rattle.flow.specs.Target.{Target, Memory, idle, Lists}
 use Rattle.flow.specs.declared.Entry.the-variants.{FromOpen}
 use Rattle.flow.specs.declared.Move.{Move}
 use Rattle.flow.specs.declared.Next.the-variants.{Stop}
-use Rattle.flow.specs.declared.Purpose.{Purpose}
-use Rattle.flow.specs.declared.Purpose.the-variants.{Sent, Idcode, TestBit, Poll, Status, Keep, EntryLevel, Reopened, FlashWord, LockWord, StoredLevel, LastSum}
 use Rattle.flow.specs.declared.Request.{Request}
 use Rattle.flow.specs.declared.Request.the-variants.{Xres, LineReset, ReadIdcode, ReadDrw, WriteTar, WriteDrw, WriteSetup}
 use Rattle.flow.specs.declared.Silicon.{Silicon}
 use Rattle.flow.proofs.Counting.{sequence-totals}
 use Rattle.flow.proofs.Finishing.{nothing}
 use Rattle.flow.proofs.Phases.{Level, isOpen, isProtected, isKill}
-use Rattle.flow.proofs.Reaches.{Allowance, withRead, withRequest, withMoves, with-moves-append, Env, rightSilicon, RightIds, Frame, Lasting, OnPlanFor, clear}
+use Rattle.flow.proofs.Reaches.{Allowance, pollRoom, withRequest, withMoves, with-moves-append, Env, rightSilicon, RightIds, Frame, Lasting, OnPlanFor, clear}
 use Rattle.flow.proofs.Table.{Facts}
 use Rattle.image.specs.Image.{Image}
 
@@ -36,19 +34,9 @@ pub record Costs (ms : List Move) (κ κ′ : Allowance) : Type 0 where
   pub xres : κ′ .xres ≡ (trafficIn ms) .xresets + κ .xres
   pub lines : κ′ .lines ≡ 30 * (trafficIn ms) .lineResets + κ .lines
 
-read-room : (u : Purpose) (κ : Allowance) → record { room : (withRead u κ) .room ≤ 17 + 509949 * isPoll u + κ .room; due : (withRead u κ) .due ≡ suc (κ .due); xres : (withRead u κ) .xres ≡ κ .xres; lines : (withRead u κ) .lines ≡ κ .lines }
-read-room Sent κ = record { room = omega arith; due = refl; xres = refl; lines = refl }
-read-room Idcode κ = record { room = omega arith; due = refl; xres = refl; lines = refl }
-read-room TestBit κ = record { room = omega arith; due = refl; xres = refl; lines = refl }
-read-room Poll κ = record { room = omega arith; due = refl; xres = refl; lines = refl }
-read-room Status κ = record { room = omega arith; due = refl; xres = refl; lines = refl }
-read-room Keep κ = record { room = omega arith; due = refl; xres = refl; lines = refl }
-read-room EntryLevel κ = record { room = omega arith; due = refl; xres = refl; lines = refl }
-read-room Reopened κ = record { room = omega arith; due = refl; xres = refl; lines = refl }
-read-room (FlashWord r o) κ = record { room = omega arith; due = refl; xres = refl; lines = refl }
-read-room (LockWord m o) κ = record { room = omega arith; due = refl; xres = refl; lines = refl }
-read-room StoredLevel κ = record { room = omega arith; due = refl; xres = refl; lines = refl }
-read-room LastSum κ = record { room = omega arith; due = refl; xres = refl; lines = refl }
+read-room : (n r : ℕ) → pollRoom n r ≤ 509949 * n + r
+read-room zero r = omega arith
+read-room (suc n) r = omega arith
 
 one-cost : (m : Move) (ms : List Move) (κ κ′ : Allowance) → Costs ms κ κ′ → Costs (m ∷ ms) κ (withRequest (m .request) (m .purpose) κ′)
 unfolding trafficIn pollsIn
@@ -59,8 +47,8 @@ one-cost m ms κ κ′ c = by (m .request)
     by LineReset = record { due = omega (arith, c .due); room = omega (arith, c .room); xres = omega (arith, c .xres); lines = omega (arith, c .lines) }
     by ReadIdcode = record { due = omega (arith, c .due); room = omega (arith, c .room); xres = omega (arith, c .xres); lines = omega (arith, c .lines) }
     by ReadDrw =
-        let r = read-room (m .purpose) κ′ in
-        record { due = omega (arith, c .due, r .due); room = omega (arith, c .room, r .room); xres = omega (arith, c .xres, r .xres); lines = omega (arith, c .lines, r .lines) }
+        let r = read-room (isPoll (m .purpose)) (κ′ .room) in
+        record { due = omega (arith, c .due); room = omega (arith, c .room, r); xres = omega (arith, c .xres); lines = omega (arith, c .lines) }
     by (WriteTar w) = record { due = omega (arith, c .due); room = omega (arith, c .room); xres = omega (arith, c .xres); lines = omega (arith, c .lines) }
     by (WriteDrw w) = record { due = omega (arith, c .due); room = omega (arith, c .room); xres = omega (arith, c .xres); lines = omega (arith, c .lines) }
     by (WriteSetup r w) = record { due = omega (arith, c .due); room = omega (arith, c .room); xres = omega (arith, c .xres); lines = omega (arith, c .lines) }

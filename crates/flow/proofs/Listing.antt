@@ -1,5 +1,5 @@
 -- A listed call, whatever the line and the target do. Assumes nothing.
-use mathlib.Core.Bool.{Bool, true, false}
+use mathlib.Core.Bool.{true, false}
 use mathlib.Core.Logic.{inl}
 use mathlib.Core.List.{List, [], _∷_, _++_, append-assoc, append-nil}
 use mathlib.Core.Path.{_≡_, refl, ap, _∙_}
@@ -20,10 +20,9 @@ use Rattle.flow.proofs.Calling.{asked, ordinary, calling}
 use Rattle.flow.proofs.Legs.{core}
 use Rattle.flow.proofs.Lists.{set-next}
 use Rattle.flow.proofs.Phases.{Opened, PlainCall, effect-level, steady, still-opened}
-use Rattle.flow.proofs.Places.{place-params}
+use Rattle.flow.proofs.Table.{place-params, Facts}
 use Rattle.flow.proofs.Polling.{idleAt}
 use Rattle.flow.proofs.Reaches.{Allowance, withMoves, Env, sync, Frame, at-rest, OnPlan, OnPlanFor, split, Reaches, tally}
-use Rattle.flow.proofs.Table.{Facts}
 use Rattle.image.specs.Image.{Image}
 use Rattle.parts.specs.Sizes.{rowBytes, sysargOf, PARAMS}
 

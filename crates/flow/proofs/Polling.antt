@@ -1,11 +1,11 @@
 -- A poll loop, whatever the line and the call do. Assumes nothing.
-use mathlib.Core.Bool.{Bool, true, false, _&&_, not}
+use mathlib.Core.Bool.{Bool, true, false}
 use mathlib.Core.List.{List, _++_}
 use mathlib.Core.Path.{_≡_, refl, _∙_}
 use Prim.Native.Nat.{ℕ, zero, suc, _+_, _*_, _-_, _/_, _%_}
 use native.Mathlib.Omega.{arith}
-use lib.Dec.{eqb, lit≤}
-use borrow.Author.Tests.{lt-ltb, le-ltb, eq-eqb, ne-eqb, eqb-true, eqb-false}
+use lib.Dec.{lit≤}
+use borrow.Author.Tests.{lt-ltb, le-ltb, ne-eqb}
 use Rattle.flow.specs.Calls.{finish, afterFailure}
 use Rattle.flow.specs.Exchange.{fetch}
 use Rattle.flow.specs.Judge.{judge}

@@ -1,7 +1,7 @@
 -- What a run is held to on its way: where it stands in the sequence, what it may still hand out, and where it leads. Assumes nothing.
 use mathlib.Core.List.{List, [], _∷_, _++_, append-assoc}
 use mathlib.Core.Path.{_≡_, refl, ap, sym, _∙_}
-use Prim.Native.Nat.{ℕ, suc, _+_, _≤_}
+use Prim.Native.Nat.{ℕ, zero, suc, _+_, _≤_}
 use native.Mathlib.Omega.{arith}
 use lib.Dec.{eqb}
 use lib.ListN.{getD, drop}
@@ -10,7 +10,7 @@ use mathlib.Core.Bool.{Bool, true, false, _&&_, not}
 use Rattle.flow.specs.Terms.{CalmLine, CalmCalls, NoError}
 use Rattle.flow.specs.Cuts.{cutMemory}
 use Rattle.flow.specs.Monitor.{Monitor, Waits, noWaits, Seen, watching, linkError, Watch, Delays, delayed}
-use Rattle.flow.specs.Plan.{Traffic, counting}
+use Rattle.flow.specs.Plan.{Traffic, counting, isPoll}
 use Rattle.flow.specs.Run.{Run, advance, handedOut}
 use Rattle.flow.specs.Sequence.{sequence, endMove, move}
 use Rattle.flow.specs.Session.{position, SessionState, running, reported, moveAt, standAfter}
@@ -24,7 +24,6 @@ use Rattle.flow.specs.declared.Move.{Move}
 use Rattle.flow.specs.declared.Next.{Next}
 use Rattle.flow.specs.declared.Position.{Position}
 use Rattle.flow.specs.declared.Purpose.{Purpose}
-use Rattle.flow.specs.declared.Purpose.the-variants.{Sent, Idcode, TestBit, Poll, Status, Keep, EntryLevel, Reopened, FlashWord, LockWord, StoredLevel, LastSum}
 use Rattle.flow.specs.declared.Request.{Request}
 use Rattle.flow.specs.declared.Request.the-variants.{Xres, LineReset, ReadIdcode, ReadDrw, WriteTar, WriteDrw, WriteSetup}
 use Rattle.flow.specs.declared.Silicon.{Silicon}
@@ -46,19 +45,12 @@ abbrev pub withTransfer : Allowance → Allowance
 withTransfer κ = record { due = suc (κ .due); room = 17 + κ .room; xres = κ .xres; lines = κ .lines }
 
 -- a poll 9,999 times three transfers more
+abbrev pub pollRoom : (polls room : ℕ) → ℕ
+pollRoom zero r = r
+pollRoom (suc n) r = 509949 + r
+
 abbrev pub withRead : Purpose → Allowance → Allowance
-withRead Sent κ = withTransfer κ
-withRead Idcode κ = withTransfer κ
-withRead TestBit κ = withTransfer κ
-withRead Poll κ = record { due = suc (κ .due); room = 17 + (509949 + κ .room); xres = κ .xres; lines = κ .lines }
-withRead Status κ = withTransfer κ
-withRead Keep κ = withTransfer κ
-withRead EntryLevel κ = withTransfer κ
-withRead Reopened κ = withTransfer κ
-withRead (FlashWord r o) κ = withTransfer κ
-withRead (LockWord m o) κ = withTransfer κ
-withRead StoredLevel κ = withTransfer κ
-withRead LastSum κ = withTransfer κ
+withRead u κ = record { due = suc (κ .due); room = 17 + pollRoom (isPoll u) (κ .room); xres = κ .xres; lines = κ .lines }
 
 -- an attempt 29 times more
 abbrev pub withRequest : Request → Purpose → Allowance → Allowance
@@ -205,6 +197,10 @@ pub record OnPlan {i : Image} (f : Frame i) (y : Entry) (n : ℕ) (ms : List Mov
 pub less-room : {i : Image} {f : Frame i} {y : Entry} {n : ℕ} {ms : List Move} {κ : Allowance} {e : Env} (r : ℕ) → r ≤ κ .room → OnPlan f y n ms κ e
     → OnPlan f y n ms (record { due = κ .due; room = r; xres = κ .xres; lines = κ .lines }) e
 less-room r h st = record { at = st .at; accounted = st .accounted; room = omega (arith, st .room); xres = st .xres; lines = st .lines; calm = st .calm }
+
+-- the same cost from another place on
+pub at-place : {i : Image} {f : Frame i} {y y′ : Entry} {n n′ : ℕ} {ms ms′ : List Move} {κ : Allowance} {e : Env} → OnPlan f y n ms κ e → drop n′ (sequence i y′) ≡ ms′ → OnPlan f y′ n′ ms′ κ e
+at-place st h = record { at = h; accounted = st .accounted; room = st .room; xres = st .xres; lines = st .lines; calm = st .calm }
 
 -- the moves of ms, then the rest, and what they may cost
 abbrev pub OnPlanFor : {i : Image} → Frame i → Position → (ms later : List Move) → Allowance → Env → Type 0

@@ -28,12 +28,10 @@ use Rattle.flow.proofs.Demand.{right-ids, met-traffic}
 use Rattle.flow.proofs.Entering.{reopenWord, seam, some-moves}
 use Rattle.flow.proofs.Frames.{costs, firstEnv}
 use Rattle.flow.proofs.Legs.{core}
-use Rattle.flow.proofs.Passing.{table-facts}
-use Rattle.flow.proofs.Phases.{callD}
-use Rattle.flow.proofs.Places.{place-sysreq, place-sysarg}
+use Rattle.flow.proofs.Phases.{table-facts, callD}
+use Rattle.flow.proofs.Table.{place-sysreq, place-sysarg, Facts}
 use Rattle.flow.proofs.Polling.{idleAt}
-use Rattle.flow.proofs.Reaches.{Allowance, withMoves, Env, sync, RightIds, Frame, Lasting, OnPlanFor, split, Reaches, here, stop, step, tally, seen}
-use Rattle.flow.proofs.Table.{Facts}
+use Rattle.flow.proofs.Reaches.{Allowance, withMoves, Env, sync, RightIds, Frame, Lasting, OnPlanFor, at-place, split, Reaches, here, stop, step, tally, seen}
 use Rattle.image.specs.Image.{Image, imageOf}
 use Rattle.image.specs.declared.Header.{Header}
 use Rattle.parts.specs.Sizes.{sysreqOf, sysargOf}
@@ -159,7 +157,7 @@ module _ (i : Image) (b : Target) (right : RightIds i (b .silicon)) where
           traffic = e₂ .traffic;
         })) (sym (enters hb n₂ (e₂ .traffic .transfers))) (
         reopens later (acquired-with (subst (Acquired short (b .memory) k₁) (sym same) a₁))
-        (record { at = on-to (suc n₂) (st₂ .at); accounted = st₂ .accounted; room = st₂ .room; xres = st₂ .xres; lines = st₂ .lines; calm = st₂ .calm }))
+        (at-place st₂ (on-to (suc n₂) (st₂ .at))))
 
 -- for an image that passes
 pub comes-to-reopen : (g : Geometry) (h : Header) (bytes : List ℕ) → Passes g h bytes → (b : Target) → Startable g b → b .memory .stored ≡ 2

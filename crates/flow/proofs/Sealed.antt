@@ -12,8 +12,7 @@ use Rattle.flow.specs.Session.{reported}
 use Rattle.flow.specs.Target.{Target, Lists}
 use Rattle.flow.proofs.Demand.{stays, finished-ends, stopped-ends, not-zero, way}
 use Rattle.flow.proofs.Frames.{Held, Stopped, Finished, frame}
-use Rattle.flow.proofs.Passing.{valid}
-use Rattle.flow.proofs.Phases.{Level}
+use Rattle.flow.proofs.Phases.{valid, Level}
 use Rattle.flow.proofs.Reaches.{Frame, Lasting, at-rest, going, without, reopening, sealing, same-running, no-seal, seal-succeeds, Reaches, here, stop, step}
 use Rattle.image.specs.Image.{Image, imageOf}
 

@@ -1,37 +1,36 @@
--- The examples of how an answer moves a session on hold. Assumes nothing.
+-- The examples of keys, judgements, of how an answer moves a session on, and of the order of steps 7 and 8 hold. Assumes nothing.
 use mathlib.Core.Bool.{Bool, true, false}
-use mathlib.Core.Path.{_≡_, refl}
+use mathlib.Core.List.{[], _∷_}
+use mathlib.Core.Path.{refl, _≡_}
 use Prim.Native.Nat.{ℕ}
 use lib.Count.{ones}
+use borrow.Author.Needs.{needs}
+use Rattle.flow.specs.Examples.{p5, p6, p7}
 use Rattle.flow.specs.Judge.{judge}
+use Rattle.flow.specs.Judgements.{JudgeExamples}
+use Rattle.flow.specs.OrderExamples.{marks, OrderExamples}
 use Rattle.flow.specs.Packets.{verdict, heard, broken}
-use Rattle.flow.specs.Sequence.{sequence, opening, acquire, silicon, call, write, read, writes, listed, inTurn, imoCall, privileged, programRow, program, lockMacro, verifyMacro, afterwards}
+use Rattle.flow.specs.Sequence.{write, read, call, writes, listed, privileged, programRow, sequence, opening, acquire, silicon, inTurn, imoCall, program, lockMacro, verifyMacro, afterwards, verifyRow}
 use Rattle.flow.specs.Session.{stepOf}
 use Rattle.flow.specs.SessionExamples.{MoveExamples, AnswerExamples, Ends, SessionExamples}
+use Rattle.flow.specs.Words.{free, testBitSet, succeeded, idsFit, levelShown, sumsFit}
 use Rattle.flow.proofs.Mishaps.{right, right-idcode}
 use Rattle.lent.specs.Words.{wordAt, wordsAt}
-use Rattle.parts.specs.Sizes.{rowsOf, locksIn, lockStart}
+use Rattle.parts.specs.Sizes.{locksIn, lockStart, rowsOf}
+use Rattle.wire.specs.Examples.{Each, none, more}
 use Rattle.wire.specs.Wire.{ackOf}
-use Rattle.flow.specs.Words.{free, succeeded}
+
+pub key-examples : Each (p5 ∷ p6 ∷ p7 ∷ [])
+unfolding write read call writes listed privileged programRow wordAt wordsAt
+key-examples = more refl (more refl (more refl none))
+
+pub judge-examples : JudgeExamples
+unfolding wordAt locksIn lockStart judge free testBitSet succeeded idsFit levelShown sumsFit
+judge-examples = search needs
 
 pub move-examples : MoveExamples
 unfolding sequence opening acquire silicon call write read writes listed inTurn imoCall privileged programRow program lockMacro verifyMacro afterwards rowsOf locksIn lockStart wordAt wordsAt
-move-examples = record {
-  xres = refl;
-  idcode = refl;
-  setup = refl;
-  testMode = refl;
-  stale = refl;
-  poll = refl;
-  imo = refl;
-  identify = refl;
-  erase = refl;
-  reopened = refl;
-  row = refl;
-  nextRow = refl;
-  lock = refl;
-  locks = refl;
-}
+move-examples = search needs
 
 pub answer-examples : AnswerExamples
 answer-examples = record { xres = refl; lineReset = refl; acknowledged = refl; read = refl; attempt = refl; written = refl; resetDone = refl }
@@ -74,3 +73,7 @@ session-examples = record {
   statusAt5 = rw (move-examples .row, right 0xF0000000);
   stays = λ number step transfers a. refl;
 }
+
+pub order-examples : OrderExamples
+unfolding marks write read call writes listed inTurn privileged programRow verifyRow lockMacro verifyMacro program wordAt wordsAt rowsOf locksIn lockStart
+order-examples = record { one = refl; two = refl; three = refl }

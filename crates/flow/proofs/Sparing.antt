@@ -10,7 +10,7 @@ use Rattle.flow.specs.Terms.{entryOf}
 use Rattle.flow.proofs.Demand.{right-part, stays, goes}
 use Rattle.flow.proofs.Entering.{start-reaches}
 use Rattle.flow.proofs.Frames.{start-on-plan}
-use Rattle.flow.proofs.Passing.{table-facts, valid}
+use Rattle.flow.proofs.Phases.{table-facts, valid}
 use Rattle.flow.proofs.Reaches.{RightIds, Frame, going, Reaches, here, stop, step}
 use Rattle.image.specs.Image.{Image, imageOf}
 use Rattle.flow.specs.declared.Next.the-variants.{Stop}

@@ -1,7 +1,7 @@
 -- One transfer outside the attempts, whatever the line does. Assumes nothing.
 use mathlib.Core.Bool.{Bool, true, false, cond}
 use mathlib.Core.List.{List, _∷_}
-use mathlib.Core.Path.{_≡_, refl, ap}
+use mathlib.Core.Path.{_≡_, refl}
 use Prim.Native.Nat.{ℕ, zero, suc, _+_}
 use native.Mathlib.Omega.{arith}
 use lib.Dec.{lit≤}
@@ -9,12 +9,12 @@ use borrow.Author.Tests.{lt-ltb, le-ltb, eq-eqb}
 use Rattle.flow.specs.Terms.{CalmLine, calmEnd, calmEvent, CalmCalls, callsEnd, calmCall}
 use Rattle.flow.specs.Exchange.{carry, gives, barred, killed, callsOn, Met, transferred}
 use Rattle.flow.specs.Judge.{withWaits, judge}
-use Rattle.flow.specs.Monitor.{Delays, Waits, noWaits, waitsOn, Monitor, watching, Watch, oneWait, waitsOf, watchBy, noticed, watch}
+use Rattle.flow.specs.Monitor.{Delays, Waits, noWaits, waitsOn, Monitor, Watch, oneWait, waitsOf, watchBy, noticed, watch}
 use Rattle.flow.specs.Packets.{Verdict, again, verdict, packetOf, byteIn, wordIn}
 use Rattle.flow.specs.Plan.{Traffic, counting}
 use Rattle.flow.specs.Run.{Run, advance}
 use Rattle.flow.specs.Sequence.{move}
-use Rattle.flow.specs.Session.{position, running, heardBy, stepOf}
+use Rattle.flow.specs.Session.{position, heardBy, stepOf}
 use Rattle.flow.specs.Target.{Target, Lists, CallOutcome, nextEvent, nextOutcome, rest}
 use Rattle.flow.specs.declared.Counters.{Counters}
 use Rattle.flow.specs.declared.Entry.{Entry}

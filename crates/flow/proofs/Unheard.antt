@@ -28,7 +28,7 @@ use Rattle.flow.specs.declared.TransferOutcome.the-variants.{Silent}
 use Rattle.flow.proofs.Calling.{failed}
 use Rattle.flow.proofs.Decoding.{attempt, decodes}
 use Rattle.flow.proofs.Hearing.{silence-heard}
-use Rattle.flow.proofs.Meeting.{carried-keeps}
+use Rattle.flow.proofs.Keeping.{carried-keeps}
 use Rattle.flow.proofs.Reaches.{same-running, no-seal, and-false}
 use Rattle.image.specs.Image.{Image}
 use Rattle.parts.specs.declared.Geometry.{Geometry}

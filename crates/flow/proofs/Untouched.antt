@@ -13,7 +13,7 @@ use Rattle.flow.specs.declared.Place.the-variants.{InFlash, InLocks, InP
 use Rattle.flow.specs.declared.Request.{Request}
 use Rattle.flow.specs.declared.Request.the-variants.{Xres, LineReset, ReadIdcode, ReadDrw, WriteTar, WriteDrw, WriteSetup}
 use Rattle.flow.proofs.Calling.{Harmless, still}
-use Rattle.flow.proofs.Meeting.{carried-keeps, request-keeps}
+use Rattle.flow.proofs.Keeping.{carried-keeps, request-keeps}
 use Rattle.parts.specs.declared.Geometry.{Geometry}
 
 abbrev Resting : Running → Type 0

@@ -11,6 +11,7 @@ use Rattle.flow.specs.Exchange.{levelWord}
 use Rattle.flow.specs.Judge.{goIf, judge}
 use Rattle.flow.specs.Map.{place}
 use Rattle.flow.specs.Monitor.{noticeRead}
+use Rattle.flow.specs.Plan.{isPoll}
 use Rattle.flow.specs.Sequence.{read, inTurn, compareWords, verifyRow, lockMacro, verifyMacro, macroDown, lockAndVerify}
 use Rattle.flow.specs.Session.{position, running}
 use Rattle.flow.specs.Target.{Target, idle}
@@ -24,12 +25,11 @@ use Rattle.flow.specs.declared.Purpose.the-variants.{FlashWord, LockWord
 use Rattle.flow.proofs.Access.{aim, admits-open, read-still}
 use Rattle.flow.proofs.Legs.{Core, core, Known, Leg, halt, leg-append, leg-pieces}
 use Rattle.flow.proofs.Lists.{same-word}
-use Rattle.flow.proofs.Locking.{macro-leg}
+use Rattle.flow.proofs.Writing.{macro-leg}
 use Rattle.flow.proofs.Phases.{Level, isOpen, isProtected, isKill, Valid, Wrote, Locked, all-held, level-safe, wrote-all}
-use Rattle.flow.proofs.Places.{place-flash, place-locks, place-level}
+use Rattle.flow.proofs.Table.{place-flash, place-locks, place-level, Facts}
 use Rattle.flow.proofs.Polling.{idleAt}
-use Rattle.flow.proofs.Reaches.{Allowance, withTransfer, withRead, withMoves, Env, sync, Frame, at-rest, OnPlan, OnPlanFor, Reaches, tally}
-use Rattle.flow.proofs.Table.{Facts}
+use Rattle.flow.proofs.Reaches.{Allowance, withMoves, Env, sync, Frame, at-rest, OnPlan, OnPlanFor, Reaches, tally}
 use Rattle.lent.proofs.Words.{part-word}
 use Rattle.image.specs.Image.{Image}
 use Rattle.lent.specs.Words.{wordAt}
@@ -51,7 +51,7 @@ level-read isKill o = let e : (o / 0x10000000 * 0x10000000 + 4 * 0x1000000 + o %
 -- a purpose that takes the word w, and costs what any read does
 record Takes (i : Image) (u : Purpose) (w : ℕ) : Type 0 where
   pub judged : (k : ℕ) → judge i u (tally 0 0 k) w ≡ Go Onward (tally 0 0 k)
-  pub cost : (κ : Allowance) → withRead u κ ≡ withTransfer κ
+  pub cost : isPoll u ≡ 0
 
 same-go : (y : Bool) (number k : ℕ) → y ≡ true → goIf y number (tally 0 0 k) ≡ Go Onward (tally 0 0 k)
 same-go true number k e = refl
@@ -62,14 +62,14 @@ takes-flash : (i : Image) (r o : ℕ) → o + 4 ≤ rowBytes (i .geometry) → T
 unfolding judge
 takes-flash i r o h = record {
   judged = λ k. same-go _ 22 k (eq-eqb _ _ (sym (part-word (i .flash) (r * rowBytes (i .geometry)) (rowBytes (i .geometry)) o h)));
-  cost = λ κ. refl;
+  cost = refl;
 }
 
 takes-locks : (i : Image) (m o : ℕ) → o + 4 ≤ locksIn (i .geometry) m → Takes i (LockWord m o) (wordAt (i .protection) (lockStart (i .geometry) m + o))
 unfolding judge
 takes-locks i m o h = record {
   judged = λ k. same-go _ 23 k (eq-eqb _ _ (sym (part-word (i .protection) (lockStart (i .geometry) m) (locksIn (i .geometry) m) o h)));
-  cost = λ κ. refl;
+  cost = refl;
 }
 
 module _ {i : Image} (f : Frame i) (y : Entry) where
@@ -79,10 +79,10 @@ module _ {i : Image} (f : Frame i) (y : Entry) where
       → Reaches f z (sync (position y n) (tally 0 0 k) b (idleAt x) e)
   unfolding noticeRead withMoves read
   word-reaches s a w u takes {z = z} {k = k} {κ = κ} {b = b} (flashHolds o hp hw) he quiet safe st next =
-      read-still f s a u (rw (takes .cost κ) at st) (InFlash o) hp (admits-open (b .effect) (InFlash o) he) (at-rest (f .Safe z) b quiet safe) (λ _. w) (λ _ _. rw hw) λ _ _ e′ h st′.
+      read-still f s a u (rw (takes .cost) at st) (InFlash o) hp (admits-open (b .effect) (InFlash o) he) (at-rest (f .Safe z) b quiet safe) (λ _. w) (λ _ _. rw hw) λ _ _ e′ h st′.
       rw (takes .judged k) (next _ e′ st′)
   word-reaches s a w u takes {z = z} {k = k} {κ = κ} {b = b} (locksHold o hp hw) he quiet safe st next =
-      read-still f s a u (rw (takes .cost κ) at st) (InLocks o) hp (admits-open (b .effect) (InLocks o) he) (at-rest (f .Safe z) b quiet safe) (λ _. w) (λ _ _. rw hw) λ _ _ e′ h st′.
+      read-still f s a u (rw (takes .cost) at st) (InLocks o) hp (admits-open (b .effect) (InLocks o) he) (at-rest (f .Safe z) b quiet safe) (λ _. w) (λ _ _. rw hw) λ _ _ e′ h st′.
       rw (takes .judged k) (next _ e′ st′)
 
   -- where P holds, OPEN is in effect, and the words from a on are those that u takes

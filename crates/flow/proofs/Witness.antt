@@ -18,7 +18,7 @@ use Rattle.flow.specs.Run.{Run, runAfter, started}
 use Rattle.flow.specs.Session.{reported}
 use Rattle.flow.specs.Target.{Target, idle}
 use Rattle.flow.proofs.Demand.{run-demand3-holds}
-use Rattle.flow.proofs.Faulted.{secondFaults, faulted}
+use Rattle.flow.proofs.Failing.{secondFaults, faulted}
 use Rattle.flow.proofs.Zeros.{zeros, zeros-take, total-zeros, none-cancels}
 use Rattle.image.specs.Checks.{imageIdFits, faultIn}
 use Rattle.image.specs.Image.{imageOf, flashIn}

@@ -5,7 +5,6 @@ use Prim.Native.Nat.{ℕ, suc, _*_}
 use lib.Dec.{eqb, ltb}
 use Rattle.flow.specs.Words.{testBitSet, free, succeeded, idsFit, levelIn, levelShown, sumsFit}
 use Rattle.flow.specs.declared.Counters.{Counters}
-use Rattle.flow.specs.declared.Entry.{Entry}
 use Rattle.flow.specs.declared.Entry.the-variants.{FromOpen, FromProtected}
 use Rattle.flow.specs.declared.Next.{Next}
 use Rattle.flow.specs.declared.Next.the-variants.{Go, Stop}
@@ -17,7 +16,6 @@ use Rattle.lent.specs.Words.{sameWord, partOf}
 use Rattle.image.specs.declared.Header.{Header}
 use Rattle.parts.specs.Sizes.{rowBytes, locksIn, lockStart}
 use Rattle.parts.specs.declared.Geometry.{Geometry}
-use Rattle.parts.specs.Parts.{lowFits}
 
 -- ---- counters, each changed by its name
 

@@ -2,7 +2,7 @@
 use mathlib.Core.Path.{_≡_, refl, sym, ap, subst, _∙_}
 use Prim.Native.Nat.{ℕ, _-_, _≤_}
 use native.Mathlib.Omega.{arith}
-use Rattle.flow.proofs.Silenced.{Attempting, atXres, atLineReset, atIdcode, atReport, run-attempting, at-end}
+use Rattle.flow.proofs.Failing.{Attempting, atXres, atLineReset, atIdcode, atReport, run-attempting, at-end}
 use Rattle.flow.specs.Plan.{mostTraffic, plan, loops}
 use Rattle.flow.specs.Run.{runAfter, started}
 use Rattle.flow.specs.Session.{running, reported}

@@ -3,7 +3,7 @@ use mathlib.Core.List.{List}
 use mathlib.Core.Path.{_≡_, refl, ap, subst, _∙_}
 use Prim.Native.Nat.{ℕ}
 use borrow.Author.Tests.{eq-eqb}
-use Rattle.flow.proofs.Meeting.{packet-keeps}
+use Rattle.flow.proofs.Keeping.{packet-keeps}
 use Rattle.flow.specs.Calls.{reset}
 use Rattle.flow.specs.Exchange.{decode, transferred, meetOn, meet}
 use Rattle.flow.specs.Target.{Memory, idle, Target, Lists}

@@ -7,7 +7,8 @@ use native.Mathlib.Omega.{arith}
 use lib.ListN.{length, take-append-drop}
 use borrow.Author.Tests.{lt-ltb}
 use Rattle.flow.proofs.Demand.{run-demand3-holds}
-use Rattle.flow.proofs.Early.{never-fewer, early-spared}
+use Rattle.flow.proofs.Counting.{adds, never-fewer}
+use Rattle.flow.proofs.Early.{early-spared}
 use Rattle.flow.proofs.Sparing.{other-part-spared}
 use Rattle.flow.proofs.Undisturbed.{after-used, undisturbed-holds}
 use Rattle.flow.specs.Claim.{Undisturbed}
@@ -21,7 +22,6 @@ use Rattle.flow.specs.Target.{Target, Lists}
 use Rattle.flow.specs.declared.Entry.{Entry}
 use Rattle.flow.specs.declared.Entry.the-variants.{FromOpen, FromProtected}
 use Rattle.flow.specs.declared.Request.{Request}
-use Rattle.flow.specs.declared.Request.the-variants.{Xres, LineReset, ReadIdcode, ReadDrw, WriteTar, WriteDrw, WriteSetup}
 use Rattle.image.proofs.Refusals.{Passed, all-passed}
 use Rattle.image.specs.Checks.{imageFault}
 use Rattle.image.specs.Image.{Image, imageOf}
@@ -94,13 +94,7 @@ module _ (g : Geometry) (h : Header) (bytes : List ℕ) (p : Passes g h bytes) w
 -- ---- the count of a run never meets the stop
 
 grows : (q : Request) (t : Traffic) → t .transfers ≤ (counting q t) .transfers
-grows Xres t = omega arith
-grows LineReset t = omega arith
-grows ReadIdcode t = omega arith
-grows ReadDrw t = omega arith
-grows (WriteTar w) t = omega arith
-grows (WriteDrw w) t = omega arith
-grows (WriteSetup r w) t = omega arith
+grows q t = omega (arith, (adds q t) .transfers)
 
 handed-xresets : (i : Image) (x : Flow.SessionState) (t : Traffic) → t .xresets ≤ (handedOutBy i x t) .xresets
 handed-xresets i (running o d h) t = never-fewer ((moveAt i o) .request) t
