@@ -19,7 +19,8 @@ use Rattle.layout.proofs.Bytes.{put-in}
 use Rattle.lent.specs.Words.{lowFirst}
 use Rattle.layout.specs.Bytes.{wordPut}
 use Rattle.session.specs.declared.Session.{Session}
-use Rattle.storing.proofs.Storing.{stored, part-short, sets-append}
+use Rattle.lent.proofs.Lists.{sets-append}
+use Rattle.storing.proofs.Storing.{stored, part-short}
 use Rattle.storing.specs.Storing.{storedAt}
 
 -- bytes that fit are stored from the start on, and others are not

@@ -46,7 +46,7 @@ module _ (g : Geometry) (text image₀ header₀ : List ℕ) (z : ToFill g image
       pub store-bounds : (at < next) × (next ≤ length text) × (1 ≤ count) × (count ≤ 255) × (4 + count ≤ length row) × (count ≤ due .section .size)
       store-bounds = let u = rw e at turn in (u .1, u .2, u .3, u .4, u .5, u .6)
 
-      pub store-asks : (due .section .offset + due .section .size ≤ 131072) × (due .section .address + due .section .size ≤ 4294967296) × (due .next ≤ 5)
+      pub store-asks : (due .section .offset + due .section .size ≤ 131072) × (due .section .address + due .section .size ≤ 0x100000000) × (due .next ≤ 5)
           × (count ≤ 255)
           × (count ≤ due .section .size)
       store-asks =

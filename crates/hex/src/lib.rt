@@ -1,6 +1,6 @@
 // Intel hex text: reading (document 01, 'Hex text').
 ghost use mathlib.Core.Path.{_≡_};
-ghost use Prim.Native.Nat.{_+_, _*_, _≤_};
+ghost use Prim.Native.Nat.{_+_, _≤_};
 ghost use lib.ListN.{length};
 ghost use Rattle.hex_format.specs.HexFormat.{hexFormat};
 ghost use Rattle.hex_format.specs.Texts.{contentOf, hexReading};
@@ -22,7 +22,7 @@ use text::Scanned;
 
 // What is due after count bytes.
 fn advanced(g: Geometry, due: Due, count: usize) -> Due
-    requires { ⌜ (due .section .offset + due .section .size ≤ 131072) × (due .section .address + due .section .size ≤ 4294967296) × (due .next ≤ 5) × (count ≤ 255) × (count ≤ due .section .size) ⌝ }
+    requires { ⌜ (due .section .offset + due .section .size ≤ 131072) × (due .section .address + due .section .size ≤ 0x100000000) × (due .next ≤ 5) × (count ≤ 255) × (count ≤ due .section .size) ⌝ }
     ensures { λ r. ⌜ r ≡ advancedOf g due count ⌝ }
 {
     let s = due.section;

@@ -22,13 +22,6 @@ use Rattle.text.specs.Scanning.{dues}
 use Rattle.pairs.proofs.Lines.{some-line}
 use Rattle.hex_records.proofs.Bodies.{payloadIn, payload-length}
 
-lt-of-ne : (a b : ℕ) → a ≤ b → (a ≡ b → ⊥) → a < b
-lt-of-ne a b h n = go (eqb a b) refl
-  where
-    go : (t : Bool) → eqb a b ≡ t → a < b
-    go true e = absurd (n (eqb-true a b e))
-    go false e = omega (arith, eqb-false a b e)
-
 -- nothing is left
 no-lines : (s : List ℕ) (at : ℕ) → length s ≤ at → linesOf (drop at s) ≡ []
 unfolding linesOf
@@ -106,7 +99,7 @@ module _ (s : List ℕ) (at next u : ℕ) (due : Section) (row : List ℕ) (l : 
   followed h =
       let f = some-line (getD s next 0) (drop (suc next) s) in
       let i = l .inside in
-      let e : linesOf (drop next s) ≡ f .0 ∷ f .1 = ap linesOf (drop-cons s next 0 (lt-of-ne next (length s) i h)) ∙ f .2 in
+      let e : linesOf (drop next s) ≡ f .0 ∷ f .1 = ap linesOf (drop-cons s next 0 (omega arith)) ∙ f .2 in
       ends [] ∙ rw e
 
   early : (ss : List Section) → contentAt s at u (due ∷ ss) ≡ Refusal 5

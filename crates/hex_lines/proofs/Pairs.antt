@@ -9,7 +9,7 @@ use lib.Seq.{sets, drop-cons}
 use Rattle.hex_lines.specs.Lines.{capitalsFrom}
 use Rattle.hex_format.specs.Written.{sumByte, lineText}
 use Rattle.lent.specs.Words.{total}
-use Rattle.storing.proofs.Storing.{sets-append}
+use Rattle.lent.proofs.Lists.{sets-append}
 use Rattle.pairs.specs.Digits.{capital, pairsOf}
 
 -- the table's entry is the capital

@@ -1,7 +1,7 @@
 -- Laws of lines and of the lines of pieces. Assumes nothing.
 use mathlib.Core.List.{List, [], _∷_, _++_, append-assoc, append-nil}
 use mathlib.Core.Path.{_≡_, refl, sym, ap, _∙_}
-use Prim.Native.Nat.{ℕ, _+_, _*_, _/_, _%_, _≤_}
+use Prim.Native.Nat.{ℕ, _+_, _*_, _≤_}
 use native.Mathlib.Omega.{arith}
 use borrow.Author.Tests.{eq-eqb, ne-eqb}
 use lib.ListN.{length, length-append}
@@ -11,7 +11,7 @@ use Rattle.hex_writer.specs.Lines.{onePiece, upperPast, positionAfter}
 use Rattle.hex_writer.specs.declared.Position.{Position}
 use Rattle.hex_lines.proofs.Lines.{data-length, extended-length, data-room, upper-room as extended-room}
 use Rattle.hex_lines.specs.Lines.{linePut, dataPut}
-use Rattle.storing.proofs.Storing.{sets-append}
+use Rattle.lent.proofs.Lists.{sets-append}
 use Rattle.text.specs.Placing.{Piece}
 
 -- the type 4 record: none while the upper half stays, else one

@@ -1,11 +1,8 @@
 -- Laws of the pieces of a section, and of the sections. Assumes nothing.
-use mathlib.Core.Bool.{Bool, true, false}
 use mathlib.Core.List.{List, [], _++_}
 use mathlib.Core.Path.{_≡_, refl, sym, ap, _∙_}
 use Prim.Native.Nat.{ℕ, min, zero, suc, _+_, _-_, _*_, _/_, _≤_, _<_}
 use native.Mathlib.Omega.{arith}
-use borrow.Author.Tests.{leb-true, leb-false}
-use lib.Dec.{leb}
 use lib.ListN.{length, take, drop, length-drop, length-take, drop-of-length-le}
 use lib.Seq.{sets, take-all, drop-drop}
 use Rattle.hex_format.specs.Written.{linesFrom}
@@ -19,7 +16,8 @@ use Rattle.sections.specs.declared.Location.the-variants.{InFlash, InProtection
 use Rattle.sections.specs.declared.Section.{Section}
 use Rattle.parts.specs.Sizes.{flashSize}
 use Rattle.parts.specs.declared.Geometry.{Geometry}
-use Rattle.storing.proofs.Storing.{tail-part}
+use Rattle.lent.proofs.Lists.{take-min, drop-min}
+use Rattle.lent.proofs.Lists.{tail-part}
 use Rattle.text.specs.Placing.{Piece, cut, piecesIn}
 
 -- some pieces were put, from a position on
@@ -36,30 +34,15 @@ pub cut-none : (n a : ℕ) (bs : List ℕ) → n ≡ 0 → cut n a bs ≡ []
 unfolding cut
 cut-none n a bs e = rw e
 
--- as much as there is
-pub take-min : (n : ℕ) (l : List ℕ) → take (min n (length l)) l ≡ take n l
-take-min n l = go (leb n (length l)) refl
-  where
-    go : (b : Bool) → leb n (length l) ≡ b → take (min n (length l)) l ≡ take n l
-    go true q = let h = leb-true n (length l) q in let e : min n (length l) ≡ n = omega arith in rw e
-    go false q = let h = leb-false n (length l) q in take-all (min n (length l)) l (omega arith) ∙ sym (take-all n l (omega arith))
-
-pub drop-min : (n : ℕ) (l : List ℕ) → drop (min n (length l)) l ≡ drop n l
-drop-min n l = go (leb n (length l)) refl
-  where
-    go : (b : Bool) → leb n (length l) ≡ b → drop (min n (length l)) l ≡ drop n l
-    go true q = let h = leb-true n (length l) q in let e : min n (length l) ≡ n = omega arith in rw e
-    go false q = let h = leb-false n (length l) q in drop-of-length-le l {i = min n (length l)} (omega arith) ∙ sym (drop-of-length-le l {i = n} (omega arith))
-
 -- how far the loop over a section's pieces has come
 pub record Piecing (text₀ : List ℕ) (w₀ : Position) (address : ℕ) (bytes text : List ℕ) (w : Position) (a from left : ℕ) : Type 0 where
   pub going : lines.Going text₀ w₀ (cut ((length bytes + 63) / 64) address bytes) text w (cut left a (drop from bytes))
   pub within : from ≤ length bytes
   pub count : left ≡ (length bytes - from + 63) / 64
-  pub high : a + 64 * left < 4294967296
+  pub high : a + 64 * left < 0x100000000
 
 pub start : (text : List ℕ) (w : Position) (address : ℕ) (bytes : List ℕ)
-    → address + length bytes + 64 ≤ 4294967296
+    → address + length bytes + 64 ≤ 0x100000000
     → positionAfter w (cut ((length bytes + 63) / 64) address bytes) .at ≤ length text
     → Piecing text w address bytes text w address 0 ((length bytes + 63) / 64)
 start text w address bytes h r = record { going = lines.start text w _ r; within = omega arith; count = omega arith; high = omega arith }
@@ -112,7 +95,7 @@ module _ (part : List ℕ) (s : Section) (laid : Laid part s) where
 
   module _ (text : List ℕ) (w : Position) where
     pub section-asks : positionAfter w (piecesOf part s) .at ≤ length text
-        → (s .address + length lent + 64 ≤ 4294967296) × (positionAfter w (cut ((length lent + 63) / 64) (s .address) lent) .at ≤ length text)
+        → (s .address + length lent + 64 ≤ 0x100000000) × (positionAfter w (cut ((length lent + 63) / 64) (s .address) lent) .at ≤ length text)
     section-asks room = (omega (arith, lent-size, laid .high), rw cuts room)
 
     pub section-put : (text′ : List ℕ) (w′ : Position) → Put text w (cut ((length lent + 63) / 64) (s .address) lent) text′ w′

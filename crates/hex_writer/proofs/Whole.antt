@@ -17,7 +17,7 @@ use Rattle.sections.specs.declared.Section.{Section}
 use Rattle.parts.specs.Sizes.{flashSize, imageSize}
 use Rattle.parts.specs.declared.Geometry.{Geometry}
 use Rattle.text.proofs.Laid.{roomy-at, laid-at}
-use Rattle.storing.proofs.Storing.{sets-append}
+use Rattle.lent.proofs.Lists.{sets-append}
 use Rattle.text.specs.Placing.{Piece, cut, piecesIn, pieces, overall}
 use Rattle.text.specs.Sized.{TableSizes, Sized, Laid}
 

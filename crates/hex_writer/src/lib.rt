@@ -56,7 +56,7 @@ fn put_piece(text: &mut [u8], position: Position, address: u32, payload: &[u8]) 
 
 // Puts the lines of a section's pieces.
 fn put_section(text: &mut [u8], position: Position, address: u32, bytes: &[u8]) -> Position
-    requires { ⌜ (address + length (now bytes) + 64 ≤ 4294967296) × (positionAfter position (cut ((length (now bytes) + 63) / 64) address (now bytes)) .at ≤ length (now text)) ⌝ }
+    requires { ⌜ (address + length (now bytes) + 64 ≤ 0x100000000) × (positionAfter position (cut ((length (now bytes) + 63) / 64) address (now bytes)) .at ≤ length (now text)) ⌝ }
     ensures { λ r. ⌜ r ≡ positionAfter position (cut ((length (now (bytes .entry)) + 63) / 64) address (now (bytes .entry))) ⌝ }
     ensures { λ _. ⌜ now (text .exit) ≡ sets (now (text .entry)) (position .at) (linesFrom (position .upper) (cut ((length (now (bytes .entry)) + 63) / 64) address (now (bytes .entry)))) ⌝ }
 {

@@ -1,13 +1,10 @@
 -- Laws of words and sums. Assumes nothing.
-use mathlib.Core.Bool.{Bool, true, false}
 use mathlib.Core.List.{List, [], _∷_}
-use mathlib.Core.Path.{_≡_, refl, ap, sym, _∙_}
-use Prim.Native.Nat.{ℕ, min, suc, _+_, _-_, _%_, _≤_, _<_}
+use mathlib.Core.Path.{_≡_, ap, sym, _∙_}
+use Prim.Native.Nat.{ℕ, suc, _+_, _-_, _%_, _≤_, _<_}
 use native.Mathlib.Nat.{le-refl, add-assoc, add-zero, mod-add-mod, mod-eq-of-lt}
 use native.Mathlib.Numerals.{add-one}
 use native.Mathlib.Omega.{arith}
-use borrow.Author.Tests.{leb-true, leb-false}
-use lib.Dec.{leb}
 use lib.ListN.{length, getD, take, drop, length-drop, drop-of-length-le, List·getD-eq-default}
 use lib.Seq.{drop-cons, getD-take, getD-drop, take-all, take-nil}
 use Rattle.lent.specs.Words.{total, wordAt, partOf, wordsAt}
@@ -46,21 +43,6 @@ part-rest l from n h =
 
 pub part-inside : (l : List ℕ) (from n : ℕ) → take (from + n - from) (drop from l) ≡ partOf l from n
 part-inside l from n = let e : from + n - from ≡ n = omega arith in ap (λ (x : ℕ). take x (drop from l)) e
-
--- a cut past the end is one at the end
-pub take-min : (n : ℕ) (l : List ℕ) → take (min n (length l)) l ≡ take n l
-take-min n l = go (leb n (length l)) refl
-  where
-    go : (b : Bool) → leb n (length l) ≡ b → take (min n (length l)) l ≡ take n l
-    go true q = let h = leb-true n (length l) q in let e : min n (length l) ≡ n = omega arith in rw e
-    go false q = let h = leb-false n (length l) q in take-all (min n (length l)) l (omega arith) ∙ sym (take-all n l (omega arith))
-
-pub drop-min : (n : ℕ) (l : List ℕ) → drop (min n (length l)) l ≡ drop n l
-drop-min n l = go (leb n (length l)) refl
-  where
-    go : (b : Bool) → leb n (length l) ≡ b → drop (min n (length l)) l ≡ drop n l
-    go true q = let h = leb-true n (length l) q in let e : min n (length l) ≡ n = omega arith in rw e
-    go false q = let h = leb-false n (length l) q in drop-of-length-le l {i = min n (length l)} (omega arith) ∙ sym (drop-of-length-le l {i = n} (omega arith))
 
 -- one word of a row, and none
 pub words-turn : (bytes : List ℕ) (o n : ℕ) → 0 < n → wordsAt bytes o n ≡ wordAt bytes o ∷ wordsAt bytes (o + 4) (n - 1)

@@ -1,34 +1,14 @@
--- Laws of line ends, and of pairs that have no room. Assumes nothing.
+-- Laws of pairs that have no room, and of those that have. Assumes nothing.
 use mathlib.Core.Bool.{false}
 use mathlib.Core.List.{List}
-use mathlib.Core.Path.{_≡_}
+use mathlib.Core.Path.{_≡_, sym, _∙_}
 use Prim.Native.Nat.{ℕ, _+_, _*_, _≤_, _<_}
-use borrow.Author.Tests.{le-leb, lt-leb, ne-eqb}
-use lib.ListN.{length, getD, List·getD-eq-default}
+use borrow.Author.Tests.{le-leb, lt-leb}
+use lib.ListN.{length}
 use lib.Seq.{sets}
-use Rattle.pairs.specs.Spelling.{front, pairsAt, pairRunOf, rowAfter, lineEnd}
+use Rattle.pairs.specs.Spelling.{front, pairsAt, pairRunOf, rowAfter}
+use Rattle.pairs.specs.declared.PairRun.{PairRun}
 use Rattle.pairs.proofs.Spelling.{ran}
-
-module _ (s : List ℕ) (e : ℕ) where
-  pub end-past : length s ≤ e → 0 ≡ lineEnd s e
-  unfolding lineEnd
-  end-past h = rw (List·getD-eq-default s 0 h)
-
-  pub end-lf : getD s e 0 ≡ 10 → 1 ≡ lineEnd s e
-  unfolding lineEnd
-  end-lf h = rw h
-
-  pub end-cr-lf : getD s e 0 ≡ 13 → getD s (e + 1) 0 ≡ 10 → 2 ≡ lineEnd s e
-  unfolding lineEnd
-  end-cr-lf h k = rw (h, k)
-
-  pub end-cr : getD s e 0 ≡ 13 → (getD s (e + 1) 0 ≡ 10 → ⊥) → 0 ≡ lineEnd s e
-  unfolding lineEnd
-  end-cr h k = rw (h, ne-eqb (getD s (e + 1) 0) 10 k)
-
-  pub end-none : (getD s e 0 ≡ 10 → ⊥) → (getD s e 0 ≡ 13 → ⊥) → 0 ≡ lineEnd s e
-  unfolding lineEnd
-  end-none h k = rw (ne-eqb (getD s e 0) 10 h, ne-eqb (getD s e 0) 13 k)
 
 -- k pairs from p on that have no room in the text or the row, and those that have
 module _ (row text : List ℕ) (p k : ℕ) where
@@ -57,3 +37,9 @@ module _ (row text : List ℕ) (p k : ℕ) where
       let e = le-leb k 260 h in
       let f = le-leb k (length row) i in
       let g = le-leb (p + 2 * k) (length text) j in (rw (e, f, g), rw (e, f, g))
+
+  -- so the loop gives what is wanted
+  pub all-spelt : k ≤ 260 → k ≤ length row → p + 2 * k ≤ length text → (r : PairRun) (row′ : List ℕ)
+      → (r ≡ ran text p k) × (row′ ≡ sets row 0 (front (pairsAt text p k)))
+      → (r ≡ pairRunOf text p k (length row)) × (row′ ≡ rowAfter row text p k)
+  all-spelt h i j r row′ s = let e = has-room h i j in (s .0 ∙ sym (e .0), s .1 ∙ sym (e .1))

@@ -145,28 +145,19 @@ pub record AllPairs (m : List ℕ) : Type 0 where
   pub digits : Digits m
   pub spells : spelt m ≡ Spells (front m)
 
-both-0 : (a b : Bool) → (a && b) ≡ true → a ≡ true
-both-0 true b e = refl
-both-0 false b e = e
-
-both-1 : (a b : Bool) → (a && b) ≡ true → b ≡ true
-both-1 true b e = e
-both-1 false b e = absurd (false≢true e)
-
 pub run-all : (m : List ℕ) (k : ℕ) → length m ≡ 2 * k → length (front m) ≡ k → AllPairs m
 unfolding front spelt withByte
 run-all [] k h e = record { digits = tt; spells = refl }
 run-all (a ∷ []) k h e = absurd (omega arith)
 run-all (a ∷ b ∷ m) zero h e = absurd (omega arith)
-run-all (a ∷ b ∷ m) (suc k) h e = go (isDigit a && isDigit b) refl e (λ f. run-all m k (omega arith) f)
+run-all (a ∷ b ∷ m) (suc k) h e = go (isDigit a) (isDigit b) refl refl e (λ f. run-all m k (omega arith) f)
   where
-    go : (t : Bool) → (isDigit a && isDigit b) ≡ t → length (cond t ((16 * digitOf a + digitOf b) ∷ front m) []) ≡ suc k
+    go : (t u : Bool) → isDigit a ≡ t → isDigit b ≡ u → length (cond (t && u) ((16 * digitOf a + digitOf b) ∷ front m) []) ≡ suc k
         → (length (front m) ≡ k → AllPairs m)
         → AllPairs (a ∷ b ∷ m)
-    go true q f ih =
-        let r = ih (omega arith) in
-        record { digits = (both-0 (isDigit a) (isDigit b) q, (both-1 (isDigit a) (isDigit b) q, r .digits)); spells = rw (q, r .spells) }
-    go false q f ih = absurd (omega arith)
+    go true true p q f ih = let r = ih (omega arith) in record { digits = (p, (q, r .digits)); spells = rw (p, q, r .spells) }
+    go true false p q f ih = absurd (omega arith)
+    go false u p q f ih = absurd (omega arith)
 
 -- every line has its end
 abbrev pub AllEnded : List Line → Type 0

@@ -6,7 +6,7 @@ use Prim.Native.Nat.{ℕ, min, suc, _+_, _-_, _<_}
 use native.Mathlib.Omega.{arith}
 use lib.ListN.{length, drop, take, length-drop}
 use lib.Seq.{drop-drop}
-use Rattle.lent.proofs.Words.{take-min, drop-min}
+use Rattle.lent.proofs.Lists.{take-min, drop-min}
 use Rattle.rows.specs.Cancels.{cancels, someCancels}
 
 -- the search from byte at on with n rows left, the first of which ends where the bytes do or before: that row decides, or the rest does

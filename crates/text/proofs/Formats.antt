@@ -19,7 +19,7 @@ use Rattle.text.specs.Sized.{Sized}
 pub record FitsRecord (p : Piece) : Type 0 where
   pub some : 0 < length (p .bytes)
   pub most : length (p .bytes) ≤ 64
-  pub high : p .address < 4294967296
+  pub high : p .address < 0x100000000
   pub inside : p .address % 65536 + length (p .bytes) ≤ 65536
   pub bytes : AllBytes (p .bytes)
 
@@ -28,7 +28,7 @@ AllFitRecords [] = Unit {0}
 AllFitRecords (p ∷ ps) = FitsRecord p × AllFitRecords ps
 
 -- a written record never crosses a 64 KiB line
-pub cut-fits : (n a size : ℕ) (bs : List ℕ) → length bs ≡ size → 0 < size → n ≡ (size + 63) / 64 → a % 64 ≡ 0 → a + size ≤ 4294967296 → AllBytes bs
+pub cut-fits : (n a size : ℕ) (bs : List ℕ) → length bs ≡ size → 0 < size → n ≡ (size + 63) / 64 → a % 64 ≡ 0 → a + size ≤ 0x100000000 → AllBytes bs
     → AllFitRecords (cut n a bs)
 unfolding cut
 cut-fits zero a size bs l some c d h all = tt
@@ -48,7 +48,7 @@ fits-append (p ∷ ps) qs h k = (h .0, fits-append ps qs (h .1) k)
 -- sections whose pieces are neat
 abbrev pub Aligned : (Section → List ℕ) → List Section → Type 0
 Aligned f [] = Unit {0}
-Aligned f (s ∷ ss) = (s .address % 64 ≡ 0) × (s .address + s .size ≤ 4294967296) × AllBytes (f s) × Aligned f ss
+Aligned f (s ∷ ss) = (s .address % 64 ≡ 0) × (s .address + s .size ≤ 0x100000000) × AllBytes (f s) × Aligned f ss
 
 pub pieces-fit : (f : Section → List ℕ) (ss : List Section) → Filled f ss → Aligned f ss → AllFitRecords (pieces f ss)
 unfolding pieces

@@ -17,7 +17,7 @@ use Rattle.text.specs.Sized.{TableSizes, Sized, Laid}
 pub record Roomy (g : Geometry) (s : Section) : Type 0 where
   pub room : s .offset + s .size ≤ locationSize g (s .location)
   pub end : s .offset + s .size ≤ 131072
-  pub addresses : s .address + s .size + 64 ≤ 4294967296
+  pub addresses : s .address + s .size + 64 ≤ 0x100000000
 
 module _ (g : Geometry) (z : TableSizes g) where
   pub roomy-at : (k : ℕ) → Roomy g (getD (sectionsOf g) k noSection)

@@ -12,7 +12,8 @@ use Rattle.sections.specs.declared.Location.the-variants.{InFlash, InProtection
 use Rattle.sections.specs.declared.Section.{Section}
 use Rattle.parts.specs.Sizes.{flashSize}
 use Rattle.parts.specs.declared.Geometry.{Geometry}
-use Rattle.storing.proofs.Storing.{stored-length, tail-part, put-tail}
+use Rattle.lent.proofs.Lists.{tail-part, put-tail}
+use Rattle.storing.proofs.Storing.{stored-length}
 use Rattle.text.specs.Scanning.{filledIn}
 use Rattle.storing.specs.Storing.{storedAt}
 

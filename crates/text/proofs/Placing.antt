@@ -19,7 +19,8 @@ use Rattle.parts.specs.declared.Geometry.{Geometry}
 use Rattle.text.specs.Placing.{Event, Bad, Other, Data, End, Content, Refusal, Stream, prepend, restOf, dueAfter, placing, sameLocation, gathered, overall}
 use Rattle.text.specs.Reading.{imageIn}
 use Rattle.storing.specs.Storing.{storedAt}
-use Rattle.storing.proofs.Storing.{sets-past, sets-append, stored}
+use Rattle.lent.proofs.Lists.{sets-past, sets-append}
+use Rattle.storing.proofs.Storing.{stored}
 
 -- Taken: each byte of each section once.
 

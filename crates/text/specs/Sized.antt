@@ -27,7 +27,7 @@ pub record Sized (g : Geometry) (h : Header) (bytes : List ℕ) : Type 0 where
 pub record Laid (part : List ℕ) (s : Section) : Type 0 where
   pub some : 0 < s .size
   pub small : s .offset + s .size ≤ 33554432
-  pub high : s .address + s .size + 64 ≤ 4294967296
+  pub high : s .address + s .size + 64 ≤ 0x100000000
   pub inside : s .offset + s .size ≤ length part
 
 -- the pieces of a section, out of the bytes of its location

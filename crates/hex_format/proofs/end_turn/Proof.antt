@@ -1,12 +1,14 @@
 -- The tests in the order of `endTurn`. Assumes nothing.
-use Rattle.hex_format.proofs.Types.{turn-done, turn-followed, turn-early}
+use borrow.Author.Tests.{eq-eqb, ne-eqb}
+use Rattle.hex_format.specs.Turns.{endTurn}
 use Rattle.hex_format.proofs.end_turn.Statement.{statement}
 use Rattle.hex_format.proofs.end_turn.Tie as tie
 
 pub end-turn-spec : {M : Type 1} → statement M
+unfolding endTurn
 end-turn-spec =
     tie.close
     (tie.spec
-    (λ c. turn-done _ _ _ (c .before .if1 .taken) (c .if2 .taken))
-    (λ c. turn-followed _ _ _ (c .before .if1 .taken) (c .if2 .left))
-    (λ c. turn-early _ _ _ (c .if1 .left)))
+    (λ c. rw (eq-eqb _ _ (c .before .if1 .taken), eq-eqb _ _ (c .if2 .taken)))
+    (λ c. rw (eq-eqb _ _ (c .before .if1 .taken), ne-eqb _ _ (c .if2 .left)))
+    (λ c. rw (ne-eqb _ _ (c .if1 .left))))

@@ -5,7 +5,8 @@ use Prim.Native.Nat.{_-_, _≤_}
 use native.Mathlib.Omega.{arith}
 use borrow.Author.Fill.{fill-none, fill-more}
 use lib.ListN.{length, drop, replicate, length-append, length-drop, length-replicate}
-use Rattle.storing.proofs.Storing.{cleared-all, cleared-none}
+use borrow.Author.Tests.{le-leb, lt-leb}
+use Rattle.storing.specs.Storing.{cleared}
 use Rattle.storing.proofs.clear.Statement.{statement}
 use Rattle.storing.proofs.clear.Tie as tie
 
@@ -21,18 +22,20 @@ loop-again c =
     (omega arith, l .inv .1, rw (l .inv .2) (fill-more (l .i) 0 (c .before .before .before .args .bytes .now) (omega arith)))
 
 returns-2 : tie.Need-returns-2 Inv-loop μ-loop
+unfolding cleared
 returns-2 c =
     let a = c .before .before .before .args in
     let e : c .before .loop .i ≡ a .n = omega arith in
-    (rw e at (c .before .loop .inv .2)) ∙ cleared-all (a .n) (a .bytes .now) (omega arith)
+    (rw e at (c .before .loop .inv .2)) ∙ rw (le-leb (a .n) (length (a .bytes .now)) (omega arith))
 
 pub clear-spec : {M : Type 1} → statement M
+unfolding cleared
 clear-spec =
     tie.close
     (tie.spec
     Inv-loop
     μ-loop
-    (λ c. cleared-none _ _ (c .if1 .taken))
+    (λ c. rw (lt-leb _ _ (c .if1 .taken)))
     (λ c. (omega arith, c .if1 .left, fill-none _ 0))
     (λ c. rw (c .before .loop .inv .2) (simp (length-append, length-replicate, length-drop) (omega arith)))
     (λ c. omega arith)
