@@ -12,10 +12,7 @@ use Rattle.encoding.specs.Values.{Twelve, InWords, outcomeWord}
 use Rattle.encoding.specs.Outcomes.{packetBytes, outcomeBytes, outcomeIn}
 use Rattle.encoding.specs.Records.{recordBytes, recordIn}
 use Rattle.encoding.specs.Sessions.{entryByte, sessionBytes, sessionIn, isSession}
-use Rattle.flow.specs.Session.{position}
-use Rattle.flow.specs.declared.Counters.{Counters}
 use Rattle.flow.specs.declared.Entry.{Entry}
-use Rattle.flow.specs.declared.Position.{Position}
 use Rattle.flow.specs.declared.Entry.the-variants.{FromOpen, FromProtected}
 use Rattle.sections.proofs.Sections.{spread, spread-all, headerWith}
 use Rattle.lent.specs.Words.{wordAt}
@@ -88,43 +85,25 @@ near-with s m = record {
 pub near : (s : Session) → Twelve (s .header) → Near s (sessionIn (sessionBytes s))
 near s n = twelve-of (λ (t : Session). Near t (sessionIn (sessionBytes t))) s n (near-with s)
 
--- fields that are the same make the same session
-same-position : (p q : Position) → p .entry ≡ q .entry → p .at ≡ q .at → p ≡ q
-same-position p q a b = ap (λ (x : Entry). position x (p .at)) a ∙ ap (position (q .entry)) b
-
-abbrev counting : (waits polls attempts kept : ℕ) → Counters
-counting w p a k = record { waits = w; polls = p; attempts = a; kept = k }
-
-same-counters : (c d : Counters) → c .waits ≡ d .waits → c .polls ≡ d .polls → c .attempts ≡ d .attempts → c .kept ≡ d .kept → c ≡ d
-same-counters c d w p a k =
-    ap (λ (x : ℕ). counting x (c .polls) (c .attempts) (c .kept)) w
-    ∙ ap (λ (x : ℕ). counting (d .waits) x (c .attempts) (c .kept)) p
-    ∙ ap (λ (x : ℕ). counting (d .waits) (d .polls) x (c .kept)) a
-    ∙ ap (counting (d .waits) (d .polls) (d .attempts)) k
-
-abbrev made : Header → Position → Counters → (transfers : ℕ) → Bool → (number step : ℕ) → Session
-made h o c t f n r = record { header = h; position = o; counters = c; transfers = t; finished = f; number = n; step = r }
-
-same-session : (s t : Session) → s .header ≡ t .header → s .position ≡ t .position → s .counters ≡ t .counters → s .transfers ≡ t .transfers → s .finished ≡ t .finished
-    → s .number ≡ t .number
-    → s .step ≡ t .step
-    → s ≡ t
-same-session s t a b c d e f g =
-    ap (λ (x : Header). made x (s .position) (s .counters) (s .transfers) (s .finished) (s .number) (s .step)) a
-    ∙ ap (λ (x : Position). made (t .header) x (s .counters) (s .transfers) (s .finished) (s .number) (s .step)) b
-    ∙ ap (λ (x : Counters). made (t .header) (t .position) x (s .transfers) (s .finished) (s .number) (s .step)) c
-    ∙ ap (λ (x : ℕ). made (t .header) (t .position) (t .counters) x (s .finished) (s .number) (s .step)) d
-    ∙ ap (λ (x : Bool). made (t .header) (t .position) (t .counters) (t .transfers) x (s .number) (s .step)) e
-    ∙ ap (λ (x : ℕ). made (t .header) (t .position) (t .counters) (t .transfers) (t .finished) x (s .step)) f
-    ∙ ap (λ (x : ℕ). made (t .header) (t .position) (t .counters) (t .transfers) (t .finished) (t .number) x) g
-
 pub session-back : (s : Session) → InWords s → sessionIn (sessionBytes s) ≡ s
 session-back s w =
-    let d = sessionIn (sessionBytes s) in
     let k = near s (w .twelve) in
-    let o = same-position (d .position) (s .position) (k .entry) (k .at ∙ low-same (s .position .at) (w .at)) in
-    let c = same-counters (d .counters) (s .counters) (k .waits ∙ low-same (s .counters .waits) (w .waits)) (k .polls ∙ low-same (s .counters .polls) (w .polls)) (k .attempts ∙ low-same (s .counters .attempts) (w .attempts)) (k .kept ∙ low-same (s .counters .kept) (w .kept)) in
-    same-session d s (k .header) o c (k .transfers ∙ low-same (s .transfers) (w .transfers)) (k .finished) (k .number) (k .step)
+    let c = s .counters in
+    let at = k .at ∙ low-same (s .position .at) (w .at) in
+    let waits = k .waits ∙ low-same (c .waits) (w .waits) in
+    let polls = k .polls ∙ low-same (c .polls) (w .polls) in
+    let attempts = k .attempts ∙ low-same (c .attempts) (w .attempts) in
+    let kept = k .kept ∙ low-same (c .kept) (w .kept) in
+    let transfers = k .transfers ∙ low-same (s .transfers) (w .transfers) in
+    λ i. record {
+      header = k .header i;
+      position = record { entry = k .entry i; at = at i };
+      counters = record { waits = waits i; polls = polls i; attempts = attempts i; kept = kept i };
+      transfers = transfers i;
+      finished = k .finished i;
+      number = k .number i;
+      step = k .step i;
+    }
 
 -- bytes that are long enough hold twelve metadata bytes
 pub record-twelve : (bs : List ℕ) → 17 ≤ length bs → Twelve (recordIn bs)

@@ -5,28 +5,22 @@ use borrow.Author.Needs.{needs}
 use Rattle.core_c.proofs.halzuqeen_read.Statement.{statement}
 use Rattle.core_c.proofs.halzuqeen_read.Tie as tie
 
-returns : tie.Need-returns
-returns c =
-    let a = c .before .before .before .before .before .args in
-    leaves-as _ _ _ _ _ (read-under (a .part) (a .macros) (a .text .now) (a .image .now) (a .header .now) (c .before .if1 .taken)) (c .under-size .ensures, (refl, refl))
-
-returns-2 : tie.Need-returns-2
-returns-2 c =
-    let tested = c .before .before .before .before .before .before .before .before .before .before in
-    let a = tested .before .before .before .before .args in
-    let r = c .before .before .before .before .before .before .before .before .read .ensures in
-    read-done (a .part) (a .macros) (a .text .now) (a .image .now) (a .header .now) _ _ _ (tested .if1 .left) (r .0) (r .1) (c .before .before .before .put-record .ensures)
-
 pub halzuqeen-read-spec : {M : Type 1} → statement M
 halzuqeen-read-spec =
     tie.close
     (tie.spec
     (λ c κs. search needs)
     (λ c. search needs)
-    returns
+    (λ c.
+    let a = c .before .before .before .before .before .args in
+    leaves-as _ _ _ _ _ (read-under (a .part) (a .macros) (a .text .now) (a .image .now) (a .header .now) (c .before .if1 .taken)) (c .under-size .ensures, (refl, refl)))
     (λ c κs. search needs)
     (λ c κs. search needs)
     (λ c. search needs)
     (λ c. search needs)
     (λ c. search needs)
-    returns-2)
+    (λ c.
+    let tested = c .before .before .before .before .before .before .before .before .before .before in
+    let a = tested .before .before .before .before .args in
+    let r = c .before .before .before .before .before .before .before .before .read .ensures in
+    read-done (a .part) (a .macros) (a .text .now) (a .image .now) (a .header .now) _ _ _ (tested .if1 .left) (r .0) (r .1) (c .before .before .before .put-record .ensures)))

@@ -3,11 +3,6 @@ use borrow.Author.Needs.{needs}
 use Rattle.core_c.proofs.halzuqeen_step.Statement.{statement}
 use Rattle.core_c.proofs.halzuqeen_step.Tie as tie
 
-returns : tie.Need-returns
-returns c =
-    let stepping = c .before .before .before .before in
-    rw (← stepping .before .before .before .answer-in .ensures) (stepping .step-into .ensures)
-
 pub halzuqeen-step-spec : {M : Type 1} → statement M
 halzuqeen-step-spec =
     tie.close
@@ -16,4 +11,6 @@ halzuqeen-step-spec =
     (λ c κs. search needs)
     (λ c. search needs)
     (λ c. search needs)
-    returns)
+    (λ c.
+    let stepping = c .before .before .before .before in
+    rw (← stepping .before .before .before .answer-in .ensures) (stepping .step-into .ensures)))

@@ -7,42 +7,33 @@ use borrow.Author.Needs.{needs}
 use Rattle.core_c.proofs.halzuqeen_write.Statement.{statement}
 use Rattle.core_c.proofs.halzuqeen_write.Tie as tie
 
-returns : tie.Need-returns
-returns c =
-    let tested = c .before .before .before .before in
-    let a = tested .before .before .before .before .before .args in
-    leaves-as _ _ _ _ _ (write-partless (a .header .now) (a .image .now) (a .text .now) (a .size .now) (tested .if1 .taken))
-    (refl, (refl, c .before .before .put-length .ensures))
-
-returns-2 : tie.Need-returns-2
-returns-2 c =
-    let tested = c .before .before .before in
-    let a = tested .before .before .before .before .before .args in
-    leaves-as _ _ _ _ _ (write-under (a .header .now) (a .image .now) (a .text .now) (a .size .now) (tested .if1 .left) (c .before .if2 .taken))
-    (c .under-size .ensures ∙ ap (λ (h : Header). elevenOr12 (h .part) (h .macros)) (c .before .before .record-in .ensures ∙ record-found (a .header .now) (tested .if1 .left)), (refl, refl))
-
-returns-3 : tie.Need-returns-3
-returns-3 c =
-    let writing = c .before .before .before .before .before .before .before in
-    let tested = writing .before .before .before .before in
-    let a = tested .before .before .before .before .before .args in
-    let w = writing .write .ensures in
-    write-done (a .header .now) (a .image .now) (a .text .now) (a .size .now) (tested .if1 .left) _ _ _ _ (writing .before .before .if2 .left) (writing .before .before .before .record-in .ensures ∙ record-found (a .header .now) (tested .if1 .left)) (w .0) (w .1) (c .before .before .before .put-length2 .ensures)
-
 pub halzuqeen-write-spec : {M : Type 1} → statement M
 halzuqeen-write-spec =
     tie.close
     (tie.spec
     (λ c κs. search needs)
     (λ c. search needs)
-    returns
+    (λ c.
+    let tested = c .before .before .before .before in
+    let a = tested .before .before .before .before .before .args in
+    leaves-as _ _ _ _ _ (write-partless (a .header .now) (a .image .now) (a .text .now) (a .size .now) (tested .if1 .taken))
+    (refl, (refl, c .before .before .put-length .ensures)))
     (λ c κs. search needs)
     (λ c κs. search needs)
     (λ c. search needs)
-    returns-2
+    (λ c.
+    let tested = c .before .before .before in
+    let a = tested .before .before .before .before .before .args in
+    leaves-as _ _ _ _ _ (write-under (a .header .now) (a .image .now) (a .text .now) (a .size .now) (tested .if1 .left) (c .before .if2 .taken))
+    (c .under-size .ensures ∙ ap (λ (h : Header). elevenOr12 (h .part) (h .macros)) (c .before .before .record-in .ensures ∙ record-found (a .header .now) (tested .if1 .left)), (refl, refl)))
     (λ c κs. search needs)
     (λ c κs. search needs)
     (λ c. search needs)
     (λ c. search needs)
     (λ c. search needs)
-    returns-3)
+    (λ c.
+    let writing = c .before .before .before .before .before .before .before in
+    let tested = writing .before .before .before .before in
+    let a = tested .before .before .before .before .before .args in
+    let w = writing .write .ensures in
+    write-done (a .header .now) (a .image .now) (a .text .now) (a .size .now) (tested .if1 .left) _ _ _ _ (writing .before .before .if2 .left) (writing .before .before .before .record-in .ensures ∙ record-found (a .header .now) (tested .if1 .left)) (w .0) (w .1) (c .before .before .before .put-length2 .ensures)))

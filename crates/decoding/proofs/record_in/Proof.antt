@@ -11,16 +11,8 @@ use borrow.Author.Needs.{needs}
 use Rattle.decoding.proofs.record_in.Statement.{statement}
 use Rattle.decoding.proofs.record_in.Tie as tie
 
-returns-2 : tie.Need-returns-2
-unfolding recordIn
-returns-2 c =
-    let sums = c .before .before .before in
-    let tested = sums .before .before .before .before .before .before .before .before .before .before .before .before .before .before .before .before in
-    let b = tested .before .before .args .bytes .now in
-    rw (le-leb 17 (length b) (tested .if1 .left), sums .wide2 .ensures .0, sums .before .before .wide .ensures .0)
-    (ap (λ (m : List ℕ). headerWith (getD b 0 0) (getD b 1 0) (getD b 2 0 + 256 * getD b 3 0) m (getD b 16 0)) (spread-part 4 12 b (omega arith)))
-
 pub record-in-spec : {M : Type 1} → statement M
+unfolding recordIn
 record-in-spec =
     tie.close
     (tie.spec
@@ -46,4 +38,9 @@ record-in-spec =
     (λ c. search needs)
     (λ c. search needs)
     (λ c. search needs)
-    returns-2)
+    (λ c.
+    let sums = c .before .before .before in
+    let tested = sums .before .before .before .before .before .before .before .before .before .before .before .before .before .before .before .before in
+    let b = tested .before .before .args .bytes .now in
+    rw (le-leb 17 (length b) (tested .if1 .left), sums .wide2 .ensures .0, sums .before .before .wide .ensures .0)
+    (ap (λ (m : List ℕ). headerWith (getD b 0 0) (getD b 1 0) (getD b 2 0 + 256 * getD b 3 0) m (getD b 16 0)) (spread-part 4 12 b (omega arith)))))

@@ -3,23 +3,6 @@ use borrow.Author.Needs.{needs}
 use Rattle.decoding.proofs.session_in.Statement.{statement}
 use Rattle.decoding.proofs.session_in.Tie as tie
 
-returns : tie.Need-returns
-returns c =
-    let word = c .before .before .before in
-    let entry = word .before .before .before in
-    let header = entry .before .before in
-    simp (
-      c .byte-at4 .ensures,
-      c .before .byte-at3 .ensures,
-      c .before .before .byte-at2 .ensures,
-      word .word-at2 .ensures,
-      word .before .counters-in .ensures,
-      word .before .before .word-at .ensures,
-      entry .entry-in .ensures,
-      entry .before .byte-at .ensures,
-      header .record-in .ensures,
-    )
-
 pub session-in-spec : {M : Type 1} → statement M
 session-in-spec =
     tie.close
@@ -33,4 +16,18 @@ session-in-spec =
     (λ c κs. search needs)
     (λ c κs. search needs)
     (λ c κs. search needs)
-    returns)
+    (λ c.
+    let word = c .before .before .before in
+    let entry = word .before .before .before in
+    let header = entry .before .before in
+    simp (
+      c .byte-at4 .ensures,
+      c .before .byte-at3 .ensures,
+      c .before .before .byte-at2 .ensures,
+      word .word-at2 .ensures,
+      word .before .counters-in .ensures,
+      word .before .before .word-at .ensures,
+      entry .entry-in .ensures,
+      entry .before .byte-at .ensures,
+      header .record-in .ensures,
+    )))

@@ -8,41 +8,23 @@ use borrow.Author.Needs.{needs}
 use Rattle.encoding.proofs.put_eight.Statement.{statement}
 use Rattle.encoding.proofs.put_eight.Tie as tie
 
-returns : tie.Need-returns
-returns c =
-    let a = c .before .before .args in
-    put-under (a .bytes .now) (eightBytes (a .kind) (a .first) (a .second) (a .word)) (c .if1 .taken)
-
-second : tie.Need-slice-write-bytes-2
-second c = let a = c .before .before .args in lt-length-sets (a .bytes .now) 0 (a .kind ∷ []) (omega arith)
-
-third : tie.Need-slice-write-bytes-3
-third c = let a = c .before .before .args in lt-length-sets (a .bytes .now) 0 (a .kind ∷ a .first ∷ []) (omega arith)
-
-fourth : tie.Need-slice-write-bytes-4
-fourth c = let a = c .before .before .args in lt-length-sets (a .bytes .now) 0 (a .kind ∷ a .first ∷ a .second ∷ []) (omega arith)
-
-same-length : tie.Need-same-length
-same-length c =
-    let tested = c .before .before .before .before in
-    let a = tested .before .before .args in
-    eight-length (a .bytes .now) _ (a .kind) (a .first) (a .second) (a .word) (tested .if1 .left) (c .before .before .put-word .ensures)
-
-returns-2 : tie.Need-returns-2
-returns-2 c =
-    let tested = c .before .before .before .before in
-    let a = tested .before .before .args in
-    eight-put (a .bytes .now) _ (a .kind) (a .first) (a .second) (a .word) (tested .if1 .left) (c .before .before .put-word .ensures)
-
 pub put-eight-spec : {M : Type 1} → statement M
 put-eight-spec =
     tie.close
     (tie.spec
-    returns
+    (λ c.
+    let a = c .before .before .args in
+    put-under (a .bytes .now) (eightBytes (a .kind) (a .first) (a .second) (a .word)) (c .if1 .taken))
     (λ c. search needs)
-    second
-    third
-    fourth
+    (λ c. let a = c .before .before .args in lt-length-sets (a .bytes .now) 0 (a .kind ∷ []) (omega arith))
+    (λ c. let a = c .before .before .args in lt-length-sets (a .bytes .now) 0 (a .kind ∷ a .first ∷ []) (omega arith))
+    (λ c. let a = c .before .before .args in lt-length-sets (a .bytes .now) 0 (a .kind ∷ a .first ∷ a .second ∷ []) (omega arith))
     (λ c κs. search needs)
-    same-length
-    returns-2)
+    (λ c.
+    let tested = c .before .before .before .before in
+    let a = tested .before .before .args in
+    eight-length (a .bytes .now) _ (a .kind) (a .first) (a .second) (a .word) (tested .if1 .left) (c .before .before .put-word .ensures))
+    (λ c.
+    let tested = c .before .before .before .before in
+    let a = tested .before .before .args in
+    eight-put (a .bytes .now) _ (a .kind) (a .first) (a .second) (a .word) (tested .if1 .left) (c .before .before .put-word .ensures)))

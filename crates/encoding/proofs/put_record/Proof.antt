@@ -4,13 +4,6 @@ use borrow.Author.Needs.{needs}
 use Rattle.encoding.proofs.put_record.Statement.{statement}
 use Rattle.encoding.proofs.put_record.Tie as tie
 
-returns : tie.Need-returns
-returns c =
-    let row = c .before .before .before .before .before in
-    let a = row .before .before .args in
-    let r = row .row-of .ensures in
-    record-put (a .bytes .now) _ (a .h) _ (r .0) (r .1) (c .before .before .fill .ensures)
-
 pub put-record-spec : {M : Type 1} → statement M
 put-record-spec =
     tie.close
@@ -19,4 +12,8 @@ put-record-spec =
     (λ c. search needs)
     (λ c κs. search needs)
     (λ c. search needs)
-    returns)
+    (λ c.
+    let row = c .before .before .before .before .before in
+    let a = row .before .before .args in
+    let r = row .row-of .ensures in
+    record-put (a .bytes .now) _ (a .h) _ (r .0) (r .1) (c .before .before .fill .ensures)))

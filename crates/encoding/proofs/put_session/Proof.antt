@@ -6,14 +6,22 @@ use borrow.Author.Needs.{needs}
 use Rattle.encoding.proofs.put_session.Statement.{statement}
 use Rattle.encoding.proofs.put_session.Tie as tie
 
-returns : tie.Need-returns
-returns c =
+pub put-session-spec : {M : Type 1} → statement M
+put-session-spec =
+    tie.close
+    (tie.spec
+    (λ c κs. search needs)
+    (λ c.
     let r = c .before .row-of .ensures in
     let a = c .before .before .before .before .before .before .args in
-    put-under (a .bytes .now) (sessionBytes (a .s)) (omega (arith, c .if1 .taken, session-size (a .s) (r .1)))
-
-returns-2 : tie.Need-returns-2
-returns-2 c =
+    put-under (a .bytes .now) (sessionBytes (a .s)) (omega (arith, c .if1 .taken, session-size (a .s) (r .1))))
+    (λ c. search needs)
+    (λ c κs. search needs)
+    (λ c κs. search needs)
+    (λ c κs. search needs)
+    (λ c κs. search needs)
+    (λ c. search needs)
+    (λ c.
     let singles = c .before .before .before .before .before .before .before .before .before .before in
     let stored = singles .before .before .before .before in
     let tested = stored .before .before .before in
@@ -21,18 +29,4 @@ returns-2 c =
     let r = tested .before .row-of .ensures in
     session-put (a .bytes .now) _ _ _ _ (a .s) (tested .if1 .left) (r .1)
     (record-put (a .bytes .now) _ (a .s .header) _ (r .0) (r .1) (stored .fill .ensures)) (singles .put-singles .ensures)
-    (c .before .before .before .before .before .before .put-standing .ensures) (c .before .before .put-word .ensures)
-
-pub put-session-spec : {M : Type 1} → statement M
-put-session-spec =
-    tie.close
-    (tie.spec
-    (λ c κs. search needs)
-    returns
-    (λ c. search needs)
-    (λ c κs. search needs)
-    (λ c κs. search needs)
-    (λ c κs. search needs)
-    (λ c κs. search needs)
-    (λ c. search needs)
-    returns-2)
+    (c .before .before .before .before .before .before .put-standing .ensures) (c .before .before .put-word .ensures)))

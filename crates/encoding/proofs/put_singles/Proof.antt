@@ -6,17 +6,6 @@ use borrow.Author.Needs.{needs}
 use Rattle.encoding.proofs.put_singles.Statement.{statement}
 use Rattle.encoding.proofs.put_singles.Tie as tie
 
-second : tie.Need-slice-write-bytes-2
-second c = lt-length-sets (c .before .before .before .before .args .bytes .now) 17 (c .before .entry-byte .result ∷ []) (omega arith)
-
-third : tie.Need-slice-write-bytes-3
-third c = lt-length-sets (c .before .before .before .before .args .bytes .now) 17 (c .before .entry-byte .result ∷ c .flag-byte .result ∷ []) (omega arith)
-
-fourth : tie.Need-slice-write-bytes-4
-fourth c =
-    let a = c .before .before .before .before .args in
-    lt-length-sets (a .bytes .now) 17 (c .before .entry-byte .result ∷ c .flag-byte .result ∷ a .s .number ∷ []) (omega arith)
-
 pub put-singles-spec : {M : Type 1} → statement M
 put-singles-spec =
     tie.close
@@ -24,8 +13,10 @@ put-singles-spec =
     (λ c κs. search needs)
     (λ c. search needs)
     (λ c κs. search needs)
-    second
-    third
-    fourth
+    (λ c. lt-length-sets (c .before .before .before .before .args .bytes .now) 17 (c .before .entry-byte .result ∷ []) (omega arith))
+    (λ c. lt-length-sets (c .before .before .before .before .args .bytes .now) 17 (c .before .entry-byte .result ∷ c .flag-byte .result ∷ []) (omega arith))
+    (λ c.
+    let a = c .before .before .before .before .args in
+    lt-length-sets (a .bytes .now) 17 (c .before .entry-byte .result ∷ c .flag-byte .result ∷ a .s .number ∷ []) (omega arith))
     (λ c. search needs)
     (λ c. simp (c .flag-byte .ensures, c .before .entry-byte .ensures)))

@@ -9,12 +9,6 @@ use borrow.Author.Needs.{needs}
 use Rattle.encoding.proofs.record_row.Statement.{statement}
 use Rattle.encoding.proofs.record_row.Tie as tie
 
-returns : tie.Need-returns
-returns c =
-    let a = c .args in
-    let e : length (a .t5) ≡ 12 = omega arith in
-    ap (λ (m : List ℕ). a .part ∷ a .macros ∷ a .low ∷ a .high ∷ (m ++ (a .level ∷ []))) (spread-all 12 (a .t5) e)
-
 pub record-row-spec : {M : Type 1} → statement M
 record-row-spec =
     tie.close
@@ -31,4 +25,7 @@ record-row-spec =
     (λ c. search needs)
     (λ c. search needs)
     (λ c. search needs)
-    returns)
+    (λ c.
+    let a = c .args in
+    let e : length (a .t5) ≡ 12 = omega arith in
+    ap (λ (m : List ℕ). a .part ∷ a .macros ∷ a .low ∷ a .high ∷ (m ++ (a .level ∷ []))) (spread-all 12 (a .t5) e)))

@@ -5,11 +5,8 @@ use Rattle.flow.specs.Plan.{loops}
 use Rattle.plan.proofs.loops_of.Statement.{statement}
 use Rattle.plan.proofs.loops_of.Tie as tie
 
-returns : tie.Need-returns
-unfolding loops
-returns c = (rw (c .if-protected .ensures .0, c .before .before .rows .ensures), omega arith)
-
 pub loops-of-spec : {M : Type 1} → statement M
+unfolding loops
 loops-of-spec =
     tie.close
     (tie.spec
@@ -25,4 +22,4 @@ loops-of-spec =
     (λ c. search needs)
     (λ c κs. search needs)
     (λ c. search needs)
-    returns)
+    (λ c. (rw (c .if-protected .ensures .0, c .before .before .rows .ensures), omega arith)))

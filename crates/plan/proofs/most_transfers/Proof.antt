@@ -4,11 +4,8 @@ use Rattle.flow.specs.Plan.{mostTraffic}
 use Rattle.plan.proofs.most_transfers.Statement.{statement}
 use Rattle.plan.proofs.most_transfers.Tie as tie
 
-returns : tie.Need-returns
-unfolding mostTraffic
-returns c = rw (c .acquisitions-of .ensures .0, c .before .loops-of .ensures .0, c .before .before .plan-of .ensures .0)
-
 pub most-transfers-spec : {M : Type 1} → statement M
+unfolding mostTraffic
 most-transfers-spec =
     tie.close
     (tie.spec
@@ -20,4 +17,4 @@ most-transfers-spec =
     (λ c. search needs)
     (λ c. search needs)
     (λ c. search needs)
-    returns)
+    (λ c. rw (c .acquisitions-of .ensures .0, c .before .loops-of .ensures .0, c .before .before .plan-of .ensures .0)))

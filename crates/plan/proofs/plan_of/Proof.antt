@@ -11,12 +11,8 @@ use Rattle.plan.proofs.plan_of.Tie as tie
 rows : (c : tie.After-rows) → c .rows .result * (26 + 5 * c .before .before .before .before .args .g .part .«row_bytes» / 4) ≤ 4294967295 * 81944
 rows c = rows-bound (c .rows .result) (c .before .before .before .before .args .g .part .«row_bytes») (omega arith) (omega arith)
 
-returns : tie.Need-returns
-unfolding plan
-returns c =
-    (rw (c .if-protected .ensures .0, c .before .lock-plan .ensures .0, c .before .before .rows .ensures), omega (arith, rows (c .before .before)))
-
 pub plan-of-spec : {M : Type 1} → statement M
+unfolding plan
 plan-of-spec =
     tie.close
     (tie.spec
@@ -36,4 +32,5 @@ plan-of-spec =
     (λ c. search needs)
     (λ c κs. search needs)
     (λ c. omega (arith, rows (c .before .before)))
-    returns)
+    (λ c.
+    (rw (c .if-protected .ensures .0, c .before .lock-plan .ensures .0, c .before .before .rows .ensures), omega (arith, rows (c .before .before)))))

@@ -13,35 +13,26 @@ use borrow.Author.Needs.{needs}
 use Rattle.purposes.proofs.flash_word_is.Statement.{statement}
 use Rattle.purposes.proofs.flash_word_is.Tie as tie
 
-mul-from : tie.Need-mul-from
-mul-from c =
-    let s = c .before .before .before in
-    let a : s .args .row ≤ 4294967295 = omega arith in
-    let b : s .args .g .part .«row_bytes» ≤ 65535 = omega arith in
-    omega (arith, mul-le-mul a b)
-
-returns : tie.Need-returns
-returns c =
-    let a = c .before .before .before .before .before .before .args in
-    c .part-word-is .ensures
-    ∙ ap (λ (l : List ℕ). sameWord (partOf l (a .row * rowBytes (a .g)) (rowBytes (a .g))) (a .at) (a .w))
-    (all-flash (now (a .bytes)) _ _ (c .before .if1 .taken) (c .before .before .flash-size .ensures .0))
-
-returns-2 : tie.Need-returns-2
-returns-2 c =
-    let a = c .before .before .before .before .before .before .before .args in
-    c .part-word-is2 .ensures
-    ∙ ap (λ (n : ℕ). sameWord (partOf (take n (now (a .bytes))) (a .row * rowBytes (a .g)) (rowBytes (a .g))) (a .at) (a .w)) (c .before .before .before .flash-size .ensures .0)
-
 pub flash-word-is-spec : {M : Type 1} → statement M
 flash-word-is-spec =
     tie.close
     (tie.spec
     (λ c. search needs)
-    mul-from
+    (λ c.
+    let s = c .before .before .before in
+    let a : s .args .row ≤ 4294967295 = omega arith in
+    let b : s .args .g .part .«row_bytes» ≤ 65535 = omega arith in
+    omega (arith, mul-le-mul a b))
     (λ c κs. search needs)
     (λ c κs. search needs)
-    returns
+    (λ c.
+    let a = c .before .before .before .before .before .before .args in
+    c .part-word-is .ensures
+    ∙ ap (λ (l : List ℕ). sameWord (partOf l (a .row * rowBytes (a .g)) (rowBytes (a .g))) (a .at) (a .w))
+    (all-flash (now (a .bytes)) _ _ (c .before .if1 .taken) (c .before .before .flash-size .ensures .0)))
     (λ c. simp length-take (omega (arith, c .before .if1 .left)))
     (λ c κs. search needs)
-    returns-2)
+    (λ c.
+    let a = c .before .before .before .before .before .before .before .args in
+    c .part-word-is2 .ensures
+    ∙ ap (λ (n : ℕ). sameWord (partOf (take n (now (a .bytes))) (a .row * rowBytes (a .g)) (rowBytes (a .g))) (a .at) (a .w)) (c .before .before .before .flash-size .ensures .0)))

@@ -6,22 +6,6 @@ use Rattle.purposes.proofs.Laws.{after-flash, no-locks, same-part}
 use Rattle.purposes.proofs.lock_word_is.Statement.{statement}
 use Rattle.purposes.proofs.lock_word_is.Tie as tie
 
-returns : tie.Need-returns
-returns c =
-    let sizes = c .before .before .before in
-    let a = sizes .before .before .before .before .args in
-    c .part-word-is .ensures
-    ∙ same-part (no-locks (now (a .bytes)) _ _ (c .before .before .if1 .taken) (sizes .flash-size .ensures .0))
-    (sizes .before .before .lock-start .ensures .0) (sizes .before .locks-in .ensures .0) (a .at) (a .w)
-
-returns-2 : tie.Need-returns-2
-returns-2 c =
-    let sizes = c .before .before .before in
-    let a = sizes .before .before .before .before .args in
-    c .part-word-is2 .ensures
-    ∙ same-part (after-flash (now (a .bytes)) _ _ (sizes .flash-size .ensures .0)) (sizes .before .before .lock-start .ensures .0)
-    (sizes .before .locks-in .ensures .0) (a .at) (a .w)
-
 pub lock-word-is-spec : {M : Type 1} → statement M
 lock-word-is-spec =
     tie.close
@@ -33,9 +17,19 @@ lock-word-is-spec =
     (λ c. search needs)
     (λ c. search needs)
     (λ c κs. search needs)
-    returns
+    (λ c.
+    let sizes = c .before .before .before in
+    let a = sizes .before .before .before .before .args in
+    c .part-word-is .ensures
+    ∙ same-part (no-locks (now (a .bytes)) _ _ (c .before .before .if1 .taken) (sizes .flash-size .ensures .0))
+    (sizes .before .before .lock-start .ensures .0) (sizes .before .locks-in .ensures .0) (a .at) (a .w))
     (λ c. search needs)
     (λ c. search needs)
     (λ c. search needs)
     (λ c κs. search needs)
-    returns-2)
+    (λ c.
+    let sizes = c .before .before .before in
+    let a = sizes .before .before .before .before .args in
+    c .part-word-is2 .ensures
+    ∙ same-part (after-flash (now (a .bytes)) _ _ (sizes .flash-size .ensures .0)) (sizes .before .before .lock-start .ensures .0)
+    (sizes .before .locks-in .ensures .0) (a .at) (a .w)))

@@ -7,16 +7,6 @@ use borrow.Author.Needs.{needs}
 use Rattle.purposes.proofs.on_poll.Statement.{statement}
 use Rattle.purposes.proofs.on_poll.Tie as tie
 
-returns-2 : tie.Need-returns-2
-returns-2 c =
-    let p = c .before .before .before .before .before .before .args .c .polls in
-    simp (c .with-polls2 .ensures, ← c .before .before .before .before .before .is-free .ensures, c .before .before .before .before .if1 .left, lt-ltb (suc p) 10000 (omega (arith, c .before .before .if2 .taken)), add-one)
-
-returns-3 : tie.Need-returns-3
-returns-3 c =
-    let p = c .before .before .before .before .args .c .polls in
-    simp (← c .before .before .before .is-free .ensures, c .before .before .if1 .left, le-ltb (suc p) 10000 (omega (arith, c .if2 .left)))
-
 pub on-poll-spec : {M : Type 1} → statement M
 on-poll-spec =
     tie.close
@@ -26,5 +16,9 @@ on-poll-spec =
     (λ c. simp (c .with-polls .ensures, ← c .before .before .is-free .ensures, c .before .if1 .taken))
     (λ c. search needs)
     (λ c κs. search needs)
-    returns-2
-    returns-3)
+    (λ c.
+    let p = c .before .before .before .before .before .before .args .c .polls in
+    simp (c .with-polls2 .ensures, ← c .before .before .before .before .before .is-free .ensures, c .before .before .before .before .if1 .left, lt-ltb (suc p) 10000 (omega (arith, c .before .before .if2 .taken)), add-one))
+    (λ c.
+    let p = c .before .before .before .before .args .c .polls in
+    simp (← c .before .before .before .is-free .ensures, c .before .before .if1 .left, le-ltb (suc p) 10000 (omega (arith, c .if2 .left)))))

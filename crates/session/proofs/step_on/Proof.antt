@@ -27,24 +27,24 @@ the-move c =
     c .move-at .ensures
     ∙ move-found (a .g) (a .s .header) (a .bytes .now) (a .s .position .entry) (a .s .position .at) (a .s .header .part) (a .s .header .macros) (pre .found) (pre .size)
 
-returns : tie.Need-returns
-returns c = simp (c .give .ensures, c .before .if1 .taken)
-
-advanced-requires : tie.Need-advanced-requires
-advanced-requires c κs =
+pub step-on-spec : {M : Type 1} → statement M
+step-on-spec =
+    tie.close
+    (tie.spec
+    (λ c κs. search needs)
+    (λ c. simp (c .give .ensures, c .before .if1 .taken))
+    (λ c κs. search needs)
+    (λ c κs. search needs)
+    (λ c κs.
     let a = c .before .before .before .before .before .before .before .args in
     let pre = c .before .before .before .before .before .before .before .pre in
-    (in-range (a .g) (a .s) (pre .0 .found) (pre .1) (c .before .before .before .before .before .if1 .left), most-small (a .s .header .part) (a .s .header .macros) (pre .0 .found))
-
-give-requires-2 : tie.Need-give-requires-2
-give-requires-2 c κs =
+    (in-range (a .g) (a .s) (pre .0 .found) (pre .1) (c .before .before .before .before .before .if1 .left), most-small (a .s .header .part) (a .s .header .macros) (pre .0 .found)))
+    (λ c κs.
     let a = c .before .before .before .before .before .before .before .before .args in
     let pre = c .before .before .before .before .before .before .before .before .pre in
     let same : c .advanced .result .header ≡ a .s .header = ap (λ (t : Session). t .header) (c .advanced .ensures) ∙ header-kept (a .g) (a .s) _ in
-    record { found = subst (λ (h : Header). lookupOf (h .part) (h .macros) ≡ Found (a .g)) (sym same) (pre .0 .found); size = pre .0 .size }
-
-returns-2 : tie.Need-returns-2
-returns-2 c =
+    record { found = subst (λ (h : Header). lookupOf (h .part) (h .macros) ≡ Found (a .g)) (sym same) (pre .0 .found); size = pre .0 .size })
+    (λ c.
     let a = c .before .before .before .before .before .before .before .before .before .args in
     let pre = c .before .before .before .before .before .before .before .before .before .pre in
     let goes = c .before .before .before .before .before .before .before .if1 .left in
@@ -59,25 +59,10 @@ returns-2 c =
     c .give2 .ensures
     ∙ ap (λ (t : Session). giving (imageOf (a .g) (t .header) (a .bytes .now)) t) new
     ∙ ap (λ (h : Header). giving (imageOf (a .g) h (a .bytes .now)) (resumed (a .g) (a .s) (stepOf i (standOf (a .s)) (a .a)))) (header-kept (a .g) (a .s) _)
-    ∙ sym (on-fit (a .g) (a .s) (a .bytes .now) (a .a) goes fit)
-
-returns-3 : tie.Need-returns-3
-returns-3 c =
+    ∙ sym (on-fit (a .g) (a .s) (a .bytes .now) (a .a) goes fit))
+    (λ c κs. search needs)
+    (λ c.
     let a = c .before .before .before .before .before .before .before .before .args in
     let misfit : answers ((moveAt (imageOf (a .g) (a .s .header) (a .bytes .now)) (a .s .position)) .request) (a .a) ≡ false =
     ap (λ (m : Move). answers (m .request) (a .a)) (sym (the-move (c .before .before .before))) ∙ sym (c .before .before .answer-fits .ensures) ∙ c .before .if2 .left in
-    c .refuse .ensures ∙ sym (on-misfit (a .g) (a .s) (a .bytes .now) (a .a) (c .before .before .before .before .before .before .if1 .left) misfit)
-
-pub step-on-spec : {M : Type 1} → statement M
-step-on-spec =
-    tie.close
-    (tie.spec
-    (λ c κs. search needs)
-    returns
-    (λ c κs. search needs)
-    (λ c κs. search needs)
-    advanced-requires
-    give-requires-2
-    returns-2
-    (λ c κs. search needs)
-    returns-3)
+    c .refuse .ensures ∙ sym (on-misfit (a .g) (a .s) (a .bytes .now) (a .a) (c .before .before .before .before .before .before .if1 .left) misfit)))

@@ -5,11 +5,6 @@ use borrow.Author.Needs.{needs}
 use Rattle.start_call.proofs.refuse_start.Statement.{statement}
 use Rattle.start_call.proofs.refuse_start.Tie as tie
 
-returns : tie.Need-returns
-returns c =
-    let clearing = c .before .before .before .before .before .before in
-    (refl, (clearing .clear .ensures ∙ zero-session (clearing .before .before .before .before .args .bytes .now), c .before .before .put-outcome .ensures))
-
 pub refuse-start-spec : {M : Type 1} → statement M
 refuse-start-spec =
     tie.close
@@ -18,4 +13,6 @@ refuse-start-spec =
     (λ c κs. search needs)
     (λ c. search needs)
     (λ c. search needs)
-    returns)
+    (λ c.
+    let clearing = c .before .before .before .before .before .before in
+    (refl, (clearing .clear .ensures ∙ zero-session (clearing .before .before .before .before .args .bytes .now), c .before .before .put-outcome .ensures))))

@@ -7,39 +7,6 @@ use borrow.Author.Needs.{needs}
 use Rattle.start_call.proofs.start_into.Statement.{statement}
 use Rattle.start_call.proofs.start_into.Tie as tie
 
-returns : tie.Need-returns
-returns c =
-    let refusing = c .before .before .before .before in
-    let a = refusing .before .before .before .before .before .before .before .before .args in
-    leaves-as _ _ _ _ _ (start-partless (a .header .now) (a .image .now) (a .leave) (a .session .now) (a .outcome .now) (refusing .before .before .before .if1 .taken))
-    (refusing .refuse-start .ensures)
-
-returns-2 : tie.Need-returns-2
-returns-2 c =
-    let refusing = c .before .before .before .before in
-    let tested = refusing .before .before .before .before in
-    let a = tested .before .before .before .before .before .before .before .args in
-    let n : refusing .before .under-size .result ≡ elevenOr12 _ _ = refusing .before .under-size .ensures ∙ ap (λ (h : Header). elevenOr12 (h .part) (h .macros)) (tested .before .record-in .ensures ∙ record-found (a .header .now) (tested .before .before .if1 .left)) in
-    leaves-as _ _ _ _ _ (start-under-session (a .header .now) (a .image .now) (a .leave) (a .session .now) (a .outcome .now) (tested .before .before .if1 .left) (tested .if2 .taken))
-    (rw (← n) (refusing .refuse-start2 .ensures))
-
-returns-3 : tie.Need-returns-3
-returns-3 c =
-    let refusing = c .before .before .before .before in
-    let tested = refusing .before .before .before .before in
-    let a = tested .before .before .before .before .before .before .before .before .args in
-    let n : refusing .before .under-size2 .result ≡ elevenOr12 _ _ = refusing .before .under-size2 .ensures ∙ ap (λ (h : Header). elevenOr12 (h .part) (h .macros)) (tested .before .before .record-in .ensures ∙ record-found (a .header .now) (tested .before .before .before .if1 .left)) in
-    leaves-as _ _ _ _ _ (start-under-outcome (a .header .now) (a .image .now) (a .leave) (a .session .now) (a .outcome .now) (tested .before .before .before .if1 .left) (tested .before .if2 .left) (tested .if3 .taken))
-    (rw (← n) (refusing .refuse-start3 .ensures))
-
-returns-4 : tie.Need-returns-4
-returns-4 c =
-    let putting = c .before .before .before .before .before .before .before in
-    let starting = putting .before .before .before in
-    let tested = starting .before in
-    let a = tested .before .before .before .before .before .before .before .before .args in
-    start-done (a .header .now) (a .image .now) (a .leave) (a .session .now) (a .outcome .now) (tested .before .before .before .if1 .left) _ _ _ _ _ (tested .before .if2 .left) (tested .if3 .left) (tested .before .before .record-in .ensures ∙ record-found (a .header .now) (tested .before .before .before .if1 .left)) (starting .start .ensures) (c .number-of .ensures) (putting .put-session .ensures) (c .before .before .before .put-outcome .ensures)
-
 pub start-into-spec : {M : Type 1} → statement M
 start-into-spec =
     tie.close
@@ -47,22 +14,43 @@ start-into-spec =
     (λ c κs. search needs)
     (λ c. search needs)
     (λ c. search needs)
-    returns
+    (λ c.
+    let refusing = c .before .before .before .before in
+    let a = refusing .before .before .before .before .before .before .before .before .args in
+    leaves-as _ _ _ _ _ (start-partless (a .header .now) (a .image .now) (a .leave) (a .session .now) (a .outcome .now) (refusing .before .before .before .if1 .taken))
+    (refusing .refuse-start .ensures))
     (λ c κs. search needs)
     (λ c κs. search needs)
     (λ c κs. search needs)
     (λ c. search needs)
     (λ c. search needs)
-    returns-2
+    (λ c.
+    let refusing = c .before .before .before .before in
+    let tested = refusing .before .before .before .before in
+    let a = tested .before .before .before .before .before .before .before .args in
+    let n : refusing .before .under-size .result ≡ elevenOr12 _ _ = refusing .before .under-size .ensures ∙ ap (λ (h : Header). elevenOr12 (h .part) (h .macros)) (tested .before .record-in .ensures ∙ record-found (a .header .now) (tested .before .before .if1 .left)) in
+    leaves-as _ _ _ _ _ (start-under-session (a .header .now) (a .image .now) (a .leave) (a .session .now) (a .outcome .now) (tested .before .before .if1 .left) (tested .if2 .taken))
+    (rw (← n) (refusing .refuse-start2 .ensures)))
     (λ c κs. search needs)
     (λ c κs. search needs)
     (λ c. search needs)
     (λ c. search needs)
-    returns-3
+    (λ c.
+    let refusing = c .before .before .before .before in
+    let tested = refusing .before .before .before .before in
+    let a = tested .before .before .before .before .before .before .before .before .args in
+    let n : refusing .before .under-size2 .result ≡ elevenOr12 _ _ = refusing .before .under-size2 .ensures ∙ ap (λ (h : Header). elevenOr12 (h .part) (h .macros)) (tested .before .before .record-in .ensures ∙ record-found (a .header .now) (tested .before .before .before .if1 .left)) in
+    leaves-as _ _ _ _ _ (start-under-outcome (a .header .now) (a .image .now) (a .leave) (a .session .now) (a .outcome .now) (tested .before .before .before .if1 .left) (tested .before .if2 .left) (tested .if3 .taken))
+    (rw (← n) (refusing .refuse-start3 .ensures)))
     (λ c κs. search needs)
     (λ c κs. search needs)
     (λ c κs. search needs)
     (λ c κs. search needs)
     (λ c. search needs)
     (λ c. search needs)
-    returns-4)
+    (λ c.
+    let putting = c .before .before .before .before .before .before .before in
+    let starting = putting .before .before .before in
+    let tested = starting .before in
+    let a = tested .before .before .before .before .before .before .before .before .args in
+    start-done (a .header .now) (a .image .now) (a .leave) (a .session .now) (a .outcome .now) (tested .before .before .before .if1 .left) _ _ _ _ _ (tested .before .if2 .left) (tested .if3 .left) (tested .before .before .record-in .ensures ∙ record-found (a .header .now) (tested .before .before .before .if1 .left)) (starting .start .ensures) (c .number-of .ensures) (putting .put-session .ensures) (c .before .before .before .put-outcome .ensures)))

@@ -3,12 +3,6 @@ use borrow.Author.Needs.{needs}
 use Rattle.start_call.proofs.under_size.Statement.{statement}
 use Rattle.start_call.proofs.under_size.Tie as tie
 
-returns : tie.Need-returns
-returns c = rw (← c .before .before .find .ensures, c .enum-told .given .1)
-
-returns-2 : tie.Need-returns-2
-returns-2 c = rw (← c .before .before .find .ensures, c .enum-told2 .given .1)
-
 pub under-size-spec : {M : Type 1} → statement M
 under-size-spec =
     tie.close
@@ -16,5 +10,5 @@ under-size-spec =
     (λ c κs. search needs)
     (λ c. search needs)
     (λ c. search needs)
-    returns
-    returns-2)
+    (λ c. rw (← c .before .before .find .ensures, c .enum-told .given .1))
+    (λ c. rw (← c .before .before .find .ensures, c .enum-told2 .given .1)))

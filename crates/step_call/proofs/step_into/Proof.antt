@@ -5,24 +5,18 @@ use borrow.Author.Needs.{needs}
 use Rattle.step_call.proofs.step_into.Statement.{statement}
 use Rattle.step_call.proofs.step_into.Tie as tie
 
-returns : tie.Need-returns
-returns c =
-    let tested = c .before .before .before .before in
-    let a = tested .before .before .before .before .args in
-    leaves-as _ _ _ _ _ (step-sessionless (a .session .now) (a .image .now) (a .a) (a .outcome .now) (tested .if1 .taken))
-    (refl, (refl, c .before .before .put-outcome .ensures))
-
-returns-2 : tie.Need-returns-2
-returns-2 c = c .before .before .before .before .step-on .ensures
-
 pub step-into-spec : {M : Type 1} → statement M
 step-into-spec =
     tie.close
     (tie.spec
     (λ c κs. search needs)
     (λ c. search needs)
-    returns
+    (λ c.
+    let tested = c .before .before .before .before in
+    let a = tested .before .before .before .before .args in
+    leaves-as _ _ _ _ _ (step-sessionless (a .session .now) (a .image .now) (a .a) (a .outcome .now) (tested .if1 .taken))
+    (refl, (refl, c .before .before .put-outcome .ensures)))
     (λ c κs. search needs)
     (λ c. search needs)
     (λ c. search needs)
-    returns-2)
+    (λ c. c .before .before .before .before .step-on .ensures))

@@ -10,41 +10,6 @@ use borrow.Author.Needs.{needs}
 use Rattle.step_call.proofs.step_on.Statement.{statement}
 use Rattle.step_call.proofs.step_on.Tie as tie
 
-returns : tie.Need-returns
-returns c =
-    let tested = c .before .before .before .before in
-    let start = tested .before .before .before .before .before .before in
-    let a = start .args in
-    let is = tested .before .is-session in
-    leaves-as _ _ _ _ _ (step-other (a .bytes .now) (a .image .now) (a .a) (a .outcome .now) (start .pre) (sym (is .ensures) ∙ not-true (is .result) (tested .if1 .taken)))
-    (refl, (refl, c .before .before .put-outcome .ensures))
-
-part : tie.Need-slice-aggregate-step
-part c =
-    let a = c .before .before .before .before .before .before .before .before .before .before .args in
-    sym (length-take-le (c .before .lent-with .result) (a .image .now) (c .before .lent-with .ensures .1))
-
-returns-2 : tie.Need-returns-2
-returns-2 c =
-    let stepping = c .before .before .before .before .before .before in
-    let lending = stepping .before .before in
-    let tested = lending .before .before .before in
-    let start = tested .before .before .before .before .before .before in
-    let a = start .args in
-    let is = tested .before .is-session in
-    step-refused (a .bytes .now) (a .image .now) (a .a) (a .outcome .now) (start .pre) _ _ _ _ (sym (is .ensures) ∙ not-false (is .result) (tested .if1 .left)) (lending .before .session-in .ensures ∙ session-found (a .bytes .now) (start .pre)) (ap (λ (k : ℕ). take k (a .image .now)) (lending .lent-with .ensures .0)) (stepping .step .ensures) (c .before .number-of .ensures) _ (c .if2 .taken) (c .before .before .before .before .put-outcome2 .ensures)
-
-returns-3 : tie.Need-returns-3
-returns-3 c =
-    let counted = c .before .before .before .before .before .before in
-    let stepping = counted .before .before .before .before .before in
-    let lending = stepping .before .before in
-    let tested = lending .before .before .before in
-    let start = tested .before .before .before .before .before .before in
-    let a = start .args in
-    let is = tested .before .is-session in
-    step-went (a .bytes .now) (a .image .now) (a .a) (a .outcome .now) (start .pre) _ _ _ _ (sym (is .ensures) ∙ not-false (is .result) (tested .if1 .left)) (lending .before .session-in .ensures ∙ session-found (a .bytes .now) (start .pre)) (ap (λ (k : ℕ). take k (a .image .now)) (lending .lent-with .ensures .0)) (stepping .step .ensures) (counted .number-of .ensures) _ _ (c .before .before .before .before .before .if2 .left) (c .before .before .put-session .ensures) (counted .before .before .before .put-outcome2 .ensures)
-
 pub step-on-spec : {M : Type 1} → statement M
 step-on-spec =
     tie.close
@@ -53,17 +18,40 @@ step-on-spec =
     (λ c κs. search needs)
     (λ c. search needs)
     (λ c. search needs)
-    returns
+    (λ c.
+    let tested = c .before .before .before .before in
+    let start = tested .before .before .before .before .before .before in
+    let a = start .args in
+    let is = tested .before .is-session in
+    leaves-as _ _ _ _ _ (step-other (a .bytes .now) (a .image .now) (a .a) (a .outcome .now) (start .pre) (sym (is .ensures) ∙ not-true (is .result) (tested .if1 .taken)))
+    (refl, (refl, c .before .before .put-outcome .ensures)))
     (λ c κs. search needs)
     (λ c κs. search needs)
-    part
+    (λ c.
+    let a = c .before .before .before .before .before .before .before .before .before .before .args in
+    sym (length-take-le (c .before .lent-with .result) (a .image .now) (c .before .lent-with .ensures .1)))
     (λ c κs. search needs)
     (λ c κs. search needs)
     (λ c κs. search needs)
     (λ c. search needs)
     (λ c. search needs)
-    returns-2
+    (λ c.
+    let stepping = c .before .before .before .before .before .before in
+    let lending = stepping .before .before in
+    let tested = lending .before .before .before in
+    let start = tested .before .before .before .before .before .before in
+    let a = start .args in
+    let is = tested .before .is-session in
+    step-refused (a .bytes .now) (a .image .now) (a .a) (a .outcome .now) (start .pre) _ _ _ _ (sym (is .ensures) ∙ not-false (is .result) (tested .if1 .left)) (lending .before .session-in .ensures ∙ session-found (a .bytes .now) (start .pre)) (ap (λ (k : ℕ). take k (a .image .now)) (lending .lent-with .ensures .0)) (stepping .step .ensures) (c .before .number-of .ensures) _ (c .if2 .taken) (c .before .before .before .before .put-outcome2 .ensures))
     (λ c κs. search needs)
     (λ c. search needs)
     (λ c. search needs)
-    returns-3)
+    (λ c.
+    let counted = c .before .before .before .before .before .before in
+    let stepping = counted .before .before .before .before .before in
+    let lending = stepping .before .before in
+    let tested = lending .before .before .before in
+    let start = tested .before .before .before .before .before .before in
+    let a = start .args in
+    let is = tested .before .is-session in
+    step-went (a .bytes .now) (a .image .now) (a .a) (a .outcome .now) (start .pre) _ _ _ _ (sym (is .ensures) ∙ not-false (is .result) (tested .if1 .left)) (lending .before .session-in .ensures ∙ session-found (a .bytes .now) (start .pre)) (ap (λ (k : ℕ). take k (a .image .now)) (lending .lent-with .ensures .0)) (stepping .step .ensures) (counted .number-of .ensures) _ _ (c .before .before .before .before .before .if2 .left) (c .before .before .put-session .ensures) (counted .before .before .before .put-outcome2 .ensures)))

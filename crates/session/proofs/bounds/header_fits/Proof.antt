@@ -3,15 +3,6 @@ use borrow.Author.Needs.{needs}
 use Rattle.session.proofs.bounds.header_fits.Statement.{statement}
 use Rattle.session.proofs.bounds.header_fits.Tie as tie
 
-returns : tie.Need-returns
-returns c = simp (← c .level-fits .ensures, ← c .before .before .id-fits .ensures, ← c .before .before .before .before .version-fits .ensures, c .before .if2 .taken, c .before .before .before .if1 .taken)
-
-returns-2 : tie.Need-returns-2
-returns-2 c = simp (← c .before .id-fits .ensures, ← c .before .before .before .version-fits .ensures, c .if2 .left, c .before .before .if1 .taken)
-
-returns-3 : tie.Need-returns-3
-returns-3 c = simp (← c .before .version-fits .ensures, c .if1 .left)
-
 pub header-fits-spec : {M : Type 1} → statement M
 header-fits-spec =
     tie.close
@@ -19,6 +10,6 @@ header-fits-spec =
     (λ c κs. search needs)
     (λ c κs. search needs)
     (λ c κs. search needs)
-    returns
-    returns-2
-    returns-3)
+    (λ c. simp (← c .level-fits .ensures, ← c .before .before .id-fits .ensures, ← c .before .before .before .before .version-fits .ensures, c .before .if2 .taken, c .before .before .before .if1 .taken))
+    (λ c. simp (← c .before .id-fits .ensures, ← c .before .before .before .version-fits .ensures, c .if2 .left, c .before .before .if1 .taken))
+    (λ c. simp (← c .before .version-fits .ensures, c .if1 .left)))

@@ -5,32 +5,17 @@ use borrow.Author.Needs.{needs}
 use Rattle.session.proofs.bounds.possible_in.Statement.{statement}
 use Rattle.session.proofs.bounds.possible_in.Tie as tie
 
-returns : tie.Need-returns
-unfolding possibleIn
-returns c = simp (← c .before .header-fits .ensures, not-true (c .before .header-fits .result) (c .if1 .taken))
-
-returns-2 : tie.Need-returns-2
-unfolding possibleIn
-returns-2 c = simp (← c .before .before .before .before .header-fits .ensures, not-false (c .before .before .before .before .header-fits .result) (c .before .before .before .if1 .left), ← c .before .before .most-transfers .ensures, lt-leb _ _ (c .if2 .taken))
-
-returns-3 : tie.Need-returns-3
-unfolding possibleIn
-returns-3 c = simp (← c .before .before .before .before .before .before .header-fits .ensures, not-false (c .before .before .before .before .before .before .header-fits .result) (c .before .before .before .before .before .if1 .left), ← c .before .before .before .before .most-transfers .ensures, le-leb _ _ (c .before .before .if2 .left), c .before .if3 .taken, ← c .report-fits .ensures)
-
-returns-4 : tie.Need-returns-4
-unfolding possibleIn
-returns-4 c = simp (← c .before .before .before .before .before .before .before .before .header-fits .ensures, not-false (c .before .before .before .before .before .before .before .before .header-fits .result) (c .before .before .before .before .before .before .before .if1 .left), ← c .before .before .before .before .before .before .most-transfers .ensures, le-leb _ _ (c .before .before .before .before .if2 .left), c .before .before .before .if3 .left, ← c .running-fits .ensures)
-
 pub possible-in-spec : {M : Type 1} → statement M
+unfolding possibleIn
 possible-in-spec =
     tie.close
     (tie.spec
     (λ c κs. search needs)
-    returns
+    (λ c. simp (← c .before .header-fits .ensures, not-true (c .before .header-fits .result) (c .if1 .taken)))
     (λ c κs. search needs)
     (λ c. search needs)
-    returns-2
+    (λ c. simp (← c .before .before .before .before .header-fits .ensures, not-false (c .before .before .before .before .header-fits .result) (c .before .before .before .if1 .left), ← c .before .before .most-transfers .ensures, lt-leb _ _ (c .if2 .taken)))
     (λ c κs. search needs)
-    returns-3
+    (λ c. simp (← c .before .before .before .before .before .before .header-fits .ensures, not-false (c .before .before .before .before .before .before .header-fits .result) (c .before .before .before .before .before .if1 .left), ← c .before .before .before .before .most-transfers .ensures, le-leb _ _ (c .before .before .if2 .left), c .before .if3 .taken, ← c .report-fits .ensures))
     (λ c κs. search needs)
-    returns-4)
+    (λ c. simp (← c .before .before .before .before .before .before .before .before .header-fits .ensures, not-false (c .before .before .before .before .before .before .before .before .header-fits .result) (c .before .before .before .before .before .before .before .if1 .left), ← c .before .before .before .before .before .before .most-transfers .ensures, le-leb _ _ (c .before .before .before .before .if2 .left), c .before .before .before .if3 .left, ← c .running-fits .ensures)))
