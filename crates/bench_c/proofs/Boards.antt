@@ -180,7 +180,7 @@ pub record Sized (b : List ℕ) (h : Handed) (a : List ℕ) : Type 0 where
   pub board : length b ≡ 46
   pub event : length (h .event) ≡ 11
   pub call : length (h .call) ≡ 10
-  pub request : length (h .request) ≡ 8
+  pub packet : length (h .packet) ≡ 8
   pub answer : length a ≡ 8
 
 pub sized : (b : List ℕ) (h : Handed) (a : List ℕ) → sizesFit b h a ≡ true → Sized b h a
@@ -188,13 +188,13 @@ sized b h a e =
     let s = both (eqb (length b) 46) _ e in
     let t = both (eqb (length (h .event)) 11) _ (s .1) in
     let u = both (eqb (length (h .call)) 10) _ (t .1) in
-    let v = both (eqb (length (h .request)) 8) _ (u .1) in
-    record { board = eqb-true _ _ (s .0); event = eqb-true _ _ (t .0); call = eqb-true _ _ (u .0); request = eqb-true _ _ (v .0); answer = eqb-true _ _ (v .1) }
+    let v = both (eqb (length (h .packet)) 8) _ (u .1) in
+    record { board = eqb-true _ _ (s .0); event = eqb-true _ _ (t .0); call = eqb-true _ _ (u .0); packet = eqb-true _ _ (v .0); answer = eqb-true _ _ (v .1) }
 
 -- ---- what is asked for
 
 pub asked-meeting : (b : List ℕ) (h : Handed) (g : Geometry) (r : Registers) (p : Packet) (v : LineEvent) (o : CallOutcome) → isBench b h ≡ true → r ≡ registersIn b
-    → p ≡ packetIn (h .request)
+    → p ≡ packetIn (h .packet)
     → v ≡ eventIn (h .event)
     → o ≡ callOutcomeAt (h .call) 0
     → Meets g r p v o ≡ askedFor (Found g) b h
@@ -210,7 +210,7 @@ abbrev pub meets : Asked → Bool
 meets (Returned n) = false
 meets (Meets g r p e o) = true
 
--- only bytes of the right lengths ask for a request to be met
+-- only bytes of the right lengths ask for a packet to be met
 pub meets-sized : (part macros : ℕ) (b : List ℕ) (h : Handed) (a : List ℕ) (y : Asked) → y ≡ askedOf part macros b h a → meets y ≡ true → Sized b h a
 meets-sized part macros b h a y is k = sized b h a (by (sizesFit b h a) (sym k ∙ ap meets is))
   where

@@ -13,7 +13,7 @@ use Rattle.parts.specs.declared.Lookup.the-variants.{Found, Refused}
 abbrev pub askedFor : Lookup → (board : List ℕ) → Handed → Asked
 askedFor (Refused n) b h = Returned n
 askedFor (Found g) b h =
-    cond (isBench b h) (Meets g (registersIn b) (packetIn (h .request)) (eventIn (h .event)) (callOutcomeAt (h .call) 0)) (Returned 13)
+    cond (isBench b h) (Meets g (registersIn b) (packetIn (h .packet)) (eventIn (h .event)) (callOutcomeAt (h .call) 0)) (Returned 13)
 
 abbrev pub askedOf : (part macros : ℕ) → (board : List ℕ) → Handed → (answer : List ℕ) → Asked
 askedOf part macros b h a = cond (sizesFit b h a) (askedFor (lookupOf part macros) b h) (Returned 12)

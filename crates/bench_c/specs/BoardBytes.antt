@@ -1,4 +1,4 @@
--- The bench board and what is handed in with a request, as bytes. Assumes nothing.
+-- The bench board and what is handed in with a packet, as bytes. Assumes nothing.
 use mathlib.Core.Bool.{Bool, true, false, _&&_, cond}
 use mathlib.Core.List.{List, [], _∷_, _++_}
 use mathlib.Core.Path.{_≡_}
@@ -86,7 +86,7 @@ eventIn bs = record { outcome = transferOutcomeIn (getD bs 0 0); filler = record
 abbrev pub isEvent : List ℕ → Bool
 isEvent bs = leb (getD bs 0 0) 7
 
--- the request in an outcome's bytes: 1 XRES, 2 line reset, 3 read, 4 write
+-- the packet in an outcome's bytes: 1 XRES, 2 line reset, 3 read, 4 write
 abbrev pub packetIn : List ℕ → Packet
 packetIn bs =
     cond (eqb (getD bs 0 0) 1) Xres

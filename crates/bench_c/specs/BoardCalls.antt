@@ -31,14 +31,14 @@ benchOf b f l t p a = record { board = b; flash = f; locks = l; latch = t; param
 abbrev pub buffersOf : Bench → Buffers
 buffersOf b = record { flash = b .flash; locks = b .locks; latch = b .latch; params = b .params }
 
--- what is handed in with a request, lent for reading
+-- what is handed in with a packet, lent for reading
 pub record Handed : Type 0 where
   pub event : List ℕ
   pub call : List ℕ
-  pub request : List ℕ
+  pub packet : List ℕ
 
-abbrev pub handed : (event call request : List ℕ) → Handed
-handed e c q = record { event = e; call = c; request = q }
+abbrev pub handed : (event call packet : List ℕ) → Handed
+handed e c q = record { event = e; call = c; packet = q }
 
 -- the number that the call returns, and what was lent to it at its end
 pub record Benched : Type 0 where
@@ -58,21 +58,21 @@ benchAfter m =
 abbrev pub meetInto : Geometry → Packet → LineEvent → CallOutcome → Left → Bench → Bench
 meetInto g p e o x b = benchAfter (Flow.meet g p (listsOf x e o) (targetOf x (registersIn (b .board)) (buffersOf b)))
 
--- bytes that a board, an event, a call and a request have
+-- bytes that a board, an event, a call and a packet have
 abbrev pub isBench : (board : List ℕ) → Handed → Bool
-isBench b h = isBoard b && (isEvent (h .event) && (isCallOutcome (h .call) 0 && isPacket (h .request)))
+isBench b h = isBoard b && (isEvent (h .event) && (isCallOutcome (h .call) 0 && isPacket (h .packet)))
 
 -- 12: bytes of a wrong length
 abbrev pub sizesFit : (board : List ℕ) → Handed → (answer : List ℕ) → Bool
 sizesFit b h a =
     eqb (length b) 46
-    && (eqb (length (h .event)) 11 && (eqb (length (h .call)) 10 && (eqb (length (h .request)) 8 && eqb (length a) 8)))
+    && (eqb (length (h .event)) 11 && (eqb (length (h .call)) 10 && (eqb (length (h .packet)) 8 && eqb (length a) 8)))
 
 -- 11 for what is not in the table, then 13: nothing is written
 abbrev pub meetFor : Lookup → Handed → Left → Bench → Benched
 meetFor (Refused n) h x b = benched n b
 meetFor (Found g) h x b =
-    cond (isBench (b .board) h) (benched 0 (meetInto g (packetIn (h .request)) (eventIn (h .event)) (callOutcomeAt (h .call) 0) x b)) (benched 13 b)
+    cond (isBench (b .board) h) (benched 0 (meetInto g (packetIn (h .packet)) (eventIn (h .event)) (callOutcomeAt (h .call) 0) x b)) (benched 13 b)
 
 unfoldable pub meetCall : (part macros : ℕ) → Handed → Left → Bench → Benched
 meetCall part macros h x b = cond (sizesFit (b .board) h (b .answer)) (meetFor (lookupOf part macros) h x b) (benched 12 b)

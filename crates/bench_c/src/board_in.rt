@@ -1,4 +1,4 @@
-// The bench board and what is handed in with a request, found in a caller's bytes.
+// The bench board and what is handed in with a packet, found in a caller's bytes.
 ghost use mathlib.Core.Path.{_≡_};
 ghost use Prim.Native.Nat.{_+_, _≤_};
 ghost use lib.ListN.{length};
@@ -150,7 +150,7 @@ pub(crate) fn is_event(bytes: &[u8]) -> bool
     bytes[0] <= 7
 }
 
-// The request that an outcome's bytes hold.
+// The packet that an outcome's bytes hold.
 pub(crate) fn packet_in(bytes: &[u8]) -> Packet
     requires { ⌜ length (now bytes) ≡ 8 ⌝ }
     ensures { λ r. ⌜ r ≡ packetIn (now (bytes .entry)) ⌝ }

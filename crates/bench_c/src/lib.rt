@@ -28,8 +28,8 @@ use parts::Geometry;
 use parts::Lookup;
 
 // Whether all that is of a fixed size is of it.
-fn sizes_fit(board: &[u8], event: &[u8], call: &[u8], request: &[u8], answer: &[u8]) -> bool
-    ensures { λ r. ⌜ r ≡ sizesFit (now (board .entry)) (handed (now (event .entry)) (now (call .entry)) (now (request .entry))) (now (answer .entry)) ⌝ }
+fn sizes_fit(board: &[u8], event: &[u8], call: &[u8], packet: &[u8], answer: &[u8]) -> bool
+    ensures { λ r. ⌜ r ≡ sizesFit (now (board .entry)) (handed (now (event .entry)) (now (call .entry)) (now (packet .entry))) (now (answer .entry)) ⌝ }
 {
     if board.len() != 46 {
         return false;
@@ -40,16 +40,16 @@ fn sizes_fit(board: &[u8], event: &[u8], call: &[u8], request: &[u8], answer: &[
     if call.len() != 10 {
         return false;
     }
-    if request.len() != 8 {
+    if packet.len() != 8 {
         return false;
     }
     answer.len() == 8
 }
 
-// Whether bytes are ones that a board, an event, a call and a request have.
-fn is_bench(board: &[u8], event: &[u8], call: &[u8], request: &[u8]) -> bool
-    requires { ⌜ (length (now board) ≡ 46) × ((length (now event) ≡ 11) × ((length (now call) ≡ 10) × (length (now request) ≡ 8))) ⌝ }
-    ensures { λ r. ⌜ r ≡ isBench (now (board .entry)) (handed (now (event .entry)) (now (call .entry)) (now (request .entry))) ⌝ }
+// Whether bytes are ones that a board, an event, a call and a packet have.
+fn is_bench(board: &[u8], event: &[u8], call: &[u8], packet: &[u8]) -> bool
+    requires { ⌜ (length (now board) ≡ 46) × ((length (now event) ≡ 11) × ((length (now call) ≡ 10) × (length (now packet) ≡ 8))) ⌝ }
+    ensures { λ r. ⌜ r ≡ isBench (now (board .entry)) (handed (now (event .entry)) (now (call .entry)) (now (packet .entry))) ⌝ }
 {
     if !is_board(board) {
         return false;
@@ -60,25 +60,25 @@ fn is_bench(board: &[u8], event: &[u8], call: &[u8], request: &[u8]) -> bool
     if !is_call_outcome(call, 0) {
         return false;
     }
-    is_packet(request)
+    is_packet(packet)
 }
 
-// What bytes ask for: a number to return at once, or a request to meet, with all that it is met with.
+// What bytes ask for: a number to return at once, or a packet to meet, with all that it is met with.
 enum Asked {
     Returned(u32),
     Meets(Geometry, Registers, Packet, LineEvent, CallOutcome),
 }
 
 // What bytes of the right lengths ask for.
-fn asked_on(g: Geometry, board: &[u8], event: &[u8], call: &[u8], request: &[u8]) -> Asked
-    requires { ⌜ (length (now board) ≡ 46) × ((length (now event) ≡ 11) × ((length (now call) ≡ 10) × (length (now request) ≡ 8))) ⌝ }
-    ensures { λ r. ⌜ r ≡ askedFor (Lookup.Found g) (now (board .entry)) (handed (now (event .entry)) (now (call .entry)) (now (request .entry))) ⌝ }
+fn asked_on(g: Geometry, board: &[u8], event: &[u8], call: &[u8], packet: &[u8]) -> Asked
+    requires { ⌜ (length (now board) ≡ 46) × ((length (now event) ≡ 11) × ((length (now call) ≡ 10) × (length (now packet) ≡ 8))) ⌝ }
+    ensures { λ r. ⌜ r ≡ askedFor (Lookup.Found g) (now (board .entry)) (handed (now (event .entry)) (now (call .entry)) (now (packet .entry))) ⌝ }
 {
-    if !is_bench(board, event, call, request) {
+    if !is_bench(board, event, call, packet) {
         return Asked::Returned(13);
     }
     let r = registers_in(board);
-    let p = packet_in(request);
+    let p = packet_in(packet);
     let e = event_in(event);
     let o = call_outcome_at(call, 0);
     Asked::Meets(g, r, p, e, o)
@@ -90,17 +90,17 @@ fn asked_of(
     board: &[u8],
     event: &[u8],
     call: &[u8],
-    request: &[u8],
+    packet: &[u8],
     answer: &[u8],
 ) -> Asked
-    ensures { λ r. ⌜ r ≡ askedOf part macros (now (board .entry)) (handed (now (event .entry)) (now (call .entry)) (now (request .entry))) (now (answer .entry)) ⌝ }
+    ensures { λ r. ⌜ r ≡ askedOf part macros (now (board .entry)) (handed (now (event .entry)) (now (call .entry)) (now (packet .entry))) (now (answer .entry)) ⌝ }
 {
-    if !sizes_fit(board, event, call, request, answer) {
+    if !sizes_fit(board, event, call, packet, answer) {
         return Asked::Returned(12);
     }
     let found = parts::find(part, macros);
     match found {
-        Lookup::Found(g) => asked_on(g, board, event, call, request),
+        Lookup::Found(g) => asked_on(g, board, event, call, packet),
         Lookup::Refused(n) => Asked::Returned(n as u32),
     }
 }
@@ -115,7 +115,7 @@ fn number_of(a: Asked) -> u32
     }
 }
 
-// Puts how a request was met.
+// Puts how a packet was met.
 fn put_met(board: &mut [u8], answer: &mut [u8], met: Met)
     requires { ⌜ (length (now board) ≡ 46) × (length (now answer) ≡ 8) ⌝ }
     ensures { λ _. ⌜ BoardPut (met .registers) (now (board .exit)) ⌝ ∗ ⌜ now (answer .exit) ≡ answerBytes (met .answer) (usedOf (met .«line_used») (met .«call_used»)) ⌝ }
@@ -126,7 +126,7 @@ fn put_met(board: &mut [u8], answer: &mut [u8], met: Met)
     put_answer(answer, a, met.line_used, met.call_used);
 }
 
-// The board meets a request.
+// The board meets a packet.
 #[no_mangle]
 pub extern "C" fn halzuqeen_bench_meet(
     part: u8,
@@ -141,12 +141,12 @@ pub extern "C" fn halzuqeen_bench_meet(
     left_latch: &[u8],
     event: &[u8],
     call: &[u8],
-    request: &[u8],
+    packet: &[u8],
     answer: &mut [u8],
 ) -> u32
-    ensures met { λ r. ⌜ benched r (benchOf (now (board .exit)) (now (flash .exit)) (now (locks .exit)) (now (latch .exit)) (now (params .exit)) (now (answer .exit))) ≡ meetCall part macros (handed (now (event .entry)) (now (call .entry)) (now (request .entry))) (left (now («left_flash» .entry)) (now («left_locks» .entry)) (now («left_latch» .entry))) (benchOf (now (board .entry)) (now (flash .entry)) (now (locks .entry)) (now (latch .entry)) (now (params .entry)) (now (answer .entry))) ⌝ }
+    ensures met { λ r. ⌜ benched r (benchOf (now (board .exit)) (now (flash .exit)) (now (locks .exit)) (now (latch .exit)) (now (params .exit)) (now (answer .exit))) ≡ meetCall part macros (handed (now (event .entry)) (now (call .entry)) (now (packet .entry))) (left (now («left_flash» .entry)) (now («left_locks» .entry)) (now («left_latch» .entry))) (benchOf (now (board .entry)) (now (flash .entry)) (now (locks .entry)) (now (latch .entry)) (now (params .entry)) (now (answer .entry))) ⌝ }
 {
-    let asked = asked_of(part, macros, board, event, call, request, answer);
+    let asked = asked_of(part, macros, board, event, call, packet, answer);
     let Asked::Meets(g, r, p, e, o) = asked else {
         return number_of(asked);
     };

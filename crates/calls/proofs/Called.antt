@@ -12,7 +12,7 @@ use Rattle.calls.proofs.Refusing.{impossible, no-image}
 use Rattle.calls.specs.Calls.{CallResult, callResult, inTable, isFound, refusedOr, readInto, readCall, writeInto, writeCall, yes, startInto, startCall, stepInto, stepCall}
 use Rattle.encoding.specs.Buffers.{putInto}
 use Rattle.encoding.specs.Outcomes.{outcomeBytes, numberOf}
-use Rattle.encoding.specs.Records.{recordBytes, recordIn}
+use Rattle.encoding.specs.Headers.{headerBytes, headerIn}
 use Rattle.encoding.specs.Sessions.{sessionBytes, sessionIn, isSession}
 use Rattle.flow.specs.declared.Answer.{Answer}
 use Rattle.hex_format.specs.HexFormat.{hexFormat}
@@ -55,7 +55,7 @@ elevenOr12 part macros = cond (inTable part macros) 12 11
 
 module _ (part macros : ℕ) (text image header : List ℕ) where
   pub read-under : length header < 17 → readCall part macros text image header ≡ callResult (elevenOr12 part macros) image header
-  unfolding readCall firstRefusal recordBytes
+  unfolding readCall firstRefusal headerBytes
   read-under h = rw (lt-leb 17 (length header) h) (by (inTable part macros))
     where
       by : (t : Bool)
@@ -74,14 +74,14 @@ module _ (part macros : ℕ) (text image header : List ℕ) where
       by (NotFound n) e = rw (refused-eleven part macros n e)
       by (Found g) e = refl
 
-  -- the reader's answer, and its record put
+  -- the reader's answer, and its header put
   pub read-done : (answer : ReadAnswer) (image′ header′ : List ℕ) → 17 ≤ length header → answer ≡ answerOf (hexReading part macros text (length image))
       → image′ ≡ bufferAfter (hexReading part macros text (length image)) image
-      → header′ ≡ putInto header (recordBytes (answer .header))
+      → header′ ≡ putInto header (headerBytes (answer .header))
       → Leaves (readCall part macros text image header) (answer .number) image′ header′
   read-done answer image′ header′ n e f g =
       leaves-as _ (readInto (hexReading part macros text (length image)) image header) _ _ _ (read-room n)
-      (ap (λ (x : ReadAnswer). x .number) e, (f, g ∙ ap (λ (x : ReadAnswer). putInto header (recordBytes (x .header))) e))
+      (ap (λ (x : ReadAnswer). x .number) e, (f, g ∙ ap (λ (x : ReadAnswer). putInto header (headerBytes (x .header))) e))
 
 -- ---- writing
 
@@ -91,33 +91,33 @@ module _ (header image text size : List ℕ) where
   write-partless h = rw (lt-leb 17 (length header) h)
 
   module _ (h : 17 ≤ length header) where
-    pub write-under : length size < 8 → writeCall header image text size ≡ callResult (elevenOr12 (recordIn header .part) (recordIn header .macros)) text size
+    pub write-under : length size < 8 → writeCall header image text size ≡ callResult (elevenOr12 (headerIn header .part) (headerIn header .macros)) text size
     unfolding writeCall firstRefusal
-    write-under n = rw (le-leb 17 (length header) h, lt-leb 8 (length size) n) (by (inTable (recordIn header .part) (recordIn header .macros)))
+    write-under n = rw (le-leb 17 (length header) h, lt-leb 8 (length size) n) (by (inTable (headerIn header .part) (headerIn header .macros)))
       where
         by : (t : Bool)
-            → writeInto (refusedOr (cond t 12 11) Unwritten (writing (recordIn header) image (length text))) text size ≡ callResult (cond t 12 11) text size
+            → writeInto (refusedOr (cond t 12 11) Unwritten (writing (headerIn header) image (length text))) text size ≡ callResult (cond t 12 11) text size
         by true = rw (← put-under size (lowFirst 8 0) n)
         by false = rw (← put-under size (lowFirst 8 0) n)
 
-    pub write-room : 8 ≤ length size → writeCall header image text size ≡ writeInto (writing (recordIn header) image (length text)) text size
+    pub write-room : 8 ≤ length size → writeCall header image text size ≡ writeInto (writing (headerIn header) image (length text)) text size
     unfolding writeCall firstRefusal
-    write-room n = rw (le-leb 17 (length header) h, le-leb 8 (length size) n) (by (lookupOf (recordIn header .part) (recordIn header .macros)) refl)
+    write-room n = rw (le-leb 17 (length header) h, le-leb 8 (length size) n) (by (lookupOf (headerIn header .part) (headerIn header .macros)) refl)
       where
-        by : (l : Lookup) → lookupOf (recordIn header .part) (recordIn header .macros) ≡ l
-            → writeInto (refusedOr (cond (isFound l) 0 11) Unwritten (writeFor hexFormat l (recordIn header) image (length text))) text size
-            ≡ writeInto (writeFor hexFormat l (recordIn header) image (length text)) text size
-        by (NotFound k) e = rw (refused-eleven (recordIn header .part) (recordIn header .macros) k e)
+        by : (l : Lookup) → lookupOf (headerIn header .part) (headerIn header .macros) ≡ l
+            → writeInto (refusedOr (cond (isFound l) 0 11) Unwritten (writeFor hexFormat l (headerIn header) image (length text))) text size
+            ≡ writeInto (writeFor hexFormat l (headerIn header) image (length text)) text size
+        by (NotFound k) e = rw (refused-eleven (headerIn header .part) (headerIn header .macros) k e)
         by (Found g) e = refl
 
     -- the writer's answer, and its length put
-    pub write-done : (h : Header) (answer : WriteAnswer) (text′ size′ : List ℕ) → 8 ≤ length size → h ≡ recordIn header → answer ≡ writeOf h image text
+    pub write-done : (h : Header) (answer : WriteAnswer) (text′ size′ : List ℕ) → 8 ≤ length size → h ≡ headerIn header → answer ≡ writeOf h image text
         → text′ ≡ textAfter h image text
         → size′ ≡ putInto size (lowFirst 8 (answer .length))
         → Leaves (writeCall header image text size) (answer .number) text′ size′
     write-done h answer text′ size′ n q e f g =
-        let e′ : answer ≡ writeOf (recordIn header) image text = e ∙ ap (λ (x : Header). writeOf x image text) q in
-        leaves-as _ (writeInto (writing (recordIn header) image (length text)) text size) _ _ _ (write-room n)
+        let e′ : answer ≡ writeOf (headerIn header) image text = e ∙ ap (λ (x : Header). writeOf x image text) q in
+        leaves-as _ (writeInto (writing (headerIn header) image (length text)) text size) _ _ _ (write-room n)
         (ap (λ (x : WriteAnswer). x .number) e′, (f ∙ ap (λ (x : Header). textAfter x image text) q, g ∙ ap (λ (x : WriteAnswer). putInto size (lowFirst 8 (x .length))) e′))
 
 -- ---- starting
@@ -135,7 +135,7 @@ start-eleven h bytes leave = by (lookupOf (h .part) (h .macros)) refl
 
 -- 'A record, session or length given with a refusal is all 0.'
 pub zero-session : (b : List ℕ) → cleared 45 b ≡ putInto b (sessionBytes noSession)
-unfolding cleared putInto sessionBytes recordBytes
+unfolding cleared putInto sessionBytes headerBytes
 zero-session b = refl
 
 module _ (header image : List ℕ) (leave : ℕ) (session outcome : List ℕ) where
@@ -146,40 +146,40 @@ module _ (header image : List ℕ) (leave : ℕ) (session outcome : List ℕ) wh
   module _ (h : 17 ≤ length header) where
     start-tested : (u : Bool) → (leb 45 (length session) && leb 8 (length outcome)) ≡ u
         → startCall header image leave session outcome
-        ≡ startInto (cond u (startOf (recordIn header) image (yes leave)) (startRefused (elevenOr12 (recordIn header .part) (recordIn header .macros)))) session outcome
+        ≡ startInto (cond u (startOf (headerIn header) image (yes leave)) (startRefused (elevenOr12 (headerIn header .part) (headerIn header .macros)))) session outcome
     unfolding startCall firstRefusal
-    start-tested u e = rw (le-leb 17 (length header) h, e) (by (inTable (recordIn header .part) (recordIn header .macros)) refl u)
+    start-tested u e = rw (le-leb 17 (length header) h, e) (by (inTable (headerIn header .part) (headerIn header .macros)) refl u)
       where
-        by : (t : Bool) → inTable (recordIn header .part) (recordIn header .macros) ≡ t → (u : Bool)
-            → startInto (refusedOr (cond t (cond u 0 12) 11) startRefused (startOf (recordIn header) image (yes leave))) session outcome
-            ≡ startInto (cond u (startOf (recordIn header) image (yes leave)) (startRefused (cond t 12 11))) session outcome
+        by : (t : Bool) → inTable (headerIn header .part) (headerIn header .macros) ≡ t → (u : Bool)
+            → startInto (refusedOr (cond t (cond u 0 12) 11) startRefused (startOf (headerIn header) image (yes leave))) session outcome
+            ≡ startInto (cond u (startOf (headerIn header) image (yes leave)) (startRefused (cond t 12 11))) session outcome
         by true f true = refl
         by true f false = refl
-        by false f true = rw (start-eleven (recordIn header) image (yes leave) f)
+        by false f true = rw (start-eleven (headerIn header) image (yes leave) f)
         by false f false = refl
 
     pub start-under-session : length session < 45
-        → startCall header image leave session outcome ≡ startInto (startRefused (elevenOr12 (recordIn header .part) (recordIn header .macros))) session outcome
+        → startCall header image leave session outcome ≡ startInto (startRefused (elevenOr12 (headerIn header .part) (headerIn header .macros))) session outcome
     start-under-session n = start-tested false (rw (lt-leb 45 (length session) n))
 
     pub start-under-outcome : 45 ≤ length session → length outcome < 8
-        → startCall header image leave session outcome ≡ startInto (startRefused (elevenOr12 (recordIn header .part) (recordIn header .macros))) session outcome
+        → startCall header image leave session outcome ≡ startInto (startRefused (elevenOr12 (headerIn header .part) (headerIn header .macros))) session outcome
     start-under-outcome m n = start-tested false (rw (le-leb 45 (length session) m, lt-leb 8 (length outcome) n))
 
     pub start-room : 45 ≤ length session → 8 ≤ length outcome
-        → startCall header image leave session outcome ≡ startInto (startOf (recordIn header) image (yes leave)) session outcome
+        → startCall header image leave session outcome ≡ startInto (startOf (headerIn header) image (yes leave)) session outcome
     start-room m n = start-tested true (rw (le-leb 45 (length session) m, le-leb 8 (length outcome) n))
 
     -- what starting gave, put
     pub start-done : (record′ : Header) (given : Given) (number : ℕ) (session′ outcome′ : List ℕ) → 45 ≤ length session → 8 ≤ length outcome
-        → record′ ≡ recordIn header
+        → record′ ≡ headerIn header
         → given ≡ startOf record′ image (yes leave)
         → number ≡ numberOf (given .outcome)
         → session′ ≡ putInto session (sessionBytes (given .session))
         → outcome′ ≡ putInto outcome (outcomeBytes (given .outcome))
         → Leaves (startCall header image leave session outcome) number session′ outcome′
     start-done record′ given number session′ outcome′ m n q e f g o =
-        let is : given ≡ startOf (recordIn header) image (yes leave) = e ∙ ap (λ (x : Header). startOf x image (yes leave)) q in
+        let is : given ≡ startOf (headerIn header) image (yes leave) = e ∙ ap (λ (x : Header). startOf x image (yes leave)) q in
         leaves-as _ (startInto given session outcome) _ _ _ (start-room m n ∙ sym (ap (λ (x : Given). startInto x session outcome) is)) (f, (g, o))
 
 -- ---- stepping

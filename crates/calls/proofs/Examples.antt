@@ -3,7 +3,7 @@ use mathlib.Core.Path.{refl}
 use Rattle.encoding.specs.Buffers.{putInto}
 use Rattle.calls.specs.Calls.{readCall, writeCall, startCall, stepCall}
 use Rattle.calls.specs.Examples.{ReadExamples, WriteExamples, StartExamples, StepExamples}
-use Rattle.encoding.specs.Records.{recordBytes, recordIn}
+use Rattle.encoding.specs.Headers.{headerBytes, headerIn}
 use Rattle.encoding.specs.Sessions.{sessionBytes, sessionIn}
 use Rattle.flow.specs.Plan.{plan, loops, mostTraffic, lockPlan}
 use Rattle.image.specs.Refusals.{firstRefusal}
@@ -14,11 +14,11 @@ use Rattle.session.specs.Given.{startOf, stepWith}
 use Rattle.session.specs.Possible.{possibleIn}
 
 pub read-examples : ReadExamples
-unfolding readCall firstRefusal lookIn recordBytes putInto imageSize flashSize lockTotal rowsOf
+unfolding readCall firstRefusal lookIn headerBytes putInto imageSize flashSize lockTotal rowsOf
 read-examples = record { part-16 = refl; part-17 = refl; part-18 = refl; record-16 = refl; record-17 = refl; record-18 = refl }
 
 pub write-examples : WriteExamples
-unfolding writeCall firstRefusal lookIn recordIn putInto imageSize flashSize lockTotal rowsOf
+unfolding writeCall firstRefusal lookIn headerIn putInto imageSize flashSize lockTotal rowsOf
 write-examples = record {
   record-16 = refl;
   record-17 = refl;
@@ -30,7 +30,7 @@ write-examples = record {
 }
 
 pub start-examples : StartExamples
-unfolding startCall firstRefusal lookIn recordIn recordBytes sessionBytes putInto startOf imageSize flashSize lockTotal rowsOf
+unfolding startCall firstRefusal lookIn headerIn headerBytes sessionBytes putInto startOf imageSize flashSize lockTotal rowsOf
 start-examples = record {
   record-16 = refl;
   record-17 = refl;
@@ -44,7 +44,7 @@ start-examples = record {
 }
 
 pub step-examples : StepExamples
-unfolding stepCall firstRefusal lookIn recordIn sessionIn wordAt putInto stepWith possibleIn mostTraffic plan lockPlan loops imageSize flashSize lockTotal locksIn rowsOf
+unfolding stepCall firstRefusal lookIn headerIn sessionIn wordAt putInto stepWith possibleIn mostTraffic plan lockPlan loops imageSize flashSize lockTotal locksIn rowsOf
 step-examples = record {
   session-44 = refl;
   session-45 = refl;

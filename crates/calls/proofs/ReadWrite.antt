@@ -8,14 +8,14 @@ use borrow.Author.Tests.{eqb-true, leb-true, leb-false, le-leb, lt-leb}
 use lib.Dec.{leb, eqb}
 use lib.ListN.{length, getD, take, drop, replicate, length-drop}
 use lib.Seq.{length-take-le}
-use Rattle.decoding.proofs.Backs.{record-length}
+use Rattle.decoding.proofs.Backs.{header-length}
 use Rattle.calls.proofs.Called.{read-under, read-room, write-partless, write-under, write-room}
 use Rattle.encoding.proofs.Putting.{put-kept, put-found}
 use Rattle.calls.specs.Calls.{CallResult, isFound, inTable, readRefusal, writeRefusal, refusedOr, readCall, writeCall}
 use Rattle.encoding.specs.Buffers.{putInto, Kept}
 use Rattle.encoding.specs.Values.{Twelve}
 use Rattle.calls.specs.Claims.{Zeroed, ReadClaims, WriteClaims}
-use Rattle.encoding.specs.Records.{recordBytes, recordIn}
+use Rattle.encoding.specs.Headers.{headerBytes, headerIn}
 use Rattle.hex_format.specs.HexFormat.{hexFormat}
 use Rattle.hex_format.specs.Texts.{hexReading}
 use Rattle.hex_format.specs.Written.{textLength}
@@ -30,7 +30,7 @@ use Rattle.parts.specs.Sizes.{imageSize}
 use Rattle.parts.specs.declared.Geometry.{Geometry}
 use Rattle.parts.specs.declared.Lookup.{Lookup}
 use Rattle.parts.specs.declared.Lookup.the-variants.{Found}
-use Rattle.text.proofs.Placing.{header-length}
+use Rattle.text.proofs.Placing.{sections-length}
 use Rattle.text.proofs.Taken.{taken-from, each-byte}
 use Rattle.text.specs.Placing.{gathered}
 use Rattle.text.specs.Reading.{Reading, Untouched, Cleared, Taken, answerOf}
@@ -50,7 +50,7 @@ read-twelve part macros text room = by (hexReading part macros text room) refl
     by (Taken h bytes) e =
         let t = taken-from hexFormat part macros text room h bytes e in
         let s = gathered InHeader (sectionsOf (t .g)) (t .stream) in
-        let n = header-length (t .g) (t .stream) (each-byte t) in
+        let n = sections-length (t .g) (t .stream) (each-byte t) in
         ap (λ (x : Header). length (x .metadata)) (sym (t .header)) ∙ twelve-of part macros s n
 
 over : (m k : ℕ) → ¬ (m ≤ k) → k < m
@@ -59,8 +59,8 @@ over m k h = omega arith
 -- ---- reading
 
 module _ (part macros : ℕ) (text image header : List ℕ) where
-  read-record : Twelve (answerOf (refusedOr (readRefusal part macros header) Untouched (hexReading part macros text (length image))) .header)
-  read-record = by (eqb (readRefusal part macros header) 0)
+  read-header : Twelve (answerOf (refusedOr (readRefusal part macros header) Untouched (hexReading part macros text (length image))) .header)
+  read-header = by (eqb (readRefusal part macros header) 0)
     where
       by : (t : Bool) → Twelve (answerOf (cond t (hexReading part macros text (length image)) (Untouched (readRefusal part macros header))) .header)
       by true = read-twelve part macros text (length image)
@@ -70,25 +70,25 @@ module _ (part macros : ℕ) (text image header : List ℕ) where
   unfolding readCall
   read-kept =
       let h = answerOf (refusedOr (readRefusal part macros header) Untouched (hexReading part macros text (length image))) .header in
-      put-kept 17 header (recordBytes h) (record-length h read-record)
+      put-kept 17 header (headerBytes h) (header-length h read-header)
 
-  -- a refused reading has a record of zeros
-  zero-record : (r : Reading) → ¬ (answerOf r .number ≡ 0) → recordBytes (answerOf r .header) ≡ replicate 17 0
-  unfolding recordBytes
-  zero-record (Untouched n) z = refl
-  zero-record (Cleared n size) z = refl
-  zero-record (Taken h bytes) z = absurd (z refl)
+  -- a refused reading has a header of zeros
+  zero-header : (r : Reading) → ¬ (answerOf r .number ≡ 0) → headerBytes (answerOf r .header) ≡ replicate 17 0
+  unfolding headerBytes
+  zero-header (Untouched n) z = refl
+  zero-header (Cleared n size) z = refl
+  zero-header (Taken h bytes) z = absurd (z refl)
 
-  record-found : 17 ≤ length header → take 17 (putInto header (recordBytes (answerOf (hexReading part macros text (length image)) .header)))
-      ≡ recordBytes (answerOf (hexReading part macros text (length image)) .header)
-  record-found n =
+  header-found : 17 ≤ length header → take 17 (putInto header (headerBytes (answerOf (hexReading part macros text (length image)) .header)))
+      ≡ headerBytes (answerOf (hexReading part macros text (length image)) .header)
+  header-found n =
       let h = answerOf (hexReading part macros text (length image)) .header in
-      put-found 17 header (recordBytes h) (record-length h (read-twelve part macros text (length image))) n
+      put-found 17 header (headerBytes h) (header-length h (read-twelve part macros text (length image))) n
 
   read-zeroed : Zeroed (readCall part macros text image header .number) 17 header (readCall part macros text image header .second)
   read-zeroed z n =
       subst (λ (x : CallResult). ¬ (x .number ≡ 0) → take 17 (x .second) ≡ replicate 17 0) (sym (read-room part macros text image header n))
-      (λ y. record-found n ∙ zero-record (hexReading part macros text (length image)) y) z
+      (λ y. header-found n ∙ zero-header (hexReading part macros text (length image)) y) z
 
   -- 11, then 12, and the image is not written
   abbrev Untouched-with : ℕ → CallResult → Type 0
@@ -118,14 +118,14 @@ module _ (part macros : ℕ) (text image header : List ℕ) where
     zeroed = read-zeroed;
     kept = read-kept;
     core = λ n. let e = read-room part macros text image header n in
-        (ap (λ (x : CallResult). x .number) e, ap (λ (x : CallResult). x .first) e, ap (λ (x : CallResult). take 17 (x .second)) e ∙ record-found n);
+        (ap (λ (x : CallResult). x .number) e, ap (λ (x : CallResult). x .first) e, ap (λ (x : CallResult). take 17 (x .second)) e ∙ header-found n);
   }
 
 -- ---- writing
 
 module _ (header image text size : List ℕ) where
   write-eleven : 17 ≤ length header → inTable (getD header 0 0) (getD header 1 0) ≡ false → writeCall header image text size .number ≡ 11
-  unfolding writeCall firstRefusal recordIn
+  unfolding writeCall firstRefusal headerIn
   write-eleven n e = rw (le-leb 17 (length header) n, e)
 
   -- the core's own 12
@@ -143,15 +143,15 @@ module _ (header image text size : List ℕ) where
   write-lacks : (g : Geometry) → 17 ≤ length header → lookupOf (getD header 0 0) (getD header 1 0) ≡ Found g
       → ¬ ((8 ≤ length size) × (length image ≡ imageSize g) × (textLength g ≤ length text))
       → writeCall header image text size .number ≡ 12
-  unfolding recordIn
+  unfolding headerIn
   write-lacks g n e lacks = by (leb 8 (length size)) refl
     where
       by : (t : Bool) → leb 8 (length size) ≡ t → writeCall header image text size .number ≡ 12
       by true f =
           let room = leb-true 8 (length size) f in
           ap (λ (x : CallResult). x .number) (write-room header image text size n room)
-          ∙ ap (λ (l : Lookup). answerTo (writeFor hexFormat l (recordIn header) image (length text)) .number) e
-          ∙ other-sizes g (recordIn header) (λ k. lacks (room, k .0, k .1))
+          ∙ ap (λ (l : Lookup). answerTo (writeFor hexFormat l (headerIn header) image (length text)) .number) e
+          ∙ other-sizes g (headerIn header) (λ k. lacks (room, k .0, k .1))
       by false f = ap (λ (x : CallResult). x .number) (write-under header image text size n (leb-false 8 (length size) f)) ∙ ap (λ (l : Lookup). cond (isFound l) 12 11) e
 
   -- a refused writing leaves the text and gives the length 0
@@ -161,12 +161,12 @@ module _ (header image text size : List ℕ) where
 
   unwritten : ¬ (writeCall header image text size .number ≡ 0) → writeCall header image text size .first ≡ text
   unfolding writeCall
-  unwritten z = left-alone (refusedOr (writeRefusal header size) Unwritten (writing (recordIn header) image (length text))) z .0
+  unwritten z = left-alone (refusedOr (writeRefusal header size) Unwritten (writing (headerIn header) image (length text))) z .0
 
   write-zeroed : Zeroed (writeCall header image text size .number) 8 size (writeCall header image text size .second)
   unfolding writeCall
   write-zeroed z n =
-      let w = refusedOr (writeRefusal header size) Unwritten (writing (recordIn header) image (length text)) in
+      let w = refusedOr (writeRefusal header size) Unwritten (writing (headerIn header) image (length text)) in
       put-found 8 size (lowFirst 8 (answerTo w .length)) refl n ∙ left-alone w z .1
 
   write-kept : Kept 8 size (writeCall header image text size .second)

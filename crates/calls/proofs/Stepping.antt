@@ -7,7 +7,7 @@ use native.Mathlib.Omega.{arith}
 use borrow.Author.Tests.{eqb-true, eqb-false, leb-true, leb-false, le-leb, eq-eqb, ne-eqb}
 use lib.Dec.{leb, eqb}
 use lib.ListN.{length, getD, take, drop}
-use Rattle.decoding.proofs.Backs.{record-twelve, outcome-length, session-length}
+use Rattle.decoding.proofs.Backs.{header-twelve, outcome-length, session-length}
 use Rattle.calls.proofs.Called.{step-sessionless, step-other, step-under, step-room}
 use Rattle.calls.proofs.Numbers.{either, neither, is-refused, said, step-free}
 use Rattle.calls.proofs.Onward.{next-step}
@@ -20,7 +20,7 @@ use Rattle.encoding.specs.Values.{Bytes, Twelve}
 use Rattle.encoding.specs.Buffers.{Kept}
 use Rattle.calls.specs.Claims.{Told, Never13, StepClaims}
 use Rattle.encoding.specs.Outcomes.{outcomeBytes, numberOf}
-use Rattle.encoding.specs.Records.{recordIn}
+use Rattle.encoding.specs.Headers.{headerIn}
 use Rattle.encoding.specs.Sessions.{sessionBytes, sessionIn, isSession}
 use Rattle.flow.specs.declared.Answer.{Answer}
 use Rattle.image.specs.Refusals.{firstRefusal}
@@ -34,9 +34,9 @@ use Rattle.session.specs.Given.{refusing, stepWith}
 use Rattle.session.specs.Possible.{possible}
 use Rattle.session.specs.declared.Given.{Given}
 
-header-in : (bs : List ℕ) → (sessionIn bs) .header ≡ recordIn bs
+session-header : (bs : List ℕ) → (sessionIn bs) .header ≡ headerIn bs
 unfolding sessionIn
-header-in bs = refl
+session-header bs = refl
 
 both-true : (a b : Bool) → (a && b) ≡ true → (a ≡ true) × (b ≡ true)
 both-true true b e = (refl, e)
@@ -48,7 +48,7 @@ module _ (session image : List ℕ) (a : Answer) (outcome : List ℕ) where
 
   gone-twelve : 45 ≤ length session → Twelve (gone .session .header)
   gone-twelve n =
-      let t : Twelve (sessionIn session .header) = ap (λ (k : Header). length (k .metadata)) (header-in session) ∙ record-twelve session (omega arith) in
+      let t : Twelve (sessionIn session .header) = ap (λ (k : Header). length (k .metadata)) (session-header session) ∙ header-twelve session (omega arith) in
       either (λ (r : Given). Twelve (r .session .header)) (eqb (stepRefusal session outcome) 0) _ _
       (ap (λ (k : Header). length (k .metadata)) (header-stays (sessionIn session) image a) ∙ t) t
 
@@ -60,7 +60,7 @@ module _ (session image : List ℕ) (a : Answer) (outcome : List ℕ) where
       → (isSession session && possible (sessionIn session)) ≡ true
       → ¬ ((8 ≤ length outcome) × (length image ≡ imageSize g))
       → stepCall session image a outcome .number ≡ 12
-  unfolding sessionIn recordIn
+  unfolding sessionIn headerIn
   step-lacks g n e can lacks = by (leb 8 (length outcome)) refl
     where
       is : (isSession session ≡ true) × (possible (sessionIn session) ≡ true)
@@ -111,7 +111,7 @@ module _ (session image : List ℕ) (a : Answer) (outcome : List ℕ) where
 
     given-twelve : Twelve (stepWith (sessionIn session) image a .session .header)
     given-twelve =
-        ap (λ (h : Header). length (h .metadata)) (header-stays (sessionIn session) image a ∙ header-in session) ∙ record-twelve session (omega arith)
+        ap (λ (h : Header). length (h .metadata)) (header-stays (sessionIn session) image a ∙ session-header session) ∙ header-twelve session (omega arith)
 
     -- the session that a step gives, or the one that it got
     session-found : Bytes session

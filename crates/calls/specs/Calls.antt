@@ -1,5 +1,5 @@
 -- What the calls over bytes return, and what they leave in the bytes lent to them: document 01, 'Who brings a number about', last paragraph.
--- A record has 17 bytes, a session 45, an outcome and a length 8. What is lent for one may be longer. Assumes nothing.
+-- A header has 17 bytes, a session 45, an outcome and a length 8. What is lent for one may be longer. Assumes nothing.
 use mathlib.Core.Bool.{Bool, true, false, _&&_, not, cond}
 use mathlib.Core.List.{List, [], _∷_}
 use Prim.Native.Nat.{ℕ}
@@ -7,7 +7,7 @@ use lib.Dec.{eqb, leb}
 use lib.ListN.{length}
 use Rattle.encoding.specs.Buffers.{putInto}
 use Rattle.encoding.specs.Outcomes.{outcomeBytes, numberOf}
-use Rattle.encoding.specs.Records.{recordBytes, recordIn}
+use Rattle.encoding.specs.Headers.{headerBytes, headerIn}
 use Rattle.encoding.specs.Sessions.{sessionBytes, sessionIn, isSession}
 use Rattle.flow.specs.declared.Answer.{Answer}
 use Rattle.flow.specs.declared.Answer.the-variants.{ResetDone, Transferred}
@@ -35,7 +35,7 @@ callResult n first second = record { number = n; first = first; second = second 
 
 -- ---- the numbers that a call gives before the core is asked, in document 01's order; 0 where there is none
 
--- '12 the buffer to be written under size'; so is one that a record or a session is to be found in
+-- '12 the buffer to be written under size'; so is one that a header or a session is to be found in
 abbrev pub holds : (size : ℕ) (buffer : List ℕ) → Bool
 holds size buffer = leb size (length buffer)
 
@@ -51,16 +51,16 @@ inTable part macros = isFound (lookupOf part macros)
 abbrev pub readRefusal : (part macros : ℕ) (header : List ℕ) → ℕ
 readRefusal part macros header = firstRefusal (11 unless inTable part macros ∷ 12 unless holds 17 header ∷ [])
 
--- 'Writing and starting check 11, 12, ..'; a record under size is 12 before 11, since no part can be read from it
+-- 'Writing and starting check 11, 12, ..'; a header under size is 12 before 11, since no part can be read from it
 abbrev pub writeRefusal : (header size : List ℕ) → ℕ
 writeRefusal header size =
-    firstRefusal (12 unless holds 17 header ∷ 11 unless inTable (recordIn header .part) (recordIn header .macros) ∷ 12 unless holds 8 size ∷ [])
+    firstRefusal (12 unless holds 17 header ∷ 11 unless inTable (headerIn header .part) (headerIn header .macros) ∷ 12 unless holds 8 size ∷ [])
 
 abbrev pub startRefusal : (header session outcome : List ℕ) → ℕ
 startRefusal header session outcome =
     firstRefusal
     (12 unless holds 17 header
-    ∷ 11 unless inTable (recordIn header .part) (recordIn header .macros)
+    ∷ 11 unless inTable (headerIn header .part) (headerIn header .macros)
     ∷ 12 unless (holds 45 session && holds 8 outcome)
     ∷ [])
 
@@ -73,10 +73,10 @@ stepRefusal session outcome =
 abbrev pub refusedOr : {A : Type 0} → (number : ℕ) (refusal : ℕ → A) (given : A) → A
 refusedOr number refusal given = cond (eqb number 0) given (refusal number)
 
--- ---- reading: the image's bytes, the record's bytes
+-- ---- reading: the image's bytes, the header's bytes
 
 abbrev pub readInto : Reading → (image header : List ℕ) → CallResult
-readInto r image header = callResult (answerOf r .number) (bufferAfter r image) (putInto header (recordBytes (answerOf r .header)))
+readInto r image header = callResult (answerOf r .number) (bufferAfter r image) (putInto header (headerBytes (answerOf r .header)))
 
 unfoldable pub readCall : (part macros : ℕ) (text image header : List ℕ) → CallResult
 readCall part macros text image header =
@@ -89,7 +89,7 @@ writeInto w text size = callResult (answerTo w .number) (leftBy w text) (putInto
 
 unfoldable pub writeCall : (header image text size : List ℕ) → CallResult
 writeCall header image text size =
-    writeInto (refusedOr (writeRefusal header size) Unwritten (writing (recordIn header) image (length text))) text size
+    writeInto (refusedOr (writeRefusal header size) Unwritten (writing (headerIn header) image (length text))) text size
 
 -- ---- starting and stepping: the session's bytes, the outcome's bytes
 
@@ -103,7 +103,7 @@ yes n = not (eqb n 0)
 
 unfoldable pub startCall : (header image : List ℕ) (leave : ℕ) (session outcome : List ℕ) → CallResult
 startCall header image leave session outcome =
-    startInto (refusedOr (startRefusal header session outcome) startRefused (startOf (recordIn header) image (yes leave))) session outcome
+    startInto (refusedOr (startRefusal header session outcome) startRefused (startOf (headerIn header) image (yes leave))) session outcome
 
 -- 'reset done', or a transfer's acknowledgement, word and parity bit
 abbrev pub answerIn : (reset ack word parity : ℕ) → Answer

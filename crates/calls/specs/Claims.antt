@@ -8,7 +8,7 @@ use lib.ListN.{length, getD, take, replicate}
 use Rattle.calls.specs.Calls.{CallResult, inTable, yes, readCall, writeCall, startCall, stepCall}
 use Rattle.encoding.specs.Buffers.{Kept}
 use Rattle.encoding.specs.Outcomes.{outcomeBytes, outcomeIn, numberOf}
-use Rattle.encoding.specs.Records.{recordBytes, recordIn}
+use Rattle.encoding.specs.Headers.{headerBytes, headerIn}
 use Rattle.encoding.specs.Sessions.{sessionBytes, sessionIn, isSession}
 use Rattle.encoding.specs.Values.{Bytes, Twelve, InWords, outcomeWord}
 use Rattle.flow.specs.declared.Answer.{Answer}
@@ -51,13 +51,13 @@ pub record ReadClaims (part macros : ℕ) (text image header : List ℕ) (r : Ca
   pub twelve : (g : Geometry) → lookupOf part macros ≡ Found g → ¬ ((17 ≤ length header) × (imageSize g ≤ length image)) → (r .number ≡ 12) × (r .first ≡ image)
   pub zeroed : Zeroed (r .number) 17 header (r .second)
   pub kept : Kept 17 header (r .second)
-  -- with room for the record it is the core's reading
+  -- with room for the header it is the core's reading
   pub core : 17 ≤ length header → (r .number ≡ answerOf (hexReading part macros text (length image)) .number)
       × (r .first ≡ bufferAfter (hexReading part macros text (length image)) image)
-      × (take 17 (r .second) ≡ recordBytes (answerOf (hexReading part macros text (length image)) .header))
+      × (take 17 (r .second) ≡ headerBytes (answerOf (hexReading part macros text (length image)) .header))
 
 pub record WriteClaims (header image text size : List ℕ) (r : CallResult) : Type 0 where
-  -- no part can be read from a record under size
+  -- no part can be read from a header under size
   pub partless : length header < 17 → r .number ≡ 12
   -- 'Writing and starting check 11, 12, 6 to 10'
   pub eleven : 17 ≤ length header → inTable (getD header 0 0) (getD header 1 0) ≡ false → r .number ≡ 11
@@ -68,10 +68,10 @@ pub record WriteClaims (header image text size : List ℕ) (r : CallResult) : Ty
   pub unwritten : ¬ (r .number ≡ 0) → r .first ≡ text
   pub zeroed : Zeroed (r .number) 8 size (r .second)
   pub kept : Kept 8 size (r .second)
-  -- with a record and room for the length it is the core's writing
-  pub core : 17 ≤ length header → 8 ≤ length size → (r .number ≡ writeOf (recordIn header) image text .number)
-      × (r .first ≡ textAfter (recordIn header) image text)
-      × (take 8 (r .second) ≡ lowFirst 8 (writeOf (recordIn header) image text .length))
+  -- with a header and room for the length it is the core's writing
+  pub core : 17 ≤ length header → 8 ≤ length size → (r .number ≡ writeOf (headerIn header) image text .number)
+      × (r .first ≡ textAfter (headerIn header) image text)
+      × (take 8 (r .second) ≡ lowFirst 8 (writeOf (headerIn header) image text .length))
 
 pub record StartClaims (header image : List ℕ) (leave : ℕ) (session outcome : List ℕ) (r : CallResult) : Type 0 where
   pub partless : length header < 17 → r .number ≡ 12
@@ -84,11 +84,11 @@ pub record StartClaims (header image : List ℕ) (leave : ℕ) (session outcome 
   pub told : Told (r .number) outcome (r .second)
   pub keptSession : Kept 45 session (r .first)
   pub keptOutcome : Kept 8 outcome (r .second)
-  -- with a record and room for both it is the core's start
+  -- with a header and room for both it is the core's start
   pub core : 17 ≤ length header → 45 ≤ length session → 8 ≤ length outcome
-      → (r .number ≡ numberOf (startOf (recordIn header) image (yes leave) .outcome))
-      × (take 45 (r .first) ≡ sessionBytes (startOf (recordIn header) image (yes leave) .session))
-      × (take 8 (r .second) ≡ outcomeBytes (startOf (recordIn header) image (yes leave) .outcome))
+      → (r .number ≡ numberOf (startOf (headerIn header) image (yes leave) .outcome))
+      × (take 45 (r .first) ≡ sessionBytes (startOf (headerIn header) image (yes leave) .session))
+      × (take 8 (r .second) ≡ outcomeBytes (startOf (headerIn header) image (yes leave) .outcome))
 
 pub record StepClaims (session image : List ℕ) (a : Answer) (outcome : List ℕ) (r : CallResult) : Type 0 where
   -- there is no session to look at
@@ -110,14 +110,14 @@ pub record StepClaims (session image : List ℕ) (a : Answer) (outcome : List �
 
 pub record ByteClaims : Type 0 where
   -- decoding what was encoded gives it back
-  pub recordBack : (h : Header) → Twelve h → recordIn (recordBytes h) ≡ h
+  pub headerBack : (h : Header) → Twelve h → headerIn (headerBytes h) ≡ h
   pub sessionBack : (s : Session) → InWords s → sessionIn (sessionBytes s) ≡ s
   pub outcomeBack : (o : Outcome) → Word (outcomeWord o) → outcomeIn (outcomeBytes o) ≡ o
   -- and so does encoding what was decoded
-  pub recordWhole : (bs : List ℕ) → 17 ≤ length bs → Bytes bs → recordBytes (recordIn bs) ≡ take 17 bs
+  pub headerWhole : (bs : List ℕ) → 17 ≤ length bs → Bytes bs → headerBytes (headerIn bs) ≡ take 17 bs
   pub sessionWhole : (bs : List ℕ) → 45 ≤ length bs → Bytes bs → isSession bs ≡ true → sessionBytes (sessionIn bs) ≡ take 45 bs
-  -- bytes past a record or a session are not looked at
-  pub recordFront : (bs more : List ℕ) → length bs ≡ 17 → recordIn (bs ++ more) ≡ recordIn bs
+  -- bytes past a header or a session are not looked at
+  pub headerFront : (bs more : List ℕ) → length bs ≡ 17 → headerIn (bs ++ more) ≡ headerIn bs
   pub sessionFront : (bs more : List ℕ) → length bs ≡ 45 → (sessionIn (bs ++ more) ≡ sessionIn bs) × (isSession (bs ++ more) ≡ isSession bs)
   -- the four calls
   pub read : (part macros : ℕ) (text image header : List ℕ) → ReadClaims part macros text image header (readCall part macros text image header)

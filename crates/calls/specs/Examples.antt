@@ -6,11 +6,11 @@ use lib.ListN.{replicate}
 use Rattle.calls.specs.Calls.{callResult, readCall, writeCall, startCall, stepCall}
 use Rattle.flow.specs.declared.Answer.the-variants.{ResetDone}
 
--- n ones: what a call may have to leave; as a record they name part 1 with M 1, which is in the table
+-- n ones: what a call may have to leave; as a header they name part 1 with M 1, which is in the table
 abbrev pub ones : ℕ → List ℕ
 ones n = replicate n 1
 
--- as a record they name part 2 with M 2, which is not in the table
+-- as a header they name part 2 with M 2, which is not in the table
 abbrev pub twos : ℕ → List ℕ
 twos n = replicate n 2
 
@@ -26,11 +26,11 @@ abbrev pub finished : List ℕ
 finished = 1 ∷ 1 ∷ 0 ∷ 0 ∷ 0 ∷ 2 ∷ 0x0A ∷ 0 ∷ 0 ∷ 0x9A ∷ (zeros 6 ++ (1 ∷ 0 ∷ 1 ∷ 0 ∷ 9 ∷ zeros 24))
 
 pub record ReadExamples : Type 0 where
-  -- 11 before 12, whatever the record's length
+  -- 11 before 12, whatever the header's length
   pub part-16 : readCall 9 1 [] (5 ∷ []) (ones 16) ≡ callResult 11 (5 ∷ []) (ones 16)
   pub part-17 : readCall 9 1 [] (5 ∷ []) (ones 17) ≡ callResult 11 (5 ∷ []) (zeros 17)
   pub part-18 : readCall 9 1 [] (5 ∷ []) (ones 18) ≡ callResult 11 (5 ∷ []) (zeros 17 ++ ones 1)
-  -- 12, of the record or of the image
+  -- 12, of the header or of the image
   pub record-16 : readCall 1 1 [] (5 ∷ []) (ones 16) ≡ callResult 12 (5 ∷ []) (ones 16)
   pub record-17 : readCall 1 1 [] (5 ∷ []) (ones 17) ≡ callResult 12 (5 ∷ []) (zeros 17)
   pub record-18 : readCall 1 1 [] (5 ∷ []) (ones 18) ≡ callResult 12 (5 ∷ []) (zeros 17 ++ ones 1)
@@ -48,7 +48,7 @@ pub record WriteExamples : Type 0 where
   pub length-9 : writeCall (ones 17) [] (5 ∷ []) (ones 9) ≡ callResult 12 (5 ∷ []) (zeros 8 ++ ones 1)
 
 pub record StartExamples : Type 0 where
-  -- a record under size zeroes a session that a step takes, too
+  -- a header under size zeroes a session that a step takes, too
   pub record-16 : startCall (twos 16) [] 0 finished (ones 8) ≡ callResult 12 (zeros 45) (refusal 12)
   pub record-17 : startCall (twos 17) [] 0 finished (ones 8) ≡ callResult 11 (zeros 45) (refusal 11)
   pub record-18 : startCall (twos 18) [] 0 finished (ones 8) ≡ callResult 11 (zeros 45) (refusal 11)

@@ -1,9 +1,9 @@
-// The calls for programs in other languages: records, sessions and outcomes stand in the caller's bytes (include/halzuqeen.h).
+// The calls for programs in other languages: headers, sessions and outcomes stand in the caller's bytes (include/halzuqeen.h).
 ghost use mathlib.Core.Path.{_≡_};
 ghost use Rattle.calls.specs.Calls.{answerIn, readCall, writeCall, startCall, stepCall};
-use decoding::record_in;
+use decoding::header_in;
+use encoding::put_header;
 use encoding::put_length;
-use encoding::put_record;
 use flow::Answer;
 use flow::Reply;
 use start_call::start_into;
@@ -60,7 +60,7 @@ pub extern "C" fn halzuqeen_start(
     start_into(header, image, leave, session, outcome)
 }
 
-// Reads a hex text: the image's bytes and its record.
+// Reads a hex text: the image's bytes and its header.
 #[no_mangle]
 pub extern "C" fn halzuqeen_read(
     part: u8,
@@ -78,7 +78,7 @@ pub extern "C" fn halzuqeen_read(
     }
     let answer = hex::read(part, macros, text, image);
     let h = answer.header;
-    put_record(header, h);
+    put_header(header, h);
     answer.number as u32
 }
 
@@ -98,7 +98,7 @@ pub extern "C" fn halzuqeen_write(
         put_length(size, 0);
         return 12;
     }
-    let h = record_in(header);
+    let h = header_in(header);
     if size.len() < 8 {
         return under_size(h.part, h.macros) as u32;
     }

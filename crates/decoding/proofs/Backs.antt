@@ -10,7 +10,7 @@ use lib.Seq.{length-take-le}
 use Rattle.decoding.proofs.Spelled.{sum-same, entry-same}
 use Rattle.encoding.specs.Values.{Twelve, InWords, outcomeWord}
 use Rattle.encoding.specs.Outcomes.{packetBytes, outcomeBytes, outcomeIn}
-use Rattle.encoding.specs.Records.{recordBytes, recordIn}
+use Rattle.encoding.specs.Headers.{headerBytes, headerIn}
 use Rattle.encoding.specs.Sessions.{entryByte, sessionBytes, sessionIn, isSession}
 use Rattle.flow.specs.declared.Entry.{Entry}
 use Rattle.flow.specs.declared.Entry.the-variants.{FromOpen, FromProtected}
@@ -48,9 +48,9 @@ twelve-in P h n f = subst (λ (m : List ℕ). P (withData h m)) (spread-all 12 (
 twelve-of : (P : Session → Type 0) (s : Session) → Twelve (s .header) → ((m : List ℕ) → P (sessionWith s (spread 0 12 m))) → P s
 twelve-of P s n f = subst (λ (m : List ℕ). P (sessionWith s m)) (spread-all 12 (s .header .metadata) n) (f (s .header .metadata))
 
-pub record-back : (h : Header) → Twelve h → recordIn (recordBytes h) ≡ h
-unfolding recordIn recordBytes
-record-back h n = twelve-in (λ (k : Header). recordIn (recordBytes k) ≡ k) h n (λ m. ap (λ (x : ℕ). headerWith (h .part) (h .macros) x (spread 0 12 m) (h .level)) (sum-same (h .sum)))
+pub header-back : (h : Header) → Twelve h → headerIn (headerBytes h) ≡ h
+unfolding headerIn headerBytes
+header-back h n = twelve-in (λ (k : Header). headerIn (headerBytes k) ≡ k) h n (λ m. ap (λ (x : ℕ). headerWith (h .part) (h .macros) x (spread 0 12 m) (h .level)) (sum-same (h .sum)))
 
 -- what a session's bytes hold: all but the words is as it was, and the words' low 32 bits
 pub record Near (s d : Session) : Type 0 where
@@ -67,7 +67,7 @@ pub record Near (s d : Session) : Type 0 where
   pub transfers : d .transfers ≡ low32 (s .transfers)
 
 near-with : (s : Session) (m : List ℕ) → Near (sessionWith s (spread 0 12 m)) (sessionIn (sessionBytes (sessionWith s (spread 0 12 m))))
-unfolding sessionIn sessionBytes recordIn recordBytes wordAt
+unfolding sessionIn sessionBytes headerIn headerBytes wordAt
 near-with s m = record {
   header = ap (λ (x : ℕ). headerWith (s .header .part) (s .header .macros) x (spread 0 12 m) (s .header .level)) (sum-same (s .header .sum));
   entry = entry-same (s .position .entry);
@@ -106,16 +106,16 @@ session-back s w =
     }
 
 -- bytes that are long enough hold twelve metadata bytes
-pub record-twelve : (bs : List ℕ) → 17 ≤ length bs → Twelve (recordIn bs)
-unfolding recordIn
-record-twelve bs h = length-take-le 12 (drop 4 bs) (omega (arith, length-drop 4 bs))
+pub header-twelve : (bs : List ℕ) → 17 ≤ length bs → Twelve (headerIn bs)
+unfolding headerIn
+header-twelve bs h = length-take-le 12 (drop 4 bs) (omega (arith, length-drop 4 bs))
 
-pub record-length : (h : Header) → Twelve h → length (recordBytes h) ≡ 17
-unfolding recordBytes
-record-length h n = twelve-in (λ (k : Header). length (recordBytes k) ≡ 17) h n (λ m. refl)
+pub header-length : (h : Header) → Twelve h → length (headerBytes h) ≡ 17
+unfolding headerBytes
+header-length h n = twelve-in (λ (k : Header). length (headerBytes k) ≡ 17) h n (λ m. refl)
 
 pub session-length : (s : Session) → Twelve (s .header) → length (sessionBytes s) ≡ 45
-unfolding sessionBytes recordBytes
+unfolding sessionBytes headerBytes
 session-length s n = twelve-of (λ (t : Session). length (sessionBytes t) ≡ 45) s n (λ m. refl)
 
 -- they are bytes that a session has
@@ -126,7 +126,7 @@ is-entry FromProtected true = refl
 is-entry FromProtected false = refl
 
 is-with : (s : Session) (m : List ℕ) → isSession (sessionBytes (sessionWith s (spread 0 12 m))) ≡ true
-unfolding sessionBytes recordBytes
+unfolding sessionBytes headerBytes
 is-with s m = is-entry (s .position .entry) (s .finished)
 
 pub is-session : (s : Session) → Twelve (s .header) → isSession (sessionBytes s) ≡ true

@@ -8,7 +8,7 @@ use borrow.Author.Tests.{eqb-true, eqb-false, leb-true, le-leb}
 use lib.Dec.{eqb, leb}
 use lib.ListN.{length, getD, take}
 use Rattle.encoding.specs.Values.{Bytes}
-use Rattle.encoding.specs.Records.{recordBytes, recordIn, recordFound}
+use Rattle.encoding.specs.Headers.{headerBytes, headerIn, headerFound}
 use Rattle.encoding.specs.Sessions.{entryByte, entryIn, singles, standingBytes, countersIn, sessionBytes, sessionOf, sessionIn, sessionFound, isSession}
 use Rattle.flow.specs.declared.Entry.{Entry}
 use Rattle.flow.specs.declared.Entry.the-variants.{FromOpen, FromProtected}
@@ -57,10 +57,10 @@ pub word-whole : (bs : List ℕ) (o : ℕ) → Bytes bs → lowFirst 4 (wordAt b
 unfolding wordAt
 word-whole bs o h = four (getD bs o 0) (getD bs (o + 1) 0) (getD bs (o + 2) 0) (getD bs (o + 3) 0) (h o) (h (o + 1)) (h (o + 2)) (h (o + 3))
 
--- a record's bytes, found at the start
-record-start : (bs : List ℕ) → 17 ≤ length bs → Bytes bs → recordBytes (recordIn bs) ≡ spread 0 17 bs
-unfolding recordBytes recordIn
-record-start bs n h =
+-- a header's bytes, found at the start
+header-start : (bs : List ℕ) → 17 ≤ length bs → Bytes bs → headerBytes (headerIn bs) ≡ spread 0 17 bs
+unfolding headerBytes headerIn
+header-start bs n h =
     let row : (x y : ℕ) → List ℕ → List ℕ = λ x y m. getD bs 0 0 ∷ getD bs 1 0 ∷ x ∷ y ∷ (m ++ (getD bs 16 0 ∷ [])) in
     let e : (getD bs 2 0 + 256 * getD bs 3 0) % 256 ≡ getD bs 2 0 = omega (arith, h 2, h 3) in
     let f : (getD bs 2 0 + 256 * getD bs 3 0) / 256 ≡ getD bs 3 0 = omega (arith, h 2, h 3) in
@@ -68,16 +68,16 @@ record-start bs n h =
     ∙ ap (λ (x : ℕ). row x ((getD bs 2 0 + 256 * getD bs 3 0) / 256) (spread 4 12 bs)) e
     ∙ ap (λ (y : ℕ). row (getD bs 2 0) y (spread 4 12 bs)) f
 
-pub record-whole : (bs : List ℕ) → 17 ≤ length bs → Bytes bs → recordBytes (recordIn bs) ≡ take 17 bs
-record-whole bs n h = record-start bs n h ∙ spread-part 0 17 bs n
+pub header-whole : (bs : List ℕ) → 17 ≤ length bs → Bytes bs → headerBytes (headerIn bs) ≡ take 17 bs
+header-whole bs n h = header-start bs n h ∙ spread-part 0 17 bs n
 
--- what follows a record or a session is not looked at
-pub record-front : (bs more : List ℕ) → length bs ≡ 17 → recordIn (bs ++ more) ≡ recordIn bs
-unfolding recordIn
-record-front bs more n = subst (λ (l : List ℕ). recordIn (l ++ more) ≡ recordIn l) (spread-all 17 bs n) refl
+-- what follows a header or a session is not looked at
+pub header-front : (bs more : List ℕ) → length bs ≡ 17 → headerIn (bs ++ more) ≡ headerIn bs
+unfolding headerIn
+header-front bs more n = subst (λ (l : List ℕ). headerIn (l ++ more) ≡ headerIn l) (spread-all 17 bs n) refl
 
 pub session-front : (bs more : List ℕ) → length bs ≡ 45 → (sessionIn (bs ++ more) ≡ sessionIn bs) × (isSession (bs ++ more) ≡ isSession bs)
-unfolding sessionIn recordIn wordAt
+unfolding sessionIn headerIn wordAt
 session-front bs more n =
     subst (λ (l : List ℕ). (sessionIn (l ++ more) ≡ sessionIn l) × (isSession (l ++ more) ≡ isSession l)) (spread-all 45 bs n) (refl, refl)
 
@@ -107,13 +107,13 @@ module _ (bs : List ℕ) (n : 45 ≤ length bs) (h : Bytes bs) (is : isSession b
   pub session-whole : sessionBytes (sessionIn bs) ≡ take 45 bs
   unfolding sessionBytes sessionIn
   session-whole =
-      both (record-start bs (omega arith) h) (both single-bytes (both standing-bytes (word-whole bs 41 h)))
+      both (header-start bs (omega arith) h) (both single-bytes (both standing-bytes (word-whole bs 41 h)))
       ∙ spread-part 0 45 bs n
 
 -- where bytes are enough, what is found is what they hold
-pub record-found : (bs : List ℕ) → 17 ≤ length bs → recordFound bs ≡ recordIn bs
-record-found bs h = rw (le-leb 17 (length bs) h)
+pub header-found : (bs : List ℕ) → 17 ≤ length bs → headerFound bs ≡ headerIn bs
+header-found bs h = rw (le-leb 17 (length bs) h)
 
 pub session-found : (bs : List ℕ) → 45 ≤ length bs → sessionFound bs ≡ sessionIn bs
 unfolding sessionIn
-session-found bs h = ap (λ (r : Header). sessionOf r bs) (record-found bs (omega arith))
+session-found bs h = ap (λ (r : Header). sessionOf r bs) (header-found bs (omega arith))

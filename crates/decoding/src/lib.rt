@@ -1,7 +1,7 @@
-// Records and sessions found in a caller's bytes, at fixed offsets (include/halzuqeen.h).
+// Headers and sessions found in a caller's bytes, at fixed offsets (include/halzuqeen.h).
 ghost use mathlib.Core.Path.{_≡_};
 ghost use Prim.Native.Nat.{_<_};
-ghost use Rattle.encoding.specs.Records.{recordFound};
+ghost use Rattle.encoding.specs.Headers.{headerFound};
 ghost use Rattle.encoding.specs.Sessions.{entryIn, countersIn, sessionFound, isSession};
 use flow::Counters;
 use flow::Entry;
@@ -17,9 +17,9 @@ fn wide(b: u8) -> u16
     b as u16
 }
 
-// The record that bytes hold from their start on, and all 0 where they are too few.
-pub fn record_in(bytes: &[u8]) -> Header
-    ensures found { λ r. ⌜ r ≡ recordFound (now (bytes .entry)) ⌝ }
+// The header that bytes hold from their start on, and all 0 where they are too few.
+pub fn header_in(bytes: &[u8]) -> Header
+    ensures found { λ r. ⌜ r ≡ headerFound (now (bytes .entry)) ⌝ }
 {
     if bytes.len() < 17 {
         return Header {
@@ -86,11 +86,11 @@ fn counters_in(bytes: &[u8]) -> Counters
     }
 }
 
-// The session that bytes hold; its record is all 0 where they are too few for one.
+// The session that bytes hold; its header is all 0 where they are too few for one.
 pub fn session_in(bytes: &[u8]) -> Session
     ensures found { λ r. ⌜ r ≡ sessionFound (now (bytes .entry)) ⌝ }
 {
-    let h = record_in(bytes);
+    let h = header_in(bytes);
     let y = entry_in(byte_at(bytes, 17));
     let at = word_at(bytes, 21);
     let c = counters_in(bytes);

@@ -1,4 +1,4 @@
--- Laws of putting records, sessions and outcomes into bytes. Assumes nothing.
+-- Laws of putting headers, sessions and outcomes into bytes. Assumes nothing.
 use mathlib.Core.Bool.{Bool, true, false, cond}
 use mathlib.Core.List.{List, [], _∷_, _++_}
 use mathlib.Core.Path.{_≡_, refl, sym, ap, _∙_}
@@ -11,7 +11,7 @@ use lib.Seq.{sets, sets-eq, length-sets, take-all, take-at, drop-at}
 use Rattle.encoding.specs.Buffers.{putInto}
 use Rattle.encoding.specs.Buffers.{Kept}
 use Rattle.encoding.specs.Outcomes.{eightBytes}
-use Rattle.encoding.specs.Records.{recordBytes}
+use Rattle.encoding.specs.Headers.{headerBytes}
 use Rattle.encoding.specs.Sessions.{standingBytes, singles, sessionBytes}
 use Rattle.flow.specs.declared.Counters.{Counters}
 use Rattle.image.specs.declared.Header.{Header}
@@ -68,10 +68,10 @@ put-more l at v h =
     let f : at + 1 ≡ suc at = omega arith in
     rw e (rw f)
 
--- a record's row, stored
-pub record-put : (b row : List ℕ) (h : Header) (out : List ℕ) → row ≡ recordBytes h → length (recordBytes h) ≡ 17 → out ≡ storedAt b 0 row 0 17
-    → out ≡ putInto b (recordBytes h)
-record-put b row h out q n e = e ∙ put (leb 17 (length b)) refl ∙ ap (putInto b) q
+-- a header's row, stored
+pub header-put : (b row : List ℕ) (h : Header) (out : List ℕ) → row ≡ headerBytes h → length (headerBytes h) ≡ 17 → out ≡ storedAt b 0 row 0 17
+    → out ≡ putInto b (headerBytes h)
+header-put b row h out q n e = e ∙ put (leb 17 (length b)) refl ∙ ap (putInto b) q
   where
     sized : length row ≡ 17
     sized = ap length q ∙ n
@@ -114,21 +114,21 @@ module _ (b m : List ℕ) (kind first second word : ℕ) (room : 8 ≤ length b)
   pub eight-length : length m ≡ length b
   eight-length = eight-in .1
 
--- a session's bytes by its record's
-pub session-size : (s : Session) → length (recordBytes (s .header)) ≡ 17 → length (sessionBytes s) ≡ 45
+-- a session's bytes by its header's
+pub session-size : (s : Session) → length (headerBytes (s .header)) ≡ 17 → length (sessionBytes s) ≡ 45
 unfolding sessionBytes
 session-size s n =
-    length-append (recordBytes (s .header)) (singles s ++ (standingBytes (s .position .at) (s .counters) ++ lowFirst 4 (s .transfers))) ∙ omega arith
+    length-append (headerBytes (s .header)) (singles s ++ (standingBytes (s .position .at) (s .counters) ++ lowFirst 4 (s .transfers))) ∙ omega arith
 
--- the record, the single bytes, the words
+-- the header, the single bytes, the words
 module _ (b b₁ b₂ b₃ b₄ : List ℕ) (s : Session) where
-  pub session-put : 45 ≤ length b → length (recordBytes (s .header)) ≡ 17 → b₁ ≡ putInto b (recordBytes (s .header)) → b₂ ≡ sets b₁ 17 (singles s)
+  pub session-put : 45 ≤ length b → length (headerBytes (s .header)) ≡ 17 → b₁ ≡ putInto b (headerBytes (s .header)) → b₂ ≡ sets b₁ 17 (singles s)
       → b₃ ≡ sets b₂ 21 (standingBytes (s .position .at) (s .counters))
       → b₄ ≡ wordPut b₃ 41 (s .transfers)
       → b₄ ≡ putInto b (sessionBytes s)
   unfolding sessionBytes
   session-put n m e₁ e₂ e₃ e₄ =
-      let r = recordBytes (s .header) in
+      let r = headerBytes (s .header) in
       let words = standingBytes (s .position .at) (s .counters) ++ lowFirst 4 (s .transfers) in
       let d₁ = e₁ ∙ sym (put-fits b r (omega arith)) in
       let n₁ = ap length d₁ ∙ length-sets b 0 r in

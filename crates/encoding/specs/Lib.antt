@@ -1,4 +1,4 @@
-pub mod Records
+pub mod Headers
 pub mod Sessions
 pub mod Outcomes
 pub mod Buffers

@@ -1,10 +1,10 @@
--- A session as 45 bytes: its record, four single bytes, six words. Assumes nothing.
+-- A session as 45 bytes: its header, four single bytes, six words. Assumes nothing.
 use mathlib.Core.Bool.{Bool, _&&_, cond}
 use mathlib.Core.List.{List, [], _∷_, _++_}
 use Prim.Native.Nat.{ℕ}
 use lib.Dec.{eqb, leb}
 use lib.ListN.{getD}
-use Rattle.encoding.specs.Records.{recordBytes, recordIn, recordFound}
+use Rattle.encoding.specs.Headers.{headerBytes, headerIn, headerFound}
 use Rattle.flow.specs.declared.Counters.{Counters}
 use Rattle.flow.specs.declared.Entry.{Entry}
 use Rattle.flow.specs.declared.Entry.the-variants.{FromOpen, FromProtected}
@@ -29,14 +29,14 @@ singles s = entryByte (s .position .entry) ∷ flagByte (s .finished) ∷ s .num
 abbrev pub standingBytes : (at : ℕ) → Counters → List ℕ
 standingBytes n c = lowFirst 4 n ++ (lowFirst 4 (c .waits) ++ (lowFirst 4 (c .polls) ++ (lowFirst 4 (c .attempts) ++ lowFirst 4 (c .kept))))
 
--- the record at 0, transfers at 41
+-- the header at 0, transfers at 41
 unfoldable pub sessionBytes : Session → List ℕ
-sessionBytes s = recordBytes (s .header) ++ (singles s ++ (standingBytes (s .position .at) (s .counters) ++ lowFirst 4 (s .transfers)))
+sessionBytes s = headerBytes (s .header) ++ (singles s ++ (standingBytes (s .position .at) (s .counters) ++ lowFirst 4 (s .transfers)))
 
 abbrev pub countersIn : List ℕ → Counters
 countersIn bs = record { waits = wordAt bs 25; polls = wordAt bs 29; attempts = wordAt bs 33; kept = wordAt bs 37 }
 
--- a session of this record, the rest of it as bytes hold it
+-- a session of this header, the rest of it as bytes hold it
 abbrev pub sessionOf : Header → List ℕ → Session
 sessionOf h bs = record {
   header = h;
@@ -50,11 +50,11 @@ sessionOf h bs = record {
 
 -- the session that bytes hold
 unfoldable pub sessionIn : List ℕ → Session
-sessionIn bs = sessionOf (recordIn bs) bs
+sessionIn bs = sessionOf (headerIn bs) bs
 
--- the same, with no record where the bytes are too few for one
+-- the same, with no header where the bytes are too few for one
 abbrev pub sessionFound : List ℕ → Session
-sessionFound bs = sessionOf (recordFound bs) bs
+sessionFound bs = sessionOf (headerFound bs) bs
 
 -- whether bytes are ones that a session has
 abbrev pub isSession : List ℕ → Bool

@@ -1,4 +1,4 @@
--- The records, sessions and outcomes that bytes can hold. Assumes nothing.
+-- The headers, sessions and outcomes that bytes can hold. Assumes nothing.
 use mathlib.Core.List.{List}
 use mathlib.Core.Path.{_≡_}
 use Prim.Native.Nat.{ℕ, _<_}
@@ -14,7 +14,7 @@ use Rattle.session.specs.declared.Session.{Session}
 abbrev pub Bytes : List ℕ → Type 0
 Bytes bs = (k : ℕ) → getD bs k 0 < 256
 
--- a record has twelve metadata bytes
+-- a header has twelve metadata bytes
 abbrev pub Twelve : Header → Type 0
 Twelve h = length (h .metadata) ≡ 12
 

@@ -1,4 +1,4 @@
-// Records, sessions, outcomes and lengths put into a caller's bytes where they fit, at fixed offsets (include/halzuqeen.h).
+// Headers, sessions, outcomes and lengths put into a caller's bytes where they fit, at fixed offsets (include/halzuqeen.h).
 ghost use mathlib.Core.List.{[], _∷_, _++_};
 ghost use mathlib.Core.Path.{_≡_};
 ghost use Prim.Native.Nat.{_≤_};
@@ -6,7 +6,7 @@ ghost use lib.ListN.{length};
 ghost use lib.Seq.{sets};
 ghost use Rattle.encoding.specs.Buffers.{putInto};
 ghost use Rattle.encoding.specs.Outcomes.{eightBytes, packetBytes, outcomeBytes, numberOf};
-ghost use Rattle.encoding.specs.Records.{recordBytes};
+ghost use Rattle.encoding.specs.Headers.{headerBytes};
 ghost use Rattle.encoding.specs.Sessions.{entryByte, singles, standingBytes, sessionBytes};
 ghost use Rattle.lent.specs.Words.{lowFirst};
 use flow::Counters;
@@ -34,8 +34,8 @@ pub fn put_length(bytes: &mut [u8], n: usize)
     }
 }
 
-// The bytes of a record in a row.
-fn record_row(part: u8, macros: u8, low: u8, high: u8, m: [u8; 12], level: u8) -> [u8; 17]
+// The bytes of a header in a row.
+fn header_row(part: u8, macros: u8, low: u8, high: u8, m: [u8; 12], level: u8) -> [u8; 17]
     ensures { λ r. ⌜ r ≡ part ∷ macros ∷ low ∷ high ∷ (m ++ (level ∷ [])) ⌝ }
 {
     [
@@ -59,13 +59,13 @@ fn record_row(part: u8, macros: u8, low: u8, high: u8, m: [u8; 12], level: u8) -
     ]
 }
 
-// The bytes of a record.
+// The bytes of a header.
 fn row_of(h: Header) -> [u8; 17]
-    ensures { λ r. ⌜ r ≡ recordBytes h ⌝ ∗ ⌜ length (recordBytes h) ≡ 17 ⌝ }
+    ensures { λ r. ⌜ r ≡ headerBytes h ⌝ ∗ ⌜ length (headerBytes h) ≡ 17 ⌝ }
 {
     let m = h.metadata;
     let sum = h.sum;
-    record_row(
+    header_row(
         h.part,
         h.macros,
         (sum % 256) as u8,
@@ -75,9 +75,9 @@ fn row_of(h: Header) -> [u8; 17]
     )
 }
 
-// Puts a record; `storing::fill` leaves bytes that are too few.
-pub fn put_record(bytes: &mut [u8], h: Header)
-    ensures put { λ _. ⌜ now (bytes .exit) ≡ putInto (now (bytes .entry)) (recordBytes h) ⌝ }
+// Puts a header; `storing::fill` leaves bytes that are too few.
+pub fn put_header(bytes: &mut [u8], h: Header)
+    ensures put { λ _. ⌜ now (bytes .exit) ≡ putInto (now (bytes .entry)) (headerBytes h) ⌝ }
 {
     let row = row_of(h);
     storing::fill(bytes, 0, &row, 0, 17);

@@ -10,7 +10,7 @@ use Rattle.hex_writer.specs.Lines.{onePiece, positionAfter}
 use Rattle.text.specs.Sized.{Laid, piecesOf}
 use Rattle.hex_writer.specs.declared.Position.{Position}
 use Rattle.hex_writer.proofs.Lines as lines
-use Rattle.sections.specs.Sections.{locationBytes, headerBytes}
+use Rattle.sections.specs.Sections.{locationBytes, headerSections}
 use Rattle.image.specs.declared.Header.{Header}
 use Rattle.sections.specs.declared.Location.the-variants.{InFlash, InProtection, InHeader}
 use Rattle.sections.specs.declared.Section.{Section}
@@ -110,8 +110,8 @@ module _ (g : Geometry) (image header : List ℕ) (s : Section) (flash : ℕ) (i
   pub in-protection : s .location ≡ InProtection → take (length image - flash) (drop flash image) ≡ locationBytes g image header (s .location)
   in-protection e = tail-part image flash ∙ rw (e, is)
 
-pub in-header : (g : Geometry) (image header : List ℕ) (h : Header) (s : Section) → s .location ≡ InHeader → header ≡ headerBytes h
-    → header ≡ locationBytes g image (headerBytes h) (s .location)
+pub in-header : (g : Geometry) (image header : List ℕ) (h : Header) (s : Section) → s .location ≡ InHeader → header ≡ headerSections h
+    → header ≡ locationBytes g image (headerSections h) (s .location)
 in-header g image header h s e d = rw e d
 
 module _ (part located : List ℕ) (e : part ≡ located) (s : Section) (text : List ℕ) (w : Position) where

@@ -11,7 +11,7 @@ use Rattle.hex_lines.specs.Lines.{linePut}
 use Rattle.hex_writer.specs.Lines.{positionAfter}
 use Rattle.hex_writer.specs.declared.Position.{Position}
 use Rattle.hex_writer.proofs.Lines as lines
-use Rattle.sections.specs.Sections.{sectionsOf, noSection, sectionBytes, locationBytes, headerBytes}
+use Rattle.sections.specs.Sections.{sectionsOf, noSection, sectionBytes, locationBytes, headerSections}
 use Rattle.image.specs.declared.Header.{Header}
 use Rattle.sections.specs.declared.Section.{Section}
 use Rattle.parts.specs.Sizes.{flashSize, imageSize}
@@ -57,7 +57,7 @@ module _ {text₀ : List ℕ} {w₀ : Position} {g : Geometry} {h : Header} {byt
         ≡ cut (piecesIn s) (s .address) (sectionBytes g h bytes s) ++ pieces (sectionBytes g h bytes) (drop (k + 1) (sectionsOf g))
     first = rw is (pieces-turn (sectionBytes g h bytes) (sectionsOf g) k noSection some)
 
-    pub asks : ((flashSize g ≤ length bytes) × Laid (locationBytes g bytes (headerBytes h) (s .location)) s)
+    pub asks : ((flashSize g ≤ length bytes) × Laid (locationBytes g bytes (headerSections h) (s .location)) s)
         × (positionAfter w (cut (piecesIn s) (s .address) (sectionBytes g h bytes s)) .at ≤ length text)
     asks = ((flash-inside (v .sized), rw is (laid-at (v .sized) k some)), lines.fits (v .going) _ _ first)
 

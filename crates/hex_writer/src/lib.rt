@@ -6,7 +6,7 @@ ghost use lib.Seq.{sets};
 ghost use Rattle.hex_format.specs.Written.{newUpper, linesFrom, textOf, textLength};
 ghost use Rattle.hex_writer.specs.Lines.{onePiece, positionAfter};
 ghost use Rattle.hex_writer.specs.Writing.{writeOf, textAfter};
-ghost use Rattle.sections.specs.Sections.{sectionsOf, headerBytes, locationBytes, sectionBytes};
+ghost use Rattle.sections.specs.Sections.{sectionsOf, headerSections, locationBytes, sectionBytes};
 ghost use Rattle.parts.specs.Parts.{lookupOf};
 ghost use Rattle.parts.specs.Sizes.{flashSize};
 ghost use Rattle.parts.specs.declared.Lookup.the-variants.{Found};
@@ -96,10 +96,10 @@ fn put_located(
     h: Header,
     bytes: &[u8],
 ) -> Position
-    requires { ⌜ (flashSize g ≤ length (now bytes)) × Laid (locationBytes g (now bytes) (headerBytes h) (s .location)) s ⌝ }
-    requires { ⌜ positionAfter position (piecesOf (locationBytes g (now bytes) (headerBytes h) (s .location)) s) .at ≤ length (now text) ⌝ }
-    ensures { λ r. ⌜ r ≡ positionAfter position (piecesOf (locationBytes g (now (bytes .entry)) (headerBytes h) (s .location)) s) ⌝ }
-    ensures { λ _. ⌜ now (text .exit) ≡ sets (now (text .entry)) (position .at) (linesFrom (position .upper) (piecesOf (locationBytes g (now (bytes .entry)) (headerBytes h) (s .location)) s)) ⌝ }
+    requires { ⌜ (flashSize g ≤ length (now bytes)) × Laid (locationBytes g (now bytes) (headerSections h) (s .location)) s ⌝ }
+    requires { ⌜ positionAfter position (piecesOf (locationBytes g (now bytes) (headerSections h) (s .location)) s) .at ≤ length (now text) ⌝ }
+    ensures { λ r. ⌜ r ≡ positionAfter position (piecesOf (locationBytes g (now (bytes .entry)) (headerSections h) (s .location)) s) ⌝ }
+    ensures { λ _. ⌜ now (text .exit) ≡ sets (now (text .entry)) (position .at) (linesFrom (position .upper) (piecesOf (locationBytes g (now (bytes .entry)) (headerSections h) (s .location)) s)) ⌝ }
 {
     let flash = parts::flash_size(g);
     let location = s.location;
@@ -107,7 +107,7 @@ fn put_located(
         Location::InFlash => put_part(text, position, s, &bytes[..flash]),
         Location::InProtection => put_part(text, position, s, &bytes[flash..]),
         Location::InHeader => {
-            let header = sections::header_bytes(h);
+            let header = sections::header_sections(h);
             put_part(text, position, s, &header)
         }
     }

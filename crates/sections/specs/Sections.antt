@@ -26,8 +26,8 @@ abbrev pub noSection : Section
 noSection = record { address = 0; size = 0; location = InFlash; offset = 0 }
 
 -- what a text says of a header: the sum, high byte first, the metadata and the level
-abbrev pub headerBytes : Header → List ℕ
-headerBytes h = h .sum / 256 ∷ h .sum % 256 ∷ (h .metadata ++ (h .level ∷ []))
+abbrev pub headerSections : Header → List ℕ
+headerSections h = h .sum / 256 ∷ h .sum % 256 ∷ (h .metadata ++ (h .level ∷ []))
 
 -- the header that such bytes make
 abbrev pub headerOf : (part macros : ℕ) → List ℕ → Header
@@ -47,4 +47,4 @@ locationBytes g image header InHeader = header
 
 -- the bytes of a section
 abbrev pub sectionBytes : Geometry → Header → (image : List ℕ) → Section → List ℕ
-sectionBytes g h image s = take (s .size) (drop (s .offset) (locationBytes g image (headerBytes h) (s .location)))
+sectionBytes g h image s = take (s .size) (drop (s .offset) (locationBytes g image (headerSections h) (s .location)))

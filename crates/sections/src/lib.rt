@@ -3,7 +3,7 @@ ghost use mathlib.Core.List.{[], _∷_, _++_};
 ghost use mathlib.Core.Path.{_≡_};
 ghost use Prim.Native.Nat.{_<_};
 ghost use lib.ListN.{getD};
-ghost use Rattle.sections.specs.Sections.{sectionsOf, noSection, headerBytes, headerOf};
+ghost use Rattle.sections.specs.Sections.{sectionsOf, noSection, headerSections, headerOf};
 use image::Header;
 use parts::Geometry;
 
@@ -89,8 +89,8 @@ fn joined(high: u8, low: u8, m: [u8; 12], level: u8) -> [u8; 15]
 }
 
 // What a text says of a header: sum (high byte first), metadata, level.
-pub fn header_bytes(h: Header) -> [u8; 15]
-    ensures bytes { λ r. ⌜ r ≡ headerBytes h ⌝ }
+pub fn header_sections(h: Header) -> [u8; 15]
+    ensures bytes { λ r. ⌜ r ≡ headerSections h ⌝ }
 {
     let m = h.metadata;
     let sum = h.sum;

@@ -3,7 +3,7 @@ ghost use mathlib.Core.Bool.{cond};
 ghost use mathlib.Core.Path.{_≡_};
 ghost use Rattle.calls.specs.Calls.{inTable, startInto, startCall};
 ghost use Rattle.session.specs.Given.{startRefused};
-use decoding::record_in;
+use decoding::header_in;
 use encoding::number_of;
 use encoding::put_outcome;
 use encoding::put_session;
@@ -47,7 +47,7 @@ pub fn start_into(
     if header.len() < 17 {
         return refuse_start(session, outcome, 12);
     }
-    let h = record_in(header);
+    let h = header_in(header);
     if session.len() < 45 {
         return refuse_start(session, outcome, under_size(h.part, h.macros));
     }

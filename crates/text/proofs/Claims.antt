@@ -17,7 +17,7 @@ use Rattle.parts.specs.declared.Lookup.the-variants.{Found}
 use Rattle.pairs.proofs.Capitals.{AllBytes, all-bytes, bytes-take, bytes-drop}
 use Rattle.text.proofs.Formats.{ReadingLaws, WritingLaws}
 use Rattle.text.proofs.Pieces.{gathered-bytes, image-bytes}
-use Rattle.text.proofs.Placing.{placing-length, placing-followed, image-length, header-length}
+use Rattle.text.proofs.Placing.{placing-length, placing-followed, image-length, sections-length}
 use Rattle.text.proofs.RoundTrip as trip
 use Rattle.text.proofs.Taken.{taken-from, one-image, same-part, same-macros, found-header, each-byte}
 use Rattle.text.proofs.Written.{written-from, writes, some-number}
@@ -53,7 +53,7 @@ module _ (part macros : ℕ) (g : Geometry) (stream : List ℕ) (all : AllBytes 
       let said = gathered InHeader (sectionsOf g) stream in
       let a = gathered-bytes InHeader (sectionsOf g) stream all in
       let at = all-bytes said a in
-      let l = header-length g stream each in
+      let l = sections-length g stream each in
       record {
         sum = omega (arith, at 0, at 1);
         metadata = simp (length-take, length-drop) (omega arith);

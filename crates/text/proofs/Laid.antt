@@ -5,7 +5,7 @@ use Prim.Native.Nat.{ℕ, zero, suc, _+_, _≤_, _<_}
 use native.Mathlib.Omega.{arith}
 use lib.ListN.{length, getD, take, drop, length-append, length-take, length-drop}
 use Rattle.sections.proofs.Sections.{locationSize, location-length}
-use Rattle.sections.specs.Sections.{sectionsOf, noSection, sectionBytes, locationBytes, headerBytes}
+use Rattle.sections.specs.Sections.{sectionsOf, noSection, sectionBytes, locationBytes, headerSections}
 use Rattle.image.specs.declared.Header.{Header}
 use Rattle.sections.specs.declared.Location.{Location}
 use Rattle.sections.specs.declared.Section.{Section}
@@ -40,13 +40,13 @@ section-size : (part : List ℕ) (s : Section) → Laid part s → length (take 
 section-size part s l = omega (arith, length-take (s .size) (drop (s .offset) part), length-drop (s .offset) part, l .inside)
 
 module _ {g : Geometry} {h : Header} {bytes : List ℕ} (z : Sized g h bytes) where
-  pub header-size : length (headerBytes h) ≡ 15
+  pub header-size : length (headerSections h) ≡ 15
   header-size = omega (arith, length-append (h .metadata) (h .level ∷ []), z .metadata)
 
-  pub room-at : (l : Location) → length (locationBytes g bytes (headerBytes h) l) ≡ locationSize g l
-  room-at l = location-length g bytes (headerBytes h) l (z .exact) header-size
+  pub room-at : (l : Location) → length (locationBytes g bytes (headerSections h) l) ≡ locationSize g l
+  room-at l = location-length g bytes (headerSections h) l (z .exact) header-size
 
-  pub laid-at : (k : ℕ) → k < 5 → Laid (locationBytes g bytes (headerBytes h) (getD (sectionsOf g) k noSection .location)) (getD (sectionsOf g) k noSection)
+  pub laid-at : (k : ℕ) → k < 5 → Laid (locationBytes g bytes (headerSections h) (getD (sectionsOf g) k noSection .location)) (getD (sectionsOf g) k noSection)
   laid-at k i =
       let r = roomy-at g (z .sizes) k in
       record {

@@ -204,9 +204,9 @@ module _ (g : Geometry) (stream : List ℕ) (all : length stream ≡ overall siz
   unfolding gathered imageSize r₁ r₂
   image-length = let a = flash-length in let b = protection-length in simp (length-append, append-nil) (omega arith)
 
-  pub header-length : length (gathered InHeader (sectionsOf g) stream) ≡ 15
+  pub sections-length : length (gathered InHeader (sectionsOf g) stream) ≡ 15
   unfolding laid
-  header-length = ap length (sym (laid-in InHeader (replicate 15 0) refl)) ∙ simp length-sets
+  sections-length = ap length (sym (laid-in InHeader (replicate 15 0) refl)) ∙ simp length-sets
 
   -- the metadata are the 12 bytes before the last, whatever the geometry
   pub metadata-at : take 12 (drop 2 (gathered InHeader (sectionsOf g) stream)) ≡ take 12 (drop (imageSize g + 2) stream)

@@ -10,7 +10,7 @@ use lib.Seq.{take-all, take-at, getD-at, drop-drop}
 use Rattle.sections.proofs.Sections.{headerWith}
 use Rattle.image.specs.Checks.{imageFault}
 use Rattle.image.specs.Image.{flashIn, protectionIn}
-use Rattle.sections.specs.Sections.{sectionsOf, noSection, sectionBytes, locationBytes, headerBytes, headerOf}
+use Rattle.sections.specs.Sections.{sectionsOf, noSection, sectionBytes, locationBytes, headerSections, headerOf}
 use Rattle.image.specs.declared.Header.{Header}
 use Rattle.sections.specs.declared.Location.{Location}
 use Rattle.sections.specs.declared.Location.the-variants.{InFlash, InProtection, InHeader}
@@ -33,7 +33,7 @@ use Rattle.text.specs.Sized.{Sized}
 
 -- what a header says of itself makes it again
 module _ (h : Header) (sum : h .sum < 65536) (twelve : length (h .metadata) ≡ 12) where
-  pub header-again : headerOf (h .part) (h .macros) (headerBytes h) ≡ h
+  pub header-again : headerOf (h .part) (h .macros) (headerSections h) ≡ h
   header-again =
       let s : 256 * (h .sum / 256) + h .sum % 256 ≡ h .sum = omega arith in
       let m = take-at (h .metadata) (h .level ∷ []) 12 twelve in
@@ -61,20 +61,20 @@ module _ {g : Geometry} {h : Header} {bytes : List ℕ} (found : lookupOf (h .pa
   filled : Filled f (sectionsOf g)
   filled = all-filled sized
 
-  header-bytes : AllBytes (headerBytes h)
-  header-bytes =
+  header-sections : AllBytes (headerSections h)
+  header-sections =
       let s = t .sum in
       (omega arith, (omega arith, bytes-append (h .metadata) (h .level ∷ []) (bytes-all (h .metadata) (t .metadataBytes)) (t .level, tt)))
 
-  located-bytes : (l : Location) → AllBytes (locationBytes g bytes (headerBytes h) l)
+  located-bytes : (l : Location) → AllBytes (locationBytes g bytes (headerSections h) l)
   located-bytes InFlash = bytes-take (flashSize g) bytes (bytes-all bytes (t .imageBytes))
   located-bytes InProtection = bytes-drop (flashSize g) bytes (bytes-all bytes (t .imageBytes))
-  located-bytes InHeader = header-bytes
+  located-bytes InHeader = header-sections
 
   section-bytes : (s : Section) → AllBytes (f s)
   section-bytes s =
-      bytes-take (s .size) (drop (s .offset) (locationBytes g bytes (headerBytes h) (s .location)))
-      (bytes-drop (s .offset) (locationBytes g bytes (headerBytes h) (s .location)) (located-bytes (s .location)))
+      bytes-take (s .size) (drop (s .offset) (locationBytes g bytes (headerSections h) (s .location)))
+      (bytes-drop (s .offset) (locationBytes g bytes (headerSections h) (s .location)) (located-bytes (s .location)))
 
   abbrev nth : ℕ → Section
   nth k = getD (sectionsOf g) k noSection
@@ -103,10 +103,10 @@ module _ {g : Geometry} {h : Header} {bytes : List ℕ} (found : lookupOf (h .pa
   image-is : imageIn g (joined f (sectionsOf g)) ≡ bytes
   image-is = rw (flash-is, protection-is) (take-append-drop (flashSize g) bytes)
 
-  header-is : gathered InHeader (sectionsOf g) (joined f (sectionsOf g)) ≡ headerBytes h
+  header-is : gathered InHeader (sectionsOf g) (joined f (sectionsOf g)) ≡ headerSections h
   header-is =
       gathered-joined InHeader f (sectionsOf g) filled
-      ∙ three-parts (headerBytes h) (header-size sized)
+      ∙ three-parts (headerSections h) (header-size sized)
 
   module _ (F : Format) (laws : WritingLaws F) where
     content : contentIn F (textIn F g h bytes) (sectionsOf g) ≡ Stream (joined f (sectionsOf g))

@@ -10,21 +10,21 @@ asked-on-requires : tie.Need-asked-on-requires
 asked-on-requires c κs =
     let p = c .before .before .before .before in
     let a = p .before .before .before .before .before .before .before .args in
-    let s = sized (a .board .now) (handed (a .event .now) (a .call .now) (a .request .now)) (a .answer .now) (says-yes _ _ (p .before .sizes-fit .ensures) (p .if1 .left)) in
-    (s .board, (s .event, (s .call, s .request)))
+    let s = sized (a .board .now) (handed (a .event .now) (a .call .now) (a .packet .now)) (a .answer .now) (says-yes _ _ (p .before .sizes-fit .ensures) (p .if1 .left)) in
+    (s .board, (s .event, (s .call, s .packet)))
 
 returns-2 : tie.Need-returns-2
 returns-2 c =
     let p = c .before .before .before .before .before in
     let a = p .before .before .before .before .before .before .before .args in
-    asked-right (a .part) (a .macros) (a .board .now) (handed (a .event .now) (a .call .now) (a .request .now)) (a .answer .now) _ _ (says-yes _ _ (p .before .sizes-fit .ensures) (p .if1 .left))
+    asked-right (a .part) (a .macros) (a .board .now) (handed (a .event .now) (a .call .now) (a .packet .now)) (a .answer .now) _ _ (says-yes _ _ (p .before .sizes-fit .ensures) (p .if1 .left))
     (sym (c .before .before .before .before .find .ensures) ∙ c .before .before .found .given .1) (c .asked-on .ensures)
 
 returns-3 : tie.Need-returns-3
 returns-3 c =
     let p = c .before .before .before .before in
     let a = p .before .before .before .before .before .before .before .args in
-    asked-right (a .part) (a .macros) (a .board .now) (handed (a .event .now) (a .call .now) (a .request .now)) (a .answer .now) _ _ (says-yes _ _ (p .before .sizes-fit .ensures) (p .if1 .left))
+    asked-right (a .part) (a .macros) (a .board .now) (handed (a .event .now) (a .call .now) (a .packet .now)) (a .answer .now) _ _ (says-yes _ _ (p .before .sizes-fit .ensures) (p .if1 .left))
     (sym (c .before .before .before .find .ensures) ∙ c .before .found2 .given .1) refl
 
 pub asked-of-spec : {M : Type 1} → statement M

@@ -9,7 +9,7 @@ returns-2 : tie.Need-returns-2
 returns-2 c =
     let p = c .before .before .before .before in
     let a = p .before .before .before .before .before .before .args in
-    asked-meeting (a .board .now) (handed (a .event .now) (a .call .now) (a .request .now)) (a .g) _ _ _ _ (says-yes _ _ (p .before .is-bench .ensures) (p .if1 .left)) (c .before .before .before .registers-in .ensures)
+    asked-meeting (a .board .now) (handed (a .event .now) (a .call .now) (a .packet .now)) (a .g) _ _ _ _ (says-yes _ _ (p .before .is-bench .ensures) (p .if1 .left)) (c .before .before .before .registers-in .ensures)
     (c .before .before .packet-in .ensures) (c .before .event-in .ensures) (c .call-outcome-at .ensures)
 
 pub asked-on-spec : {M : Type 1} → statement M

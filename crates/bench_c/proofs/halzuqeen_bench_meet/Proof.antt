@@ -1,4 +1,4 @@
--- A number at once, or the request met. Assumes nothing.
+-- A number at once, or the packet met. Assumes nothing.
 use mathlib.Core.Path.{ap, _∙_}
 use Prim.Native.Nat.{ℕ}
 use Rattle.bench_calls.specs.Board.{left}
@@ -15,14 +15,14 @@ returns c =
     let a = p .before .before .before .before .before .before .before .before .before .before .before .before .before .before .before .args in
     let b = benchOf (a .board .now) (a .flash .now) (a .locks .now) (a .latch .now) (a .params .now) (a .answer .now) in
     ap (λ (n : ℕ). benched n b) (c .number-of .ensures ∙ ap numberOf (c .before .enum-told .given .1))
-    ∙ call-answered (handed (a .event .now) (a .call .now) (a .request .now)) (left (a .left-flash .now) (a .left-locks .now) (a .left-latch .now)) b (a .part) (a .macros) _ _ (p .asked-of .ensures)
+    ∙ call-answered (handed (a .event .now) (a .call .now) (a .packet .now)) (left (a .left-flash .now) (a .left-locks .now) (a .left-latch .now)) b (a .part) (a .macros) _ _ (p .asked-of .ensures)
     (c .before .enum-told .given .1)
 
 put-met-requires : tie.Need-put-met-requires
 put-met-requires c κs =
     let p = c .before .before .before .before .before .before .before .before .before .before .before .before .before .before .before .before .before .before in
     let a = p .before .before .before .before .before .before .before .before .before .before .before .before .before .before .before .args in
-    let s = meets-sized (a .part) (a .macros) (a .board .now) (handed (a .event .now) (a .call .now) (a .request .now)) (a .answer .now) _ (p .asked-of .ensures) (ap meets (c .before .before .before .before .before .before .before .before .before .before .before .before .before .before .before .before .asked .given .1)) in
+    let s = meets-sized (a .part) (a .macros) (a .board .now) (handed (a .event .now) (a .call .now) (a .packet .now)) (a .answer .now) _ (p .asked-of .ensures) (ap meets (c .before .before .before .before .before .before .before .before .before .before .before .before .before .before .before .before .asked .given .1)) in
     (s .board, s .answer)
 
 returns-2 : tie.Need-returns-2
@@ -35,7 +35,7 @@ returns-2 c =
     let x = left (a .left-flash .now) (a .left-locks .now) (a .left-latch .now) in
     let put = c .before .before .before .before .put-met .ensures in
     ap (benched 0) (met-bench x (f .1 .1 .1 .0) (f .1 .1 .1 .1 .0) _ (m .meet .result) _ (m .meet .ensures) (put .0) (put .1))
-    ∙ call-answered (handed (a .event .now) (a .call .now) (a .request .now)) x (benchOf (a .board .now) (a .flash .now) (a .locks .now) (a .latch .now) (a .params .now) (a .answer .now)) (a .part) (a .macros) _ _ (p .asked-of .ensures)
+    ∙ call-answered (handed (a .event .now) (a .call .now) (a .packet .now)) x (benchOf (a .board .now) (a .flash .now) (a .locks .now) (a .latch .now) (a .params .now) (a .answer .now)) (a .part) (a .macros) _ _ (p .asked-of .ensures)
     (q .asked .given .1)
 
 pub halzuqeen-bench-meet-spec : {M : Type 1} → statement M

@@ -1,4 +1,4 @@
--- 11 or 12 for a record under size, or reading. Assumes nothing.
+-- 11 or 12 for a header under size, or reading. Assumes nothing.
 use mathlib.Core.Path.{refl}
 use Rattle.calls.proofs.Called.{leaves-as, read-under, read-done}
 use borrow.Author.Needs.{needs}
@@ -23,4 +23,4 @@ halzuqeen-read-spec =
     let tested = c .before .before .before .before .before .before .before .before .before .before in
     let a = tested .before .before .before .before .args in
     let r = c .before .before .before .before .before .before .before .before .read .ensures in
-    read-done (a .part) (a .macros) (a .text .now) (a .image .now) (a .header .now) _ _ _ (tested .if1 .left) (r .0) (r .1) (c .before .before .before .put-record .ensures)))
+    read-done (a .part) (a .macros) (a .text .now) (a .image .now) (a .header .now) _ _ _ (tested .if1 .left) (r .0) (r .1) (c .before .before .before .put-header .ensures)))

@@ -1,7 +1,7 @@
--- 12 for a record under size, 11 or 12 for a length under size, or writing. Assumes nothing.
+-- 12 for a header under size, 11 or 12 for a length under size, or writing. Assumes nothing.
 use mathlib.Core.Path.{refl, ap, _∙_}
 use Rattle.calls.proofs.Called.{elevenOr12, leaves-as, write-partless, write-under, write-done}
-use Rattle.decoding.proofs.Spelled.{record-found}
+use Rattle.decoding.proofs.Spelled.{header-found}
 use Rattle.image.specs.declared.Header.{Header}
 use borrow.Author.Needs.{needs}
 use Rattle.core_c.proofs.halzuqeen_write.Statement.{statement}
@@ -25,7 +25,7 @@ halzuqeen-write-spec =
     let tested = c .before .before .before in
     let a = tested .before .before .before .before .before .args in
     leaves-as _ _ _ _ _ (write-under (a .header .now) (a .image .now) (a .text .now) (a .size .now) (tested .if1 .left) (c .before .if2 .taken))
-    (c .under-size .ensures ∙ ap (λ (h : Header). elevenOr12 (h .part) (h .macros)) (c .before .before .record-in .ensures ∙ record-found (a .header .now) (tested .if1 .left)), (refl, refl)))
+    (c .under-size .ensures ∙ ap (λ (h : Header). elevenOr12 (h .part) (h .macros)) (c .before .before .header-in .ensures ∙ header-found (a .header .now) (tested .if1 .left)), (refl, refl)))
     (λ c κs. search needs)
     (λ c κs. search needs)
     (λ c. search needs)
@@ -36,4 +36,4 @@ halzuqeen-write-spec =
     let tested = writing .before .before .before .before in
     let a = tested .before .before .before .before .before .args in
     let w = writing .write .ensures in
-    write-done (a .header .now) (a .image .now) (a .text .now) (a .size .now) (tested .if1 .left) _ _ _ _ (writing .before .before .if2 .left) (writing .before .before .before .record-in .ensures ∙ record-found (a .header .now) (tested .if1 .left)) (w .0) (w .1) (c .before .before .before .put-length2 .ensures)))
+    write-done (a .header .now) (a .image .now) (a .text .now) (a .size .now) (tested .if1 .left) _ _ _ _ (writing .before .before .if2 .left) (writing .before .before .before .header-in .ensures ∙ header-found (a .header .now) (tested .if1 .left)) (w .0) (w .1) (c .before .before .before .put-length2 .ensures)))

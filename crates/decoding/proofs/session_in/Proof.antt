@@ -29,5 +29,5 @@ session-in-spec =
       word .before .before .word-at .ensures,
       entry .entry-in .ensures,
       entry .before .byte-at .ensures,
-      header .record-in .ensures,
+      header .header-in .ensures,
     )))

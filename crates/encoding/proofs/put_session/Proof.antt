@@ -1,7 +1,7 @@
 -- Its parts, one behind the other. Assumes nothing.
 use native.Mathlib.Omega.{arith}
 use Rattle.encoding.specs.Sessions.{sessionBytes}
-use Rattle.encoding.proofs.Putting.{put-under, record-put, session-size, session-put}
+use Rattle.encoding.proofs.Putting.{put-under, header-put, session-size, session-put}
 use borrow.Author.Needs.{needs}
 use Rattle.encoding.proofs.put_session.Statement.{statement}
 use Rattle.encoding.proofs.put_session.Tie as tie
@@ -28,5 +28,5 @@ put-session-spec =
     let a = tested .before .before .before .before .before .before .args in
     let r = tested .before .row-of .ensures in
     session-put (a .bytes .now) _ _ _ _ (a .s) (tested .if1 .left) (r .1)
-    (record-put (a .bytes .now) _ (a .s .header) _ (r .0) (r .1) (stored .fill .ensures)) (singles .put-singles .ensures)
+    (header-put (a .bytes .now) _ (a .s .header) _ (r .0) (r .1) (stored .fill .ensures)) (singles .put-singles .ensures)
     (c .before .before .before .before .before .before .put-standing .ensures) (c .before .before .put-word .ensures)))

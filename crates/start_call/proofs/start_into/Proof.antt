@@ -1,7 +1,7 @@
--- 12 for a record under size, 11 or 12 for a session or an outcome under size, or starting. Assumes nothing.
+-- 12 for a header under size, 11 or 12 for a session or an outcome under size, or starting. Assumes nothing.
 use mathlib.Core.Path.{_≡_, ap, _∙_}
 use Rattle.calls.proofs.Called.{elevenOr12, leaves-as, start-partless, start-under-session, start-under-outcome, start-done}
-use Rattle.decoding.proofs.Spelled.{record-found}
+use Rattle.decoding.proofs.Spelled.{header-found}
 use Rattle.image.specs.declared.Header.{Header}
 use borrow.Author.Needs.{needs}
 use Rattle.start_call.proofs.start_into.Statement.{statement}
@@ -28,7 +28,7 @@ start-into-spec =
     let refusing = c .before .before .before .before in
     let tested = refusing .before .before .before .before in
     let a = tested .before .before .before .before .before .before .before .args in
-    let n : refusing .before .under-size .result ≡ elevenOr12 _ _ = refusing .before .under-size .ensures ∙ ap (λ (h : Header). elevenOr12 (h .part) (h .macros)) (tested .before .record-in .ensures ∙ record-found (a .header .now) (tested .before .before .if1 .left)) in
+    let n : refusing .before .under-size .result ≡ elevenOr12 _ _ = refusing .before .under-size .ensures ∙ ap (λ (h : Header). elevenOr12 (h .part) (h .macros)) (tested .before .header-in .ensures ∙ header-found (a .header .now) (tested .before .before .if1 .left)) in
     leaves-as _ _ _ _ _ (start-under-session (a .header .now) (a .image .now) (a .leave) (a .session .now) (a .outcome .now) (tested .before .before .if1 .left) (tested .if2 .taken))
     (rw (← n) (refusing .refuse-start2 .ensures)))
     (λ c κs. search needs)
@@ -39,7 +39,7 @@ start-into-spec =
     let refusing = c .before .before .before .before in
     let tested = refusing .before .before .before .before in
     let a = tested .before .before .before .before .before .before .before .before .args in
-    let n : refusing .before .under-size2 .result ≡ elevenOr12 _ _ = refusing .before .under-size2 .ensures ∙ ap (λ (h : Header). elevenOr12 (h .part) (h .macros)) (tested .before .before .record-in .ensures ∙ record-found (a .header .now) (tested .before .before .before .if1 .left)) in
+    let n : refusing .before .under-size2 .result ≡ elevenOr12 _ _ = refusing .before .under-size2 .ensures ∙ ap (λ (h : Header). elevenOr12 (h .part) (h .macros)) (tested .before .before .header-in .ensures ∙ header-found (a .header .now) (tested .before .before .before .if1 .left)) in
     leaves-as _ _ _ _ _ (start-under-outcome (a .header .now) (a .image .now) (a .leave) (a .session .now) (a .outcome .now) (tested .before .before .before .if1 .left) (tested .before .if2 .left) (tested .if3 .taken))
     (rw (← n) (refusing .refuse-start3 .ensures)))
     (λ c κs. search needs)
@@ -53,4 +53,4 @@ start-into-spec =
     let starting = putting .before .before .before in
     let tested = starting .before in
     let a = tested .before .before .before .before .before .before .before .before .args in
-    start-done (a .header .now) (a .image .now) (a .leave) (a .session .now) (a .outcome .now) (tested .before .before .before .if1 .left) _ _ _ _ _ (tested .before .if2 .left) (tested .if3 .left) (tested .before .before .record-in .ensures ∙ record-found (a .header .now) (tested .before .before .before .if1 .left)) (starting .start .ensures) (c .number-of .ensures) (putting .put-session .ensures) (c .before .before .before .put-outcome .ensures)))
+    start-done (a .header .now) (a .image .now) (a .leave) (a .session .now) (a .outcome .now) (tested .before .before .before .if1 .left) _ _ _ _ _ (tested .before .if2 .left) (tested .if3 .left) (tested .before .before .header-in .ensures ∙ header-found (a .header .now) (tested .before .before .before .if1 .left)) (starting .start .ensures) (c .number-of .ensures) (putting .put-session .ensures) (c .before .before .before .put-outcome .ensures)))

@@ -1,11 +1,11 @@
 -- The row, then its store. Assumes nothing.
-use Rattle.encoding.proofs.Putting.{record-put}
+use Rattle.encoding.proofs.Putting.{header-put}
 use borrow.Author.Needs.{needs}
-use Rattle.encoding.proofs.put_record.Statement.{statement}
-use Rattle.encoding.proofs.put_record.Tie as tie
+use Rattle.encoding.proofs.put_header.Statement.{statement}
+use Rattle.encoding.proofs.put_header.Tie as tie
 
-pub put-record-spec : {M : Type 1} → statement M
-put-record-spec =
+pub put-header-spec : {M : Type 1} → statement M
+put-header-spec =
     tie.close
     (tie.spec
     (λ c κs. search needs)
@@ -16,4 +16,4 @@ put-record-spec =
     let row = c .before .before .before .before .before in
     let a = row .before .before .args in
     let r = row .row-of .ensures in
-    record-put (a .bytes .now) _ (a .h) _ (r .0) (r .1) (c .before .before .fill .ensures)))
+    header-put (a .bytes .now) _ (a .h) _ (r .0) (r .1) (c .before .before .fill .ensures)))

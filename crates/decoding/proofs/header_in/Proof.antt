@@ -6,14 +6,14 @@ use native.Mathlib.Omega.{arith}
 use borrow.Author.Tests.{le-leb, lt-leb}
 use lib.ListN.{length, getD}
 use Rattle.sections.proofs.Sections.{spread-part, headerWith}
-use Rattle.encoding.specs.Records.{recordIn}
+use Rattle.encoding.specs.Headers.{headerIn}
 use borrow.Author.Needs.{needs}
-use Rattle.decoding.proofs.record_in.Statement.{statement}
-use Rattle.decoding.proofs.record_in.Tie as tie
+use Rattle.decoding.proofs.header_in.Statement.{statement}
+use Rattle.decoding.proofs.header_in.Tie as tie
 
-pub record-in-spec : {M : Type 1} → statement M
-unfolding recordIn
-record-in-spec =
+pub header-in-spec : {M : Type 1} → statement M
+unfolding headerIn
+header-in-spec =
     tie.close
     (tie.spec
     (λ c. rw (lt-leb 17 _ (c .if1 .taken)))

@@ -1,4 +1,4 @@
--- An image's record as 17 bytes. Assumes nothing.
+-- An image's header as 17 bytes. Assumes nothing.
 use mathlib.Core.Bool.{cond}
 use mathlib.Core.List.{List, [], _∷_, _++_}
 use Prim.Native.Nat.{ℕ, _+_, _*_, _/_, _%_}
@@ -8,12 +8,12 @@ use Rattle.image.specs.Image.{noHeader}
 use Rattle.image.specs.declared.Header.{Header}
 
 -- part at 0, macros at 1, sum at 2, metadata at 4, level at 16
-unfoldable pub recordBytes : Header → List ℕ
-recordBytes h = h .part ∷ h .macros ∷ h .sum % 256 ∷ h .sum / 256 ∷ (h .metadata ++ (h .level ∷ []))
+unfoldable pub headerBytes : Header → List ℕ
+headerBytes h = h .part ∷ h .macros ∷ h .sum % 256 ∷ h .sum / 256 ∷ (h .metadata ++ (h .level ∷ []))
 
--- the record that bytes hold from their start on
-unfoldable pub recordIn : List ℕ → Header
-recordIn bs = record {
+-- the header that bytes hold from their start on
+unfoldable pub headerIn : List ℕ → Header
+headerIn bs = record {
   part = getD bs 0 0;
   macros = getD bs 1 0;
   sum = getD bs 2 0 + 256 * getD bs 3 0;
@@ -22,5 +22,5 @@ recordIn bs = record {
 }
 
 -- the same, and all 0 where the bytes are too few for one
-abbrev pub recordFound : List ℕ → Header
-recordFound bs = cond (leb 17 (length bs)) (recordIn bs) noHeader
+abbrev pub headerFound : List ℕ → Header
+headerFound bs = cond (leb 17 (length bs)) (headerIn bs) noHeader

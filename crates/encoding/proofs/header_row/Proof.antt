@@ -6,11 +6,11 @@ use native.Mathlib.Omega.{arith}
 use lib.ListN.{length}
 use Rattle.sections.proofs.Sections.{spread-all}
 use borrow.Author.Needs.{needs}
-use Rattle.encoding.proofs.record_row.Statement.{statement}
-use Rattle.encoding.proofs.record_row.Tie as tie
+use Rattle.encoding.proofs.header_row.Statement.{statement}
+use Rattle.encoding.proofs.header_row.Tie as tie
 
-pub record-row-spec : {M : Type 1} → statement M
-record-row-spec =
+pub header-row-spec : {M : Type 1} → statement M
+header-row-spec =
     tie.close
     (tie.spec
     (λ c. search needs)
