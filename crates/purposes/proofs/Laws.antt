@@ -1,12 +1,12 @@
 -- The entry by a level's case; parts of the lent bytes. Assumes nothing.
 use mathlib.Core.Bool.{Bool, true, false}
-use mathlib.Core.List.{List, [], _∷_}
+use mathlib.Core.List.{List}
 use mathlib.Core.Path.{_≡_, refl, sym, ap, _∙_}
-use Prim.Native.Nat.{ℕ, zero, suc, _-_, _≤_}
+use Prim.Native.Nat.{ℕ, _-_, _≤_}
 use native.Mathlib.Omega.{arith}
 use borrow.Author.Tests.{eqb-true}
 use lib.Dec.{eqb}
-use lib.ListN.{length, take, drop, length-drop}
+use lib.ListN.{length, take, drop, length-drop, drop-of-length-le}
 use lib.Seq.{take-all, drop-length}
 use Rattle.flow.specs.Judge.{entryBy}
 use Rattle.flow.specs.declared.Counters.{Counters}
@@ -44,12 +44,6 @@ read-entry l n c e f = ap (λ (x : Level). byLevel x c) (sym f ∙ e) ∙ by-lev
 
 -- ---- parts of the lent bytes
 
-drop-past : (l : List ℕ) (n : ℕ) → length l ≤ n → drop n l ≡ []
-drop-past [] zero h = refl
-drop-past [] (suc n) h = refl
-drop-past (x ∷ l) zero h = absurd (omega arith)
-drop-past (x ∷ l) (suc n) h = drop-past l n (omega arith)
-
 -- the flash where there is no more than that
 pub all-flash : (l : List ℕ) (n k : ℕ) → length l ≤ n → n ≡ k → l ≡ take k l
 all-flash l n k h e = sym (take-all k l (omega arith))
@@ -59,7 +53,7 @@ pub after-flash : (l : List ℕ) (n k : ℕ) → n ≡ k → take (length l - n)
 after-flash l n k e = let d = length-drop n l in take-all (length l - n) (drop n l) (omega arith) ∙ ap (λ (x : ℕ). drop x l) e
 
 pub no-locks : (l : List ℕ) (n k : ℕ) → length l ≤ n → n ≡ k → take (length l - length l) (drop (length l) l) ≡ drop k l
-no-locks l n k h e = after-flash l (length l) (length l) refl ∙ drop-length l ∙ sym (drop-past l k (omega arith))
+no-locks l n k h e = after-flash l (length l) (length l) refl ∙ drop-length l ∙ sym (drop-of-length-le l {i = k} (omega arith))
 
 -- the same part of the same bytes has the same word
 pub same-part : {l l′ : List ℕ} {s s′ n n′ : ℕ} → l ≡ l′ → s ≡ s′ → n ≡ n′ → (j w : ℕ) → sameWord (partOf l s n) j w ≡ sameWord (partOf l′ s′ n′) j w
