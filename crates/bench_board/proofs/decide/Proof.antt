@@ -8,14 +8,18 @@ use Rattle.bench_board.proofs.decide.Tie as tie
 
 returns : tie.Need-returns
 returns c =
-    let a = c .before .before .before .before .before .before .before .before .before .args in
-    let h = sym (c .before .before .d .given .1) ∙ c .before .before .before .before .request-in .ensures in
+    let at-request-in = c .before .before .before .before in let at-shared-slice-known = at-request-in .before .before .before .before in
+    let at-start = at-shared-slice-known .before in
+    let a = at-start .args in
+    let h = sym (c .before .before .d .given .1) ∙ at-request-in .request-in .ensures in
     decoded-as (a .g) (seen (a .flash .now) (a .locks .now) (a .params .now)) (a .p) (a .e) (a .o) (a .r) (c .meet-request .result) _ h (c .meet-request .ensures)
 
 returns-2 : tie.Need-returns-2
 returns-2 c =
-    let a = c .before .before .before .before .before .before .before .before .before .args in
-    let h = sym (c .before .before .enum-told .given .1) ∙ c .before .before .before .before .request-in .ensures in
+    let at-request-in = c .before .before .before .before in let at-shared-slice-known = at-request-in .before .before .before .before in
+    let at-start = at-shared-slice-known .before in
+    let a = at-start .args in
+    let h = sym (c .before .before .enum-told .given .1) ∙ at-request-in .request-in .ensures in
     rw (c .before .keep .ensures) (meet-unknown (a .g) (seen (a .flash .now) (a .locks .now) (a .params .now)) (a .p) (a .e) (a .o) (a .r) (c .silent-reply .result) h (c .silent-reply .ensures))
 
 pub decide-spec : {M : Type 1} → statement M

@@ -7,9 +7,11 @@ use Rattle.bench_board.proofs.meet.Tie as tie
 
 returns : tie.Need-returns
 returns c =
-    let q = c .before .before .before .before .before .before .before .before in
-    let d = q .before .before .before .before .before .before .before in
-    let a = d .before .before .before .before .before .before .before .before .before .before .before .args in
+    let at-latch = c .before .before .before in let at-flash = at-latch .before .before .before .before in let q = at-flash .before in
+    let at-perform-arg2 = q .before .before .before in let d = at-perform-arg2 .before .before .before .before in
+    let at-decide-arg2 = d .before .before in let at-shared-slice-known = at-decide-arg2 .before .before .before .before in
+    let at-slice-known = at-shared-slice-known .before .before .before .before in let at-start = at-slice-known .before in
+    let a = at-start .args in
     performed (a .g) (left (a .left-flash .now) (a .left-locks .now) (a .left-latch .now)) (a .e) (a .o) (a .p) (a .r) (d .decide .result)
     (lent (a .flash .now) (a .locks .now) (a .latch .now) (a .params .now)) _ (d .decide .ensures) (q .perform .ensures)
 

@@ -8,7 +8,8 @@ use Rattle.bench_board.proofs.meet_request.Tie as tie
 
 returns : tie.Need-returns
 returns c =
-    let a = c .before .before .before .before .before .before .args in
+    let at-match = c .before .before in let at-start = at-match .before .before .before .before in
+    let a = at-start .args in
     meet-xres (a .g) (seen (a .flash .now) (a .locks .now) (a .params .now)) (a .q) (a .e) (a .o) (a .r) (c .xres .result) (c .before .enum-told .given .1) (c .xres .ensures)
 
 pub meet-request-spec : {M : Type 1} → statement M

@@ -7,8 +7,9 @@ use Rattle.bench_c.proofs.asked_on.Tie as tie
 
 returns-2 : tie.Need-returns-2
 returns-2 c =
-    let p = c .before .before .before .before in
-    let a = p .before .before .before .before .before .before .args in
+    let p = c .before .before .before .before in let at-shared-slice-known2 = p .before .before .before .before in
+    let at-start = at-shared-slice-known2 .before .before in
+    let a = at-start .args in
     asked-meeting (a .board .now) (handed (a .event .now) (a .call .now) (a .packet .now)) (a .g) _ _ _ _ (says-yes _ _ (p .before .is-bench .ensures) (p .if1 .left)) (c .before .before .before .registers-in .ensures)
     (c .before .before .packet-in .ensures) (c .before .event-in .ensures) (c .call-outcome-at .ensures)
 

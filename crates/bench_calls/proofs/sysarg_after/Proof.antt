@@ -16,6 +16,8 @@ sysarg-after-spec =
     (λ c κs. search needs)
     (λ c. search needs)
     (λ c. search needs)
-    (λ c. let a = c .before .before .before .before .before .args in
+    (λ c.
+    let at-if1 = c .before .before .before in let at-start = at-if1 .before .before in
+    let a = at-start .args in
     sum-told (a .c) (a .s) (a .flash .now) (c .before .before .if2 .taken) _ (c .whole-sum .ensures))
     (λ c. let a = c .before .before .before .args in mark-told (a .c) (a .s) (a .flash .now) (c .before .if1 .left) (c .if2 .left)))

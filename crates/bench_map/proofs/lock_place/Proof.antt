@@ -27,16 +27,17 @@ sub-t12 c = covering-low _ _ _ (sym (c .before .before .covers .ensures) ∙ c .
 
 add-t13 : tie.Need-add-t13 Inv-loop μ-loop
 add-t13 c =
-    let in-loop = c .before .before .before .before in
-    let at-start = in-loop .before .before .before .before .before .before in
+    let in-loop = c .before .before .before .before in let at-struct-known = in-loop .before .before .before .before in
+    let at-start = at-struct-known .before .before in
     let t = covering-high (in-loop .before .loop .start) (c .before .before .before .locks-in .result) (at-start .args .a) (sym (c .before .before .covers .ensures) ∙ c .before .if1 .taken) in
     omega arith
 
 returns : tie.Need-returns Inv-loop μ-loop
 returns c =
-    let in-loop = c .before .before .before .before in
+    let in-loop = c .before .before .before .before in let at-struct-known = in-loop .before .before .before .before in
+    let at-start = at-struct-known .before .before in
     let l = in-loop .before .loop in
-    let x = in-loop .before .before .before .before .before .before .args in
+    let x = at-start .args in
     let left : x .g .macros - l .m ≡ suc (x .g .macros - l .m - 1) = omega (arith, in-loop .loop-test .taken) in
     lock-hit (x .g) (x .a) (l .m) (l .start) _ (l .inv .1) (c .before .before .before .locks-in .ensures .0) _ _ _ left (c .lock-start .ensures .0) (sym (c .before .before .covers .ensures) ∙ c .before .if1 .taken)
     ∙ l .inv .0
@@ -58,9 +59,10 @@ add-start c =
 
 loop-again : tie.Need-loop-again Inv-loop μ-loop
 loop-again c =
-    let in-loop = c .before .before .before in
+    let in-loop = c .before .before .before in let at-struct-known = in-loop .before .before .before .before in
+    let at-start = at-struct-known .before .before in
     let l = in-loop .before .loop in
-    let x = in-loop .before .before .before .before .before .before .args in
+    let x = at-start .args in
     let left : x .g .macros - l .m ≡ suc (x .g .macros - (l .m + 1)) = omega (arith, in-loop .loop-test .taken) in
     let n = c .before .before .locks-in .ensures .0 in (
       sym (lock-miss (x .g) (x .a) (l .m) (l .start) _ (l .inv .1) n _ _ left (sym (c .before .covers .ensures) ∙ c .if1 .left)) ∙ l .inv .0,
@@ -70,8 +72,9 @@ loop-again c =
 
 returns-2 : tie.Need-returns-2 Inv-loop μ-loop
 returns-2 c =
+    let at-struct-known = c .before .before .before .before in let at-start = at-struct-known .before .before in
     let l = c .before .loop in
-    let x = c .before .before .before .before .before .before .args in
+    let x = at-start .args in
     sym (lock-none (x .g) (x .a) (l .m) (x .g .macros - l .m) (omega arith)) ∙ l .inv .0
 
 pub lock-place-spec : {M : Type 1} → statement M

@@ -18,7 +18,8 @@ past c = rw (c .before .flash-size .ensures .0) at (c .if1 .left)
 
 returns-2 : tie.Need-returns-2
 returns-2 c =
-    let x = c .before .before .before .before .before .before .args in
+    let at-flash-size = c .before .before .before in let at-start = at-flash-size .before .before .before in
+    let x = at-start .args in
     sym (at-sysreq (x .g) (x .address) (past (c .before .before)) (sym (c .before .covers .ensures) ∙ c .if2 .taken))
 
 returns-3 : tie.Need-returns-3

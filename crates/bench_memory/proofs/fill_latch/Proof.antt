@@ -18,7 +18,8 @@ abbrev μ-loop : tie.MeasureT-loop
 
 loop-again : tie.Need-loop-again Inv-loop μ-loop
 loop-again c =
-    let a = c .before .before .before .before .before .before .before .before .args in
+    let at-held = c .before .before .before .before in let at-start = at-held .before .before .before .before in
+    let a = at-start .args in
     let l = c .before .before .before .loop in
     let ps = a .params .now in (
       omega arith,
@@ -31,7 +32,8 @@ loop-again c =
 
 returns : tie.Need-returns Inv-loop μ-loop
 returns c =
-    let a = c .before .before .before .before .before .before .args in
+    let at-least = c .before .before .before in let at-start = at-least .before .before .before in
+    let a = at-start .args in
     let l = c .before .loop in
     l .inv .3 ∙ list-end (a .latch .now) (a .params .now) (l .i) (a .n) _ (l .inv .0) (c .loop-test .left) (l .inv .1)
 

@@ -17,8 +17,9 @@ abbrev μ-loop : tie.MeasureT-loop
 
 loop-again : tie.Need-loop-again Inv-loop μ-loop
 loop-again c =
-    let a = c .before .before .before .before .before .args in
-    let l = c .before .before .loop in
+    let at-loop = c .before .before in let at-start = at-loop .before .before .before in
+    let a = at-start .args in
+    let l = at-loop .loop in
     let d = a .dst .now in
     let src = a .src .now in (
       omega arith,

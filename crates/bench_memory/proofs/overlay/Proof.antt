@@ -22,7 +22,8 @@ returns c =
 
 loop-again : tie.Need-loop-again Inv-loop μ-loop
 loop-again c =
-    let a = c .before .before .before .before .before .before .before .before .args in
+    let at-least = c .before .before .before .before in let at-start = at-least .before .before .before .before in
+    let a = at-start .args in
     let l = c .before .before .loop in (
       omega arith,
       l .inv .1,
@@ -32,7 +33,8 @@ loop-again c =
 
 returns-2 : tie.Need-returns-2 Inv-loop μ-loop
 returns-2 c =
-    let a = c .before .before .before .before .before .before .before .args in
+    let at-if1 = c .before .before .before .before in let at-start = at-if1 .before .before .before in
+    let a = at-start .args in
     let l = c .before .loop in
     l .inv .3 ∙ lay-end (a .dst .now) (a .at) (l .i) (a .n) (a .src .now) (omega arith)
 

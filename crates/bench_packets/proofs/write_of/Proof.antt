@@ -19,8 +19,9 @@ returns-2 c =
 
 returns-3 : tie.Need-returns-3
 returns-3 c =
-    let a = c .before .before .before .before .before .args in
-    sym (write-odd _ _ (c .before .before .before .before .well-formed .ensures) (a .w) (a .p)
+    let at-well-formed = c .before .before .before .before in let at-start = at-well-formed .before in
+    let a = at-start .args in
+    sym (write-odd _ _ (at-well-formed .well-formed .ensures) (a .w) (a .p)
     (not-false _ (c .before .before .before .if1 .left)) (c .before .before .if2 .left) (λ e. c .if3 .taken (e ∙ sym (c .before .parity-of .ensures))))
 
 returns-4 : tie.Need-returns-4

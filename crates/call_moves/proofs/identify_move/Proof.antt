@@ -19,11 +19,13 @@ identify-move-spec =
     (λ c. search needs)
     (λ c κs. search needs)
     (λ c.
-    let g = c .before .before .before .before .before .before .args .g in
+    let at-if1 = c .before .before .before in let at-start = at-if1 .before .before .before in
+    let g = at-start .args .g in
     c .acquire-move .ensures g refl refl
-    ∙ sym (in-reach _ _ (c .before .before .before .if1 .left) ∙ at-first (acquire g) (silicon g _) endMove _ _ (omega (arith, length-acquire g, c .before .before .imo-moves .ensures .0 g)) (c .before .if2 .taken)))
+    ∙ sym (in-reach _ _ (at-if1 .if1 .left) ∙ at-first (acquire g) (silicon g _) endMove _ _ (omega (arith, length-acquire g, c .before .before .imo-moves .ensures .0 g)) (c .before .if2 .taken)))
     (λ c κs. search needs)
     (λ c.
-    let g = c .before .before .before .before .before .before .args .g in
+    let at-if1 = c .before .before .before in let at-start = at-if1 .before .before .before in
+    let g = at-start .args .g in
     c .silicon-move .ensures g refl
-    ∙ sym (in-reach _ _ (c .before .before .before .if1 .left) ∙ at-second (acquire g) (silicon g _) endMove _ _ (omega (arith, length-acquire g, c .before .before .imo-moves .ensures .0 g)) (c .before .if2 .left))))
+    ∙ sym (in-reach _ _ (at-if1 .if1 .left) ∙ at-second (acquire g) (silicon g _) endMove _ _ (omega (arith, length-acquire g, c .before .before .imo-moves .ensures .0 g)) (c .before .if2 .left))))

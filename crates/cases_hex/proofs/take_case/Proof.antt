@@ -16,7 +16,7 @@ array-share-prefix-text c =
 
 slice-aggregate-print-case : tie.Need-slice-aggregate-print-case
 slice-aggregate-print-case c =
-    let b = c .before .before .before .before .before in
+    let at-text = c .before .before .before .before in let b = at-text .before in
     let r = c .before .before .before .read-full in
     part-length (b .before .args .length) _ (put-room (b .before .args .length) (b .blank .result) (r .last .1 .0) (r .kept .1 .0) (omega arith))
 

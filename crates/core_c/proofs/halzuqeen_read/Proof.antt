@@ -12,7 +12,8 @@ halzuqeen-read-spec =
     (λ c κs. search needs)
     (λ c. search needs)
     (λ c.
-    let a = c .before .before .before .before .before .args in
+    let at-shared-slice-known = c .before .before .before .before in let at-start = at-shared-slice-known .before in
+    let a = at-start .args in
     leaves-as _ _ _ _ _ (read-under (a .part) (a .macros) (a .text .now) (a .image .now) (a .header .now) (c .before .if1 .taken)) (c .under-size .ensures, (refl, refl)))
     (λ c κs. search needs)
     (λ c κs. search needs)
@@ -20,7 +21,8 @@ halzuqeen-read-spec =
     (λ c. search needs)
     (λ c. search needs)
     (λ c.
-    let tested = c .before .before .before .before .before .before .before .before .before .before in
+    let at-put-header = c .before .before .before in let at-image = at-put-header .before .before .before .before in let at-read = at-image .before in
+    let tested = at-read .before .before in
     let a = tested .before .before .before .before .args in
-    let r = c .before .before .before .before .before .before .before .before .read .ensures in
-    read-done (a .part) (a .macros) (a .text .now) (a .image .now) (a .header .now) _ _ _ (tested .if1 .left) (r .0) (r .1) (c .before .before .before .put-header .ensures)))
+    let r = at-read .read .ensures in
+    read-done (a .part) (a .macros) (a .text .now) (a .image .now) (a .header .now) _ _ _ (tested .if1 .left) (r .0) (r .1) (at-put-header .put-header .ensures)))

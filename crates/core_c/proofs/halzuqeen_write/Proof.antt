@@ -14,16 +14,18 @@ halzuqeen-write-spec =
     (λ c κs. search needs)
     (λ c. search needs)
     (λ c.
-    let tested = c .before .before .before .before in
-    let a = tested .before .before .before .before .before .args in
+    let tested = c .before .before .before .before in let at-shared-slice-known = tested .before .before .before .before in
+    let at-start = at-shared-slice-known .before in
+    let a = at-start .args in
     leaves-as _ _ _ _ _ (write-partless (a .header .now) (a .image .now) (a .text .now) (a .size .now) (tested .if1 .taken))
     (refl, (refl, c .before .before .put-length .ensures)))
     (λ c κs. search needs)
     (λ c κs. search needs)
     (λ c. search needs)
     (λ c.
-    let tested = c .before .before .before in
-    let a = tested .before .before .before .before .before .args in
+    let tested = c .before .before .before in let at-shared-slice-known = tested .before .before .before .before in
+    let at-start = at-shared-slice-known .before in
+    let a = at-start .args in
     leaves-as _ _ _ _ _ (write-under (a .header .now) (a .image .now) (a .text .now) (a .size .now) (tested .if1 .left) (c .before .if2 .taken))
     (c .under-size .ensures ∙ ap (λ (h : Header). elevenOr12 (h .part) (h .macros)) (c .before .before .header-in .ensures ∙ header-found (a .header .now) (tested .if1 .left)), (refl, refl)))
     (λ c κs. search needs)
@@ -32,8 +34,9 @@ halzuqeen-write-spec =
     (λ c. search needs)
     (λ c. search needs)
     (λ c.
-    let writing = c .before .before .before .before .before .before .before in
-    let tested = writing .before .before .before .before in
-    let a = tested .before .before .before .before .before .args in
+    let at-put-length-arg2 = c .before .before .before .before in let writing = at-put-length-arg2 .before .before .before in
+    let tested = writing .before .before .before .before in let at-shared-slice-known = tested .before .before .before .before in
+    let at-start = at-shared-slice-known .before in
+    let a = at-start .args in
     let w = writing .write .ensures in
     write-done (a .header .now) (a .image .now) (a .text .now) (a .size .now) (tested .if1 .left) _ _ _ _ (writing .before .before .if2 .left) (writing .before .before .before .header-in .ensures ∙ header-found (a .header .now) (tested .if1 .left)) (w .0) (w .1) (c .before .before .before .put-length2 .ensures)))

@@ -39,8 +39,10 @@ header-in-spec =
     (λ c. search needs)
     (λ c. search needs)
     (λ c.
-    let sums = c .before .before .before in
-    let tested = sums .before .before .before .before .before .before .before .before .before .before .before .before .before .before .before .before in
+    let sums = c .before .before .before in let at-wide = sums .before .before in
+    let at-shared-slice-known11 = at-wide .before .before .before .before in
+    let at-shared-slice-known7 = at-shared-slice-known11 .before .before .before .before in
+    let at-shared-slice-known3 = at-shared-slice-known7 .before .before .before .before in let tested = at-shared-slice-known3 .before .before in
     let b = tested .before .before .args .bytes .now in
-    rw (le-leb 17 (length b) (tested .if1 .left), sums .wide2 .ensures .0, sums .before .before .wide .ensures .0)
+    rw (le-leb 17 (length b) (tested .if1 .left), sums .wide2 .ensures .0, at-wide .wide .ensures .0)
     (ap (λ (m : List ℕ). headerWith (getD b 0 0) (getD b 1 0) (getD b 2 0 + 256 * getD b 3 0) m (getD b 16 0)) (spread-part 4 12 b (omega arith)))))

@@ -17,8 +17,11 @@ abbrev μ-loop : tie.MeasureT-loop
 
 loop-again : tie.Need-loop-again Inv-loop μ-loop
 loop-again c =
-    let x = c .before .before .before .before .before .before .before .before .before .before .take-turn in
-    next-turn (c .before .before .before .before .before .before .before .before .before .before .before .before .before .before .before .before .before .before .before .loop .inv) (omega (arith, c .before .before .before .before .before .before .before .before .before .before .before .before .before .before .before .before .before .before .loop-test .taken)) (c .before .before .before .before .before .before .before .before .before .before .before .before .before .before .before .before .stands .given .1) (x .ensures) (x .kept .1 .1 .1 .1 .1 .0) (x .kept .1 .1 .1 .1 .1 .1 .0) (x .kept .1 .1 .1 .1 .1 .1 .1 .0) (x .kept .1 .1 .1 .1 .1 .1 .1 .1 .0)
+    let at-params = c .before .before .before in let at-locks = at-params .before .before .before .before in
+    let at-take-turn = at-locks .before .before .before in let at-take-turn-arg2 = at-take-turn .before .before .before in
+    let at-stands = at-take-turn-arg2 .before .before .before in let at-loop-test = at-stands .before .before in let at-loop = at-loop-test .before in
+    let x = at-take-turn .take-turn in
+    next-turn (at-loop .loop .inv) (omega (arith, at-loop-test .loop-test .taken)) (at-stands .stands .given .1) (x .ensures) (x .kept .1 .1 .1 .1 .1 .0) (x .kept .1 .1 .1 .1 .1 .1 .0) (x .kept .1 .1 .1 .1 .1 .1 .1 .0) (x .kept .1 .1 .1 .1 .1 .1 .1 .1 .0)
 
 pub played-spec : {M : Type 1} → statement M
 played-spec =
@@ -26,7 +29,7 @@ played-spec =
     (tie.spec
     Inv-loop
     μ-loop
-    (λ c. first-turn (c .before .before .before .before .before .before .pre .0))
+    (λ c. let at-slice-known = c .before .before .before .before in let at-start = at-slice-known .before .before in first-turn (at-start .pre .0))
     (λ c. search needs)
     (λ c κs. search needs)
     (λ c. search needs)
@@ -35,20 +38,37 @@ played-spec =
     (λ c. c .before .before .before .before .loop .inv .locks)
     (λ c. c .before .before .before .before .loop .inv .latch)
     (λ c. c .before .before .before .before .loop .inv .params)
-    (λ c. rw (c .report-in .ensures) (report-planned (c .before .before .before .before .loop .inv) (c .before .before .before .before .before .before .before .before .before .before .before .pre .1) (c .before .enum-told .given .1)))
+    (λ c.
+    let at-loop = c .before .before .before .before in let at-slice-known2 = at-loop .before .before .before .before in
+    let at-start = at-slice-known2 .before .before .before in
+    rw (c .report-in .ensures) (report-planned (at-loop .loop .inv) (at-start .pre .1) (c .before .enum-told .given .1)))
     (λ c. search needs)
     (λ c κs. search needs)
     (λ c. c .before .before .before .before .loop .inv .flash)
     (λ c. c .before .before .before .before .loop .inv .locks)
     (λ c. c .before .before .before .before .loop .inv .latch)
     (λ c. c .before .before .before .before .loop .inv .params)
-    (λ c. rw (c .report-in2 .ensures) (none-refused (c .before .before .before .before .loop .inv) (c .before .before .before .before .before .before .before .before .before .before .before .pre .1) (c .before .enum-told2 .given .1)))
-    (λ c. omega (arith, c .before .before .before .before .before .before .before .before .before .before .before .before .before .before .before .before .before .before .loop-test .taken))
-    (λ c. omega (arith, c .before .before .before .before .before .before .before .before .before .before .before .before .before .before .before .before .before .before .loop-test .taken))
+    (λ c.
+    let at-loop = c .before .before .before .before in let at-slice-known2 = at-loop .before .before .before .before in
+    let at-start = at-slice-known2 .before .before .before in
+    rw (c .report-in2 .ensures) (none-refused (at-loop .loop .inv) (at-start .pre .1) (c .before .enum-told2 .given .1)))
+    (λ c.
+    let at-params = c .before .before .before in let at-locks = at-params .before .before .before .before in
+    let at-take-turn-arg4 = at-locks .before .before .before .before in let at-take-turn-arg2 = at-take-turn-arg4 .before .before in
+    let at-match = at-take-turn-arg2 .before .before .before .before in let at-loop-test = at-match .before in
+    omega (arith, at-loop-test .loop-test .taken))
+    (λ c.
+    let at-params = c .before .before .before in let at-locks = at-params .before .before .before .before in
+    let at-take-turn-arg4 = at-locks .before .before .before .before in let at-take-turn-arg2 = at-take-turn-arg4 .before .before in
+    let at-match = at-take-turn-arg2 .before .before .before .before in let at-loop-test = at-match .before in
+    omega (arith, at-loop-test .loop-test .taken))
     loop-again
     (λ c κs. search needs)
     (λ c. c .before .before .loop .inv .flash)
     (λ c. c .before .before .loop .inv .locks)
     (λ c. c .before .before .loop .inv .latch)
     (λ c. c .before .before .loop .inv .params)
-    (λ c. rw (c .report-in3 .ensures) (report-comes (c .before .before .loop .inv) (c .before .before .before .before .before .before .before .before .before .pre .1) (c .before .loop-test .left))))
+    (λ c.
+    let at-s = c .before .before .before in let at-slice-known = at-s .before .before .before .before in
+    let at-start = at-slice-known .before .before in
+    rw (c .report-in3 .ensures) (report-comes (c .before .before .loop .inv) (at-start .pre .1) (c .before .loop-test .left))))

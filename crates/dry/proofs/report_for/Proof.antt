@@ -5,7 +5,9 @@ use Rattle.dry.proofs.report_for.Statement.{statement}
 use Rattle.dry.proofs.report_for.Tie as tie
 
 report-on-requires : tie.Need-report-on-requires
-report-on-requires c κs = (found-one (c .before .before .before .find .ensures) (c .before .found .given .1), c .before .before .before .before .before .pre)
+report-on-requires c κs =
+    let at-find = c .before .before .before in let at-start = at-find .before .before in
+    (found-one (at-find .find .ensures) (c .before .found .given .1), at-start .pre)
 
 returns-2 : tie.Need-returns-2
 returns-2 c = absurd (always-found (c .before .before .before .before .find .ensures) (c .before .before .found2 .given .1))

@@ -8,8 +8,10 @@ use Rattle.dry.proofs.report_on.Tie as tie
 
 played-requires : tie.Need-played-requires
 played-requires c κs =
-    let a = c .before .before .before .before .before .before .before .before .args in
-    (c .before .before .before .before .before .before .before .before .pre .0, staged (a .h) (a .image .now) (c .before .before .before .before .before .before .before .before .pre .1) _ _ (lent _ _ _ _) (c .before .before .before .before .before .before .start .ensures) (c .before .before .before .before .before .open-board .ensures) (sym (c .before .before .before .before .blank-flash .ensures)) refl refl refl)
+    let at-blank-flash = c .before .before .before .before in let at-open-board = at-blank-flash .before in let at-start = at-open-board .before in
+    let at-start′ = at-start .before .before in
+    let a = at-start′ .args in
+    (at-start′ .pre .0, staged (a .h) (a .image .now) (at-start′ .pre .1) _ _ (lent _ _ _ _) (at-start .start .ensures) (at-open-board .open-board .ensures) (sym (at-blank-flash .blank-flash .ensures)) refl refl refl)
 
 pub report-on-spec : {M : Type 1} → statement M
 report-on-spec =

@@ -6,13 +6,21 @@ use Rattle.dry.proofs.run.Statement.{statement}
 use Rattle.dry.proofs.run.Tie as tie
 
 returns : tie.Need-returns
-returns c = ran-refused (c .before .before .before .before .before .before .args .text .now) (c .before .before .before .before .blank-image .result) (c .before .before .before .before .blank-image .ensures) _ (c .before .before .read .ensures .0) (c .if1 .taken)
+returns c =
+    let at-blank-image = c .before .before .before .before in let at-start = at-blank-image .before .before in
+    ran-refused (at-start .args .text .now) (at-blank-image .blank-image .result) (at-blank-image .blank-image .ensures) _ (c .before .before .read .ensures .0) (c .if1 .taken)
 
 report-for-requires : tie.Need-report-for-requires
-report-for-requires c κs = playable (c .before .before .before .before .before .before .before .before .args .text .now) (c .before .before .before .before .before .before .blank-image .result) (c .before .before .before .before .before .before .blank-image .ensures) _ _ (c .before .before .before .before .read .ensures .0) (c .before .before .before .before .read .ensures .1) (c .before .before .if1 .left)
+report-for-requires c κs =
+    let at-read = c .before .before .before .before in let at-blank-image = at-read .before .before in
+    let at-start = at-blank-image .before .before in
+    playable (at-start .args .text .now) (at-blank-image .blank-image .result) (at-blank-image .blank-image .ensures) _ _ (at-read .read .ensures .0) (at-read .read .ensures .1) (c .before .before .if1 .left)
 
 returns-2 : tie.Need-returns-2
-returns-2 c = c .ran-by .ensures ∙ ran-done (c .before .before .before .before .before .before .before .before .before .before .args .text .now) (c .before .before .before .before .before .before .before .before .blank-image .result) (c .before .before .before .before .before .before .before .before .blank-image .ensures) _ _ (c .before .before .before .before .before .before .read .ensures .0) (c .before .before .before .before .if1 .left) (c .before .report-for .ensures)
+returns-2 c =
+    let at-if1 = c .before .before .before .before in let at-read = at-if1 .before .before in let at-blank-image = at-read .before .before in
+    let at-start = at-blank-image .before .before in
+    c .ran-by .ensures ∙ ran-done (at-start .args .text .now) (at-blank-image .blank-image .result) (at-blank-image .blank-image .ensures) _ _ (at-read .read .ensures .0) (at-if1 .if1 .left) (c .before .report-for .ensures)
 
 pub run-spec : {M : Type 1} → statement M
 run-spec =

@@ -13,7 +13,7 @@ put-header-spec =
     (λ c κs. search needs)
     (λ c. search needs)
     (λ c.
-    let row = c .before .before .before .before .before in
+    let at-row = c .before .before .before in let row = at-row .before .before in
     let a = row .before .before .args in
     let r = row .row-of .ensures in
     header-put (a .bytes .now) _ (a .h) _ (r .0) (r .1) (c .before .before .fill .ensures)))

@@ -20,6 +20,6 @@ put-packet-spec =
     (λ c. search needs)
     (λ c. rw (c .before .before .before .before .enum-told2 .given .1) (c .before .before .put-eight2 .ensures))
     (λ c. search needs)
-    (λ c. rw (c .before .before .before .before .before .p .given .1) (c .before .before .put-eight3 .ensures))
+    (λ c. let at-put-eight-arg3 = c .before .before .before in let at-p = at-put-eight-arg3 .before .before in rw (at-p .p .given .1) (c .before .before .put-eight3 .ensures))
     (λ c. search needs)
-    (λ c. rw (c .before .before .before .before .before .p2 .given .1) (c .before .before .put-eight4 .ensures)))
+    (λ c. let at-put-eight-arg4 = c .before .before .before in let at-p2 = at-put-eight-arg4 .before .before in rw (at-p2 .p2 .given .1) (c .before .before .put-eight4 .ensures)))

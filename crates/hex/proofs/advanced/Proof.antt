@@ -11,8 +11,9 @@ returns c =
 
 returns-2 : tie.Need-returns-2
 returns-2 c =
-    let a = c .before .before .before .before .before .before .args in
-    advanced-rest (a .g) (a .due) (a .count) (c .before .before .before .if1 .left)
+    let at-if1 = c .before .before .before in let at-start = at-if1 .before .before .before in
+    let a = at-start .args in
+    advanced-rest (a .g) (a .due) (a .count) (at-if1 .if1 .left)
 
 pub advanced-spec : {M : Type 1} → statement M
 advanced-spec =

@@ -15,17 +15,23 @@ scan-requires c κs =
 
 returns : tie.Need-returns
 returns c =
-    let a = c .before .before .before .before .before .before .before .before .before .before .before .before .before .before .before .before .args in
-    let p = c .before .before .before .before .before .before .before .before .before .before .before .before .before .before .before .before .pre in
-    let s = c .before .before .before .before .before .before .before .before .before .before .before .scan in
-    refused hexFormat (a .g) (a .part) (a .macros) (a .text .now) (a .image .now) (p .1) _ _ _ _ _ _ (s .ensures) (c .before .before .before .before .before .before .scanned .given .1) (s .kept .1 .1 .0) (c .refusal .ensures) (c .before .before .before .clear .ensures)
+    let at-clear = c .before .before .before in let at-scanned = at-clear .before .before .before in
+    let at-image = at-scanned .before .before .before .before in let at-scan = at-image .before in
+    let at-shared-slice-known = at-scan .before .before .before .before in let at-start = at-shared-slice-known .before in
+    let a = at-start .args in
+    let p = at-start .pre in
+    let s = at-scan .scan in
+    refused hexFormat (a .g) (a .part) (a .macros) (a .text .now) (a .image .now) (p .1) _ _ _ _ _ _ (s .ensures) (at-scanned .scanned .given .1) (s .kept .1 .1 .0) (c .refusal .ensures) (at-clear .clear .ensures)
 
 returns-2 : tie.Need-returns-2
 returns-2 c =
-    let a = c .before .before .before .before .before .before .before .before .before .before .before .before .before .before .args in
-    let p = c .before .before .before .before .before .before .before .before .before .before .before .before .before .before .pre in
-    let s = c .before .before .before .before .before .before .before .before .before .scan in
-    let t = c .before .before .settle .ensures in
+    let at-settle = c .before .before in let at-header2 = at-settle .before .before .before .before in
+    let at-scan = at-header2 .before .before .before in let at-shared-slice-known = at-scan .before .before .before .before in
+    let at-start = at-shared-slice-known .before in
+    let a = at-start .args in
+    let p = at-start .pre in
+    let s = at-scan .scan in
+    let t = at-settle .settle .ensures in
     whole hexFormat (a .g) (a .part) (a .macros) (a .text .now) (a .image .now) (p .1) _ _ _ _ _ (s .ensures) (c .before .before .before .before .enum-told .given .1) (s .kept .1 .1 .0) (t .0) (t .1)
 
 pub read-image-spec : {M : Type 1} → statement M

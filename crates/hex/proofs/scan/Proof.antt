@@ -17,62 +17,56 @@ abbrev μ-loop : tie.MeasureT-loop
 -- in each answer `t` is the place after `turn_at`, `o` that of the loop, `s` the start
 returns : tie.Need-returns Inv-loop μ-loop
 returns c =
-    let t = c .before .before .before in
-    let o = t .before .before .before in
-    let s = o .before .before .before .before .before in
+    let t = c .before .before .before in let o = t .before .before .before in let at-shared-slice-known = o .before .before .before .before in
+    let s = at-shared-slice-known .before in
     here-stop (s .args .g) (s .args .text .now) (s .args .image .now) (s .args .header .now) (s .pre) (o .loop .inv) _ _ (t .turn-at .ensures) _ (c .before .turn .given .1)
 
 returns-2 : tie.Need-returns-2 Inv-loop μ-loop
 returns-2 c =
-    let t = c .before .before in
-    let o = t .before .before .before in
-    let s = o .before .before .before .before .before in
+    let t = c .before .before in let o = t .before .before .before in let at-shared-slice-known = o .before .before .before .before in
+    let s = at-shared-slice-known .before in
     here-done (s .args .g) (s .args .text .now) (s .args .image .now) (s .args .header .now) (s .pre) (o .loop .inv) _ _ (t .turn-at .ensures) (c .enum-told .given .1)
 
 loop-less : tie.Need-loop-less Inv-loop μ-loop
 loop-less c =
-    let t = c .before .before .before in
-    let o = t .before .before .before in
-    let s = o .before .before .before .before .before in
+    let t = c .before .before .before in let o = t .before .before .before in let at-shared-slice-known = o .before .before .before .before in
+    let s = at-shared-slice-known .before in
     let m = moved-less (s .args .g) (s .args .text .now) (s .args .image .now) (s .args .header .now) (s .pre) (o .loop .inv) _ _ (t .turn-at .ensures) _ _ (c .before .turn2 .given .1) in
     omega (arith, m .0, m .1)
 
 loop-again : tie.Need-loop-again Inv-loop μ-loop
 loop-again c =
-    let t = c .before .before .before in
-    let o = t .before .before .before in
-    let s = o .before .before .before .before .before in
+    let t = c .before .before .before in let o = t .before .before .before in let at-shared-slice-known = o .before .before .before .before in
+    let s = at-shared-slice-known .before in
     here-moved (s .args .g) (s .args .text .now) (s .args .image .now) (s .args .header .now) (s .pre) (o .loop .inv) _ _ (t .turn-at .ensures) _ _ (c .before .turn2 .given .1)
 
 store-payload-requires : tie.Need-store-payload-requires Inv-loop μ-loop
 store-payload-requires c κs =
-    let o = c .before .before .before .before .before .before .before .before .before in
-    here-flash _ _ _ _ _ (o .before .before .before .before .before .pre) (o .loop .inv .there)
+    let at-turn3 = c .before .before .before .before in let at-section = at-turn3 .before .before .before .before in let o = at-section .before in
+    let at-shared-slice-known = o .before .before .before .before in let at-start = at-shared-slice-known .before in
+    here-flash _ _ _ _ _ (at-start .pre) (o .loop .inv .there)
 
 advanced-requires : tie.Need-advanced-requires Inv-loop μ-loop
 advanced-requires c κs =
-    let f = c .before .before .before .before in
-    let t = f .before .before .before .before .before .before .before in
-    let o = t .before .before .before in
-    let s = o .before .before .before .before .before in
-    store-asks (s .args .g) (s .args .text .now) (s .args .image .now) (s .args .header .now) (s .pre) (o .loop .inv) _ _ (t .turn-at .ensures) _ _ (f .before .before .before .before .before .turn3 .given .1)
+    let f = c .before .before .before .before in let at-store-payload-arg2 = f .before .before in
+    let at-turn3 = at-store-payload-arg2 .before .before .before in let t = at-turn3 .before .before in let o = t .before .before .before in
+    let at-shared-slice-known = o .before .before .before .before in let s = at-shared-slice-known .before in
+    store-asks (s .args .g) (s .args .text .now) (s .args .image .now) (s .args .header .now) (s .pre) (o .loop .inv) _ _ (t .turn-at .ensures) _ _ (at-turn3 .turn3 .given .1)
 
 loop-less-2 : tie.Need-loop-less-2 Inv-loop μ-loop
 loop-less-2 c =
-    let f = c .before .before .before .before .before in
-    let t = f .before .before .before .before .before .before .before in
-    let o = t .before .before .before in
-    let s = o .before .before .before .before .before in
-    let m = store-bounds (s .args .g) (s .args .text .now) (s .args .image .now) (s .args .header .now) (s .pre) (o .loop .inv) _ _ (t .turn-at .ensures) _ _ (f .before .before .before .before .before .turn3 .given .1) in
+    let at-image = c .before .before .before .before in let f = at-image .before in let at-store-payload-arg2 = f .before .before in
+    let at-turn3 = at-store-payload-arg2 .before .before .before in let t = at-turn3 .before .before in let o = t .before .before .before in
+    let at-shared-slice-known = o .before .before .before .before in let s = at-shared-slice-known .before in
+    let m = store-bounds (s .args .g) (s .args .text .now) (s .args .image .now) (s .args .header .now) (s .pre) (o .loop .inv) _ _ (t .turn-at .ensures) _ _ (at-turn3 .turn3 .given .1) in
     omega (arith, m .0, m .1)
 
 loop-again-2 : tie.Need-loop-again-2 Inv-loop μ-loop
 loop-again-2 c =
-    let f = c .before .before .before .before .before in
-    let t = f .before .before .before .before .before .before .before in
-    let o = t .before .before .before in
-    let s = o .before .before .before .before .before in
-    here-store (s .args .g) (s .args .text .now) (s .args .image .now) (s .args .header .now) (s .pre) (o .loop .inv) _ _ (t .turn-at .ensures) _ _ (f .before .before .before .before .before .turn3 .given .1) _ _ _ (f .store-payload .kept .1 .0) (f .store-payload .kept .1 .1 .0) (f .store-payload .ensures) (c .advanced .ensures)
+    let at-image = c .before .before .before .before in let f = at-image .before in let at-store-payload-arg2 = f .before .before in
+    let at-turn3 = at-store-payload-arg2 .before .before .before in let t = at-turn3 .before .before in let o = t .before .before .before in
+    let at-shared-slice-known = o .before .before .before .before in let s = at-shared-slice-known .before in
+    here-store (s .args .g) (s .args .text .now) (s .args .image .now) (s .args .header .now) (s .pre) (o .loop .inv) _ _ (t .turn-at .ensures) _ _ (at-turn3 .turn3 .given .1) _ _ _ (f .store-payload .kept .1 .0) (f .store-payload .kept .1 .1 .0) (f .store-payload .ensures) (c .advanced .ensures)
 
 pub scan-spec : {M : Type 1} → statement M
 scan-spec =

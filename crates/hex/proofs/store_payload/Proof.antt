@@ -9,25 +9,26 @@ use Rattle.hex.proofs.store_payload.Tie as tie
 
 slice-aggregate-fill : tie.Need-slice-aggregate-fill
 slice-aggregate-fill c =
-    sym (length-take-le _ (c .before .before .before .before .before .before .args .image .now) (omega arith))
+    let at-flash-size = c .before .before .before in let at-start = at-flash-size .before .before .before in
+    sym (length-take-le _ (at-start .args .image .now) (omega arith))
 
 returns : tie.Need-returns
 returns c =
-    let f = c .before .before .before .before .before .before .before in
+    let at-fill-arg2 = c .before .before .before in let at-enum-told = at-fill-arg2 .before .before in let f = at-enum-told .before .before in
     let a = f .before .before .before .args in
-    flash-lent (a .g) (a .image .now) (a .header .now) (a .due) (a .row .now) 4 (a .count) _ (f .flash-size .ensures .0) (omega arith) _ (c .before .before .before .before .before .enum-told .given .1) (c .before .before .fill .ensures)
+    flash-lent (a .g) (a .image .now) (a .header .now) (a .due) (a .row .now) 4 (a .count) _ (f .flash-size .ensures .0) (omega arith) _ (at-enum-told .enum-told .given .1) (c .before .before .fill .ensures)
 
 returns-2 : tie.Need-returns-2
 returns-2 c =
-    let f = c .before .before .before .before .before .before .before in
+    let at-fill-arg3 = c .before .before .before .before in let at-enum-told2 = at-fill-arg3 .before in let f = at-enum-told2 .before .before in
     let a = f .before .before .before .args in
-    protection-lent (a .g) (a .image .now) (a .header .now) (a .due) (a .row .now) 4 (a .count) _ (f .flash-size .ensures .0) (omega arith) _ (c .before .before .before .before .before .enum-told2 .given .1) (c .before .before .fill2 .ensures)
+    protection-lent (a .g) (a .image .now) (a .header .now) (a .due) (a .row .now) 4 (a .count) _ (f .flash-size .ensures .0) (omega arith) _ (at-enum-told2 .enum-told2 .given .1) (c .before .before .fill2 .ensures)
 
 returns-3 : tie.Need-returns-3
 returns-3 c =
-    let f = c .before .before .before .before .before .before .before in
+    let at-fill-arg5 = c .before .before .before .before in let at-enum-told3 = at-fill-arg5 .before in let f = at-enum-told3 .before .before in
     let a = f .before .before .before .args in
-    header-lent (a .g) (a .image .now) (a .header .now) (a .due) (a .row .now) 4 (a .count) _ (f .flash-size .ensures .0) (omega arith) _ (c .before .before .before .before .before .enum-told3 .given .1) (c .before .before .fill3 .ensures)
+    header-lent (a .g) (a .image .now) (a .header .now) (a .due) (a .row .now) 4 (a .count) _ (f .flash-size .ensures .0) (omega arith) _ (at-enum-told3 .enum-told3 .given .1) (c .before .before .fill3 .ensures)
 
 pub store-payload-spec : {M : Type 1} → statement M
 store-payload-spec =

@@ -23,4 +23,4 @@ put-data-spec =
     (λ c. search needs)
     (λ c κs. search needs)
     (λ c. search needs)
-    (λ c. c .before .before .put-line .ensures ∙ data-room _ _ _ _ (c .before .before .before .before .before .before .if1 .left) (omega arith)))
+    (λ c. let at-if3 = c .before .before .before .before in let at-if1 = at-if3 .before .before in c .before .before .put-line .ensures ∙ data-room _ _ _ _ (at-if1 .if1 .left) (omega arith)))

@@ -17,7 +17,8 @@ abbrev μ-loop : tie.MeasureT-loop
 
 loop-again : tie.Need-loop-again Inv-loop μ-loop
 loop-again c =
-    let l = c .before .before .before .before .before .before .loop in
+    let at-table = c .before .before .before in let at-loop = at-table .before .before .before in
+    let l = at-loop .loop in
     let b = c .before .before .before .before .shared-slice-known2 .given (l .i) in
     turn (l .inv) _ _ (omega arith) (omega arith) (c .before .before .capital .ensures) (c .capital2 .ensures)
 
@@ -41,8 +42,8 @@ put-pairs-spec =
     (λ c κs. (refl, omega arith))
     (λ c. omega arith)
     (λ c. simp length-set (omega arith))
-    (λ c. omega (arith, c .before .before .before .before .shared-slice-known2 .given (c .before .before .before .before .before .before .loop .i)))
-    (λ c. omega (arith, c .before .before .before .before .shared-slice-known2 .given (c .before .before .before .before .before .before .loop .i)))
+    (λ c. let at-table = c .before .before .before in let at-loop = at-table .before .before .before in omega (arith, c .before .before .before .before .shared-slice-known2 .given (at-loop .loop .i)))
+    (λ c. let at-table = c .before .before .before in let at-loop = at-table .before .before .before in omega (arith, c .before .before .before .before .shared-slice-known2 .given (at-loop .loop .i)))
     (λ c. omega arith)
     (λ c. omega arith)
     (λ c. omega arith)

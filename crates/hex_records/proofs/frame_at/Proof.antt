@@ -12,43 +12,54 @@ use Rattle.hex_records.proofs.frame_at.Tie as tie
 
 returns-2 : tie.Need-returns-2
 returns-2 c =
-    let a = c .before .before .before .before .before .before .before .before .before .args in
-    let r = c .before .before .before .spell .ensures .0 in
+    let at-spell = c .before .before .before in let at-if1 = at-spell .before .before in let at-start = at-if1 .before .before .before .before in
+    let a = at-start .args in
+    let r = at-spell .spell .ensures .0 in
     bad-count (a .text .now) (a .at) (omega arith) (a .row .now) (omega arith) (sym (ap (λ (x : PairRun). x .good) r) ∙ not-true _ (c .if2 .taken))
 
 returns-3 : tie.Need-returns-3
 returns-3 c =
-    let a = c .before .before .before .before .before .before .before .before .before .before .before .before .before .before .before .args in
-    let s = c .before .before .before .before .before .before .before .before .before .spell in
+    let at-spell-arg2 = c .before .before .before .before in let at-row = at-spell-arg2 .before .before .before .before in
+    let at-spell = at-row .before in let at-if1 = at-spell .before .before in let at-start = at-if1 .before .before .before .before in
+    let a = at-start .args in
+    let s = at-spell .spell in
     let r = c .before .before .before .spell2 .ensures .0 in
-    bad-run (a .text .now) (a .at) (omega arith) (a .row .now) (omega (arith, c .before .before .before .before .before .before .before .before .before .before .before .before .before .before .before .pre)) _ (s .ensures .1) (sym (ap (λ (x : PairRun). x .good) r) ∙ not-true _ (c .if3 .taken))
+    bad-run (a .text .now) (a .at) (omega arith) (a .row .now) (omega (arith, at-start .pre)) _ (s .ensures .1) (sym (ap (λ (x : PairRun). x .good) r) ∙ not-true _ (c .if3 .taken))
 
 add-end-2 : tie.Need-add-end-2
 add-end-2 c =
-    let a = c .before .before .before .before .before .before .before .before .before .before .before .before .before .before .before .args in
+    let at-spell-arg2 = c .before .before .before .before in let at-row = at-spell-arg2 .before .before .before .before in
+    let at-if1 = at-row .before .before .before in let at-start = at-if1 .before .before .before .before in
+    let a = at-start .args in
     let r = c .before .before .before .spell2 .ensures .0 in
     let w = good-run (a .text .now) (a .at + 1) _ _ (sym (ap (λ (x : PairRun). x .good) r) ∙ not-false _ (c .if3 .left)) in
-    omega (arith, w .within, c .before .before .before .before .before .before .before .before .before .before .before .before .before .before .before .fits)
+    omega (arith, w .within, at-start .fits)
 
 returns-4 : tie.Need-returns-4
 returns-4 c =
-    let a = c .before .before .before .before .before .before .before .before .before .before .before .before .before .before .before .before .before .args in
-    let s = c .before .before .before .before .before .before .before .before .before .before .before .spell in
-    bad-end (a .text .now) (a .at) (omega arith) (a .row .now) (omega (arith, c .before .before .before .before .before .before .before .before .before .before .before .before .before .before .before .before .before .pre)) _ (s .ensures .1) (sym (c .before .line-end .ensures) ∙ c .if4 .taken)
+    let at-row2 = c .before .before .before .before in let at-if2 = at-row2 .before .before .before .before in
+    let at-spell = at-if2 .before .before .before in let at-if1 = at-spell .before .before in let at-start = at-if1 .before .before .before .before in
+    let a = at-start .args in
+    let s = at-spell .spell in
+    bad-end (a .text .now) (a .at) (omega arith) (a .row .now) (omega (arith, at-start .pre)) _ (s .ensures .1) (sym (c .before .line-end .ensures) ∙ c .if4 .taken)
 
 add-t17 : tie.Need-add-t17
 add-t17 c =
-    let a = c .before .before .before .before .before .before .before .before .before .before .before .before .before .before .before .before .before .args in
+    let at-row2 = c .before .before .before .before in let at-if2 = at-row2 .before .before .before .before in
+    let at-spell = at-if2 .before .before .before in let at-if1 = at-spell .before .before in let at-start = at-if1 .before .before .before .before in
+    let a = at-start .args in
     omega (arith, end-inside (a .text .now) _ _ (c .before .line-end .ensures) (c .if4 .left))
 
 returns-5 : tie.Need-returns-5
 returns-5 c =
-    let a = c .before .before .before .before .before .before .before .before .before .before .before .before .before .before .before .before .before .args in
-    let s = c .before .before .before .before .before .before .before .before .before .before .before .spell in
-    let t = c .before .before .before .before .before .spell2 in
-    let g = sym (ap (λ (x : PairRun). x .good) (s .ensures .0)) ∙ not-false _ (c .before .before .before .before .before .before .before .before .if2 .left) in
+    let at-row2 = c .before .before .before .before in let at-spell2 = at-row2 .before in let at-if2 = at-spell2 .before .before .before in
+    let at-spell = at-if2 .before .before .before in let at-if1 = at-spell .before .before in let at-start = at-if1 .before .before .before .before in
+    let a = at-start .args in
+    let s = at-spell .spell in
+    let t = at-spell2 .spell2 in
+    let g = sym (ap (λ (x : PairRun). x .good) (s .ensures .0)) ∙ not-false _ (at-if2 .if2 .left) in
     let h = sym (ap (λ (x : PairRun). x .good) (t .ensures .0)) ∙ not-false _ (c .before .before .if3 .left) in
-    framed (a .text .now) (a .at) _ (a .row .now) _ _ (omega (arith, c .before .before .before .before .before .before .before .before .before .before .before .before .before .before .before .before .before .pre)) (s .ensures .1) refl (t .ensures .1) g h _ _ (c .before .before .before .before .before .before .before .before .before .before .before .before .before .if1 .left) (ap (λ (x : PairRun). x .sum) (t .ensures .0)) (c .before .line-end .ensures) (c .if4 .left)
+    framed (a .text .now) (a .at) _ (a .row .now) _ _ (omega (arith, at-start .pre)) (s .ensures .1) refl (t .ensures .1) g h _ _ (at-if1 .if1 .left) (ap (λ (x : PairRun). x .sum) (t .ensures .0)) (c .before .line-end .ensures) (c .if4 .left)
 
 pub frame-at-spec : {M : Type 1} → statement M
 frame-at-spec =
@@ -68,7 +79,7 @@ frame-at-spec =
     (λ c. search needs)
     returns-3
     (λ c. search needs)
-    (λ c. omega (arith, c .before .before .before .before .before .slice-known3 .given 0))
+    (λ c. let at-spell-arg2 = c .before .before .before .before in let at-slice-known3 = at-spell-arg2 .before in omega (arith, at-slice-known3 .slice-known3 .given 0))
     add-end-2
     (λ c κs. search needs)
     (λ c. search needs)

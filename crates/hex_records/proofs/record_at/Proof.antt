@@ -19,9 +19,9 @@ returns-3 c =
 
 returns-4 : tie.Need-returns-4
 returns-4 c =
-    let f = c .before .before .before .before .before .before .before in
+    let at-if2 = c .before .before .before in let at-frame = at-if2 .before .before in let f = at-frame .before .before in
     let a = f .before .before .before .before .args in
-    frame-found (a .text .now) (a .at) _ _ (f .frame-at .ensures) _ _ _ (c .before .before .before .before .before .frame .given .1) (omega arith) _ (c .typed-in .ensures) (c .before .before .before .if2 .left)
+    frame-found (a .text .now) (a .at) _ _ (f .frame-at .ensures) _ _ _ (at-frame .frame .given .1) (omega arith) _ (c .typed-in .ensures) (at-if2 .if2 .left)
 
 pub record-at-spec : {M : Type 1} → statement M
 record-at-spec =

@@ -23,7 +23,9 @@ typed-in-spec =
     (λ c. search needs)
     (λ c κs. search needs)
     (λ c. search needs)
-    (λ c. Types.found-extended _ _ _ _ _ (omega arith) _ (omega arith) (c .before .before .before .before .before .before .match .keys3) (c .before .before .before .before .before .if4 .taken) (c .before .before .before .before .if5 .taken))
+    (λ c.
+    let at-if5 = c .before .before .before .before in let at-if4 = at-if5 .before in let at-match = at-if4 .before in
+    Types.found-extended _ _ _ _ _ (omega arith) _ (omega arith) (at-match .match .keys3) (at-if4 .if4 .taken) (at-if5 .if5 .taken))
     (λ c. Types.found-data _ _ _ _ _ (omega arith) (c .before .match .keys1) (c .if1 .taken))
     (λ c. Types.found-empty _ _ _ _ (c .before .match .keys1) (c .if1 .left))
     (λ c. Types.found-end-low _ _ _ _ _ (omega arith) (c .before .before .match .keys2) (c .before .if2 .taken) (c .if3 .left))

@@ -29,8 +29,7 @@ put-part-requires-2 c κs =
 
 put-part-requires-3 : tie.Need-put-part-requires-3
 put-part-requires-3 c κs =
-    let e = c .before .before .before in
-    let s = e .before .before .before .before .before in
+    let e = c .before .before .before in let at-flash-size = e .before .before in let s = at-flash-size .before .before .before in
     located-asks _ _ (in-header (s .args .g) (s .args .bytes .now) _ (s .args .h) (s .args .s) (e .enum-told3 .given .1) (c .before .before .header-sections .ensures)) (s .args .s) (s .args .text .now) (s .args .position) (s .pre .0 .1) (s .pre .1)
 
 returns : tie.Need-returns
@@ -51,9 +50,8 @@ returns-2 c =
 
 returns-3 : tie.Need-returns-3
 returns-3 c =
-    let p = c .before .before in
-    let e = p .before .before .before .before in
-    let s = e .before .before .before .before .before in
+    let p = c .before .before in let e = p .before .before .before .before in let at-flash-size = e .before .before in
+    let s = at-flash-size .before .before .before in
     located-put _ _ (in-header (s .args .g) (s .args .bytes .now) _ (s .args .h) (s .args .s) (e .enum-told3 .given .1) (p .before .before .before .header-sections .ensures)) (s .args .s) (s .args .text .now) (s .args .position) _ _ (p .put-part3 .ensures)
 
 pub put-located-spec : {M : Type 1} → statement M

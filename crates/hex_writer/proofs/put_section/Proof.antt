@@ -16,9 +16,11 @@ put-piece-requires c κs =
 
 loop-again : tie.Need-loop-again Inv-loop μ-loop
 loop-again c =
-    let l = c .before .before .before .before .before .before .before .loop in
+    let at-put-piece-arg2 = c .before .before .before in let at-piece-end = at-put-piece-arg2 .before .before in
+    let at-loop-test = at-piece-end .before in let at-loop = at-loop-test .before in
+    let l = at-loop .loop in
     let p = c .before .before .put-piece in
-    turn (l .inv) (c .before .before .before .before .before .before .loop-test .taken) _ (c .before .before .before .before .before .piece-end .ensures) _ _ (p .ensures .0) (p .ensures .1)
+    turn (l .inv) (at-loop-test .loop-test .taken) _ (at-piece-end .piece-end .ensures) _ _ (p .ensures .0) (p .ensures .1)
 
 returns : tie.Need-returns Inv-loop μ-loop
 returns c = ended (c .before .loop .inv) (omega arith)

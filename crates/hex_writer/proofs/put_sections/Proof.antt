@@ -14,8 +14,9 @@ abbrev μ-loop : tie.MeasureT-loop
 
 loop-again : tie.Need-loop-again Inv-loop μ-loop
 loop-again c =
+    let at-section-at = c .before .before .before .before in let at-loop-test = at-section-at .before in let at-loop = at-loop-test .before in
     let p = c .before .before .put-located in
-    turn (c .before .before .before .before .before .before .loop .inv) (c .before .before .before .before .before .loop-test .taken) _ (c .before .before .before .before .section-at .ensures) _ _ (p .ensures .0) (p .ensures .1)
+    turn (at-loop .loop .inv) (at-loop-test .loop-test .taken) _ (at-section-at .section-at .ensures) _ _ (p .ensures .0) (p .ensures .1)
 
 pub put-sections-spec : {M : Type 1} → statement M
 put-sections-spec =

@@ -7,13 +7,13 @@ use Rattle.hex_writer.proofs.put_upper.Tie as tie
 
 add-result : tie.Need-add-result
 add-result c =
-    let s = c .before .before .before .before .before .before .before in
-    omega (arith, s .good, upper-room (s .args .text .now) (s .args .position) (s .args .upper) (c .before .before .before .before .if1 .left) (s .pre .1))
+    let at-if1 = c .before .before .before .before in let s = at-if1 .before .before .before in
+    omega (arith, s .good, upper-room (s .args .text .now) (s .args .position) (s .args .upper) (at-if1 .if1 .left) (s .pre .1))
 
 returns-2 : tie.Need-returns-2
 returns-2 c =
-    let s = c .before .before .before .before .before .before .before in
-    upper-put (s .args .text .now) (s .args .position) (s .args .upper) (c .before .before .before .before .if1 .left) _ (s .pre .1) (c .before .before .put-extended .ensures)
+    let at-if1 = c .before .before .before .before in let s = at-if1 .before .before .before in
+    upper-put (s .args .text .now) (s .args .position) (s .args .upper) (at-if1 .if1 .left) _ (s .pre .1) (c .before .before .put-extended .ensures)
 
 pub put-upper-spec : {M : Type 1} → statement M
 put-upper-spec =

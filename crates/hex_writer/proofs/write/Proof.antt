@@ -11,8 +11,9 @@ write-found-requires c κs = sym (c .before .before .before .before .find .ensur
 
 returns : tie.Need-returns
 returns c =
-    let a = c .before .before .before .before .before .before .before .args in
-    let u = unknown hexFormat (a .header) (a .bytes .now) (a .text .now) _ (sym (c .before .before .before .before .find .ensures) ∙ c .before .before .found .given .1) in
+    let at-find = c .before .before .before .before in let at-start = at-find .before .before .before in
+    let a = at-start .args in
+    let u = unknown hexFormat (a .header) (a .bytes .now) (a .text .now) _ (sym (at-find .find .ensures) ∙ c .before .before .found .given .1) in
     (c .refusal .ensures ∙ u .0, u .1)
 
 pub write-spec : {M : Type 1} → statement M

@@ -13,8 +13,8 @@ use Rattle.hex_writer.proofs.write_found.Tie as tie
 
 returns : tie.Need-returns
 returns c =
-    let s = c .before .before .before .before .before in
-    let u = wrong-size hexFormat (s .args .h) (s .args .bytes .now) (s .args .text .now) (s .args .g) (s .pre) (λ e. c .before .if1 .taken (e ∙ sym (c .before .before .image-size .ensures))) in
+    let at-image-size = c .before .before in let s = at-image-size .before .before .before in
+    let u = wrong-size hexFormat (s .args .h) (s .args .bytes .now) (s .args .text .now) (s .args .g) (s .pre) (λ e. c .before .if1 .taken (e ∙ sym (at-image-size .image-size .ensures))) in
     (c .refusal .ensures ∙ u .0, u .1)
 
 returns-2 : tie.Need-returns-2
@@ -26,36 +26,34 @@ returns-2 c =
 
 returns-3 : tie.Need-returns-3
 returns-3 c =
-    let b = c .before .before .before .before .before in
-    let s = b .before .before .before .before in
-    let u = faulty hexFormat (s .args .h) (s .args .bytes .now) (s .args .text .now) (s .args .g) (s .pre) (b .if1 .left ∙ b .before .image-size .ensures) (omega (arith, c .before .before .before .if2 .left, c .before .before .before .before .text-length .ensures)) _ (c .before .before .check .ensures) (c .before .if3 .taken) in
+    let at-text-length = c .before .before .before .before in let b = at-text-length .before in let s = b .before .before .before .before in
+    let u = faulty hexFormat (s .args .h) (s .args .bytes .now) (s .args .text .now) (s .args .g) (s .pre) (b .if1 .left ∙ b .before .image-size .ensures) (omega (arith, c .before .before .before .if2 .left, at-text-length .text-length .ensures)) _ (c .before .before .check .ensures) (c .before .if3 .taken) in
     (c .refusal3 .ensures ∙ u .0, u .1)
 
 put-text-requires : tie.Need-put-text-requires
 put-text-requires c κs =
-    let b = c .before .before .before .before .before in
-    let s = b .before .before .before .before in
+    let at-text-length = c .before .before .before .before in let b = at-text-length .before in let s = b .before .before .before .before in
     let z : Sized (s .args .g) (s .args .h) (s .args .bytes .now) = record {
       sizes = sized (s .args .h .part) (s .args .h .macros) (s .args .g) (s .pre);
       metadata = length-unmapped ℕ (s .args .h .metadata) 12 (s .good .1 .1 .0 .1 .1 .1 .1 .1 .0 .1 .0 .1);
       exact = b .if1 .left ∙ b .before .image-size .ensures;
     } in
-    (z, omega (arith, text-length z, c .before .before .before .if2 .left, c .before .before .before .before .text-length .ensures))
+    (z, omega (arith, text-length z, c .before .before .before .if2 .left, at-text-length .text-length .ensures))
 
 returns-4 : tie.Need-returns-4
 returns-4 c =
-    let b = c .before .before .before .before .before .before .before .before in
-    let s = b .before .before .before .before in
-    let n = c .before .before .before .before .before .before .before .text-length .ensures in
+    let at-if3 = c .before .before .before .before in let at-check = at-if3 .before in let at-if2 = at-check .before in
+    let at-text-length = at-if2 .before in let b = at-text-length .before in let s = b .before .before .before .before in
+    let n = at-text-length .text-length .ensures in
     let z : Sized (s .args .g) (s .args .h) (s .args .bytes .now) = record {
       sizes = sized (s .args .h .part) (s .args .h .macros) (s .args .g) (s .pre);
       metadata = length-unmapped ℕ (s .args .h .metadata) 12 (s .good .1 .1 .0 .1 .1 .1 .1 .1 .0 .1 .0 .1);
       exact = b .if1 .left ∙ b .before .image-size .ensures;
     } in
-    done hexFormat (s .args .h) (s .args .bytes .now) (s .args .text .now) (s .args .g) (s .pre) (z .exact) (omega (arith, c .before .before .before .before .before .before .if2 .left, n)) _ _
-    (sym (c .before .before .before .before .before .check .ensures) ∙ c .before .before .before .before .if3 .left)
+    done hexFormat (s .args .h) (s .args .bytes .now) (s .args .text .now) (s .args .g) (s .pre) (z .exact) (omega (arith, at-if2 .if2 .left, n)) _ _
+    (sym (at-check .check .ensures) ∙ at-if3 .if3 .left)
     (n ∙ sym (text-length z))
-    (omega (arith, text-length z, n, c .before .before .before .before .before .before .if2 .left))
+    (omega (arith, text-length z, n, at-if2 .if2 .left))
     (c .before .before .put-text .ensures)
 
 pub write-found-spec : {M : Type 1} → statement M

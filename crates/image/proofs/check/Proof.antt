@@ -11,8 +11,9 @@ use Rattle.image.proofs.check.Tie as tie
 
 returns : tie.Need-returns
 returns c =
-    let a = c .before .before .before .before .before .args in
-    sym (looked (a .h) (a .bytes .now) (sym (c .before .before .before .find .ensures) ∙ c .before .found .given .1))
+    let at-find = c .before .before .before in let at-start = at-find .before .before in
+    let a = at-start .args in
+    sym (looked (a .h) (a .bytes .now) (sym (at-find .find .ensures) ∙ c .before .found .given .1))
 
 returns-2 : tie.Need-returns-2
 returns-2 c =

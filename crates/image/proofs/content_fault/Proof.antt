@@ -13,16 +13,29 @@ use Rattle.image.proofs.content_fault.Tie as tie
 abbrev checks : tie.Start → List Check
 checks s = contentChecks (s .args .g) (s .args .h) (s .args .bytes .now)
 
-after1 : (c : tie.Else1) → firstRefusal (checks (c .before .before .before)) ≡ firstRefusal (drop 1 (checks (c .before .before .before)))
+-- what is tested, from each place
+abbrev tested1 : tie.Else1 → List Check
+tested1 c = checks (c .before .before .before)
+
+abbrev tested2 : tie.Else2 → List Check
+tested2 c = tested1 (c .before .before)
+
+abbrev tested3 : tie.Else3 → List Check
+tested3 c = tested2 (c .before .before)
+
+abbrev tested4 : tie.Else4 → List Check
+tested4 c = tested3 (c .before .before)
+
+after1 : (c : tie.Else1) → firstRefusal (tested1 c) ≡ firstRefusal (drop 1 (tested1 c))
 after1 c = passed _ _ (sym (c .before .version-fits .ensures) ∙ not-false _ (c .if1 .left))
 
-after2 : (c : tie.Else2) → firstRefusal (checks (c .before .before .before .before .before)) ≡ firstRefusal (drop 2 (checks (c .before .before .before .before .before)))
+after2 : (c : tie.Else2) → firstRefusal (tested2 c) ≡ firstRefusal (drop 2 (tested2 c))
 after2 c = after1 (c .before .before) ∙ passed _ _ (sym (c .before .id-fits .ensures) ∙ not-false _ (c .if2 .left))
 
-after3 : (c : tie.Else3) → firstRefusal (checks (c .before .before .before .before .before .before .before)) ≡ firstRefusal (drop 3 (checks (c .before .before .before .before .before .before .before)))
+after3 : (c : tie.Else3) → firstRefusal (tested3 c) ≡ firstRefusal (drop 3 (tested3 c))
 after3 c = after2 (c .before .before) ∙ passed _ _ (sym (c .before .level-fits .ensures) ∙ not-false _ (c .if3 .left))
 
-after4 : (c : tie.Else4) → firstRefusal (checks (c .before .before .before .before .before .before .before .before .before)) ≡ firstRefusal (drop 4 (checks (c .before .before .before .before .before .before .before .before .before)))
+after4 : (c : tie.Else4) → firstRefusal (tested4 c) ≡ firstRefusal (drop 4 (tested4 c))
 after4 c = after3 (c .before .before) ∙ passed _ _ (sym (c .before .sum-fits .ensures) ∙ not-false _ (c .if4 .left))
 
 pub content-fault-spec : {M : Type 1} → statement M

@@ -15,8 +15,12 @@ on-okay-spec =
     (λ c κs. search needs)
     (λ c κs. search needs)
     (λ c κs. search needs)
-    (λ c. simp (← c .before .before .before .before .before .is-read .ensures, c .before .before .before .before .if1 .taken, eq-eqb _ _ (c .before .if2 .taken ∙ c .before .before .before .parity-of .ensures), c .on-word .ensures, c .before .before .before .before .before .before .settle .ensures))
+    (λ c.
+    let at-if1 = c .before .before .before .before in let at-is-read = at-if1 .before in let at-settle = at-is-read .before in
+    simp (← at-is-read .is-read .ensures, at-if1 .if1 .taken, eq-eqb _ _ (c .before .if2 .taken ∙ c .before .before .before .parity-of .ensures), c .on-word .ensures, at-settle .settle .ensures))
     (λ c κs. search needs)
-    (λ c. simp (← c .before .before .before .before .before .is-read .ensures, c .before .before .before .before .if1 .taken, ne-eqb _ _ (λ e. c .before .if2 .left (e ∙ sym (c .before .before .before .parity-of .ensures))), c .on-broken .ensures))
+    (λ c.
+    let at-if1 = c .before .before .before .before in let at-is-read = at-if1 .before in
+    simp (← at-is-read .is-read .ensures, at-if1 .if1 .taken, ne-eqb _ _ (λ e. c .before .if2 .left (e ∙ sym (c .before .before .before .parity-of .ensures))), c .on-broken .ensures))
     (λ c κs. search needs)
     (λ c. simp (← c .before .before .is-read .ensures, c .before .if1 .left, c .on-word2 .ensures, c .before .before .before .settle .ensures)))

@@ -40,7 +40,8 @@ latch-move-spec =
     (simp (c .if3 .taken)))
     (λ c κs. search needs)
     (λ c.
-    let a = c .before .before .before .before .before .args in
+    let at-if1 = c .before .before .before in let at-start = at-if1 .before .before in
+    let a = at-start .args in
     let o : _≡_ {A = ℕ} (a .j % 2) 1 = omega arith in
     λ g e.
     rw (in-reach (a .sysreq) _ (c .before .before .if2 .left), listed-word g (a .step) 4 (latchList (a .m) (told (now (a .bytes))) (now (a .bytes)) 0) (a .j) (omega (arith, length-words (now (a .bytes)) 0 (told (now (a .bytes)) / 4))))

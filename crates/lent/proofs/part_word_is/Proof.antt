@@ -27,7 +27,7 @@ part-word-is-spec =
     (λ c. search needs)
     (λ c κs. search needs)
     (λ c.
-    let s = c .before .before .before .before .before in
+    let at-if1 = c .before .before .before in let s = at-if1 .before .before in
     c .word-is2 .ensures
     ∙ ap (λ (l : List ℕ). sameWord l (s .args .at) (s .args .word)) (part-rest (now (s .args .bytes)) (s .args .from) (s .args .n) (c .before .before .if2 .taken)))
     (λ c. search needs)
@@ -36,6 +36,6 @@ part-word-is-spec =
     (λ c. search needs)
     (λ c κs. search needs)
     (λ c.
-    let s = c .before .before .before .before .before in
+    let at-if1 = c .before .before .before in let s = at-if1 .before .before in
     c .word-is3 .ensures
     ∙ ap (λ (l : List ℕ). sameWord l (s .args .at) (s .args .word)) (part-inside (now (s .args .bytes)) (s .args .from) (s .args .n))))

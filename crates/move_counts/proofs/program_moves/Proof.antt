@@ -10,8 +10,11 @@ use Rattle.move_counts.proofs.program_moves.Statement.{statement}
 use Rattle.move_counts.proofs.program_moves.Tie as tie
 
 module _ (c : tie.After-locks-in) where
+  abbrev at-rows : tie.After-rows
+  at-rows = c .before .before .before
+
   abbrev at-start : tie.Start
-  at-start = c .before .before .before .before .before
+  at-start = at-rows .before .before
 
   first : c .before .before .before .rows .result * (26 + 5 * (at-start .args .g .part .«row_bytes» / 4)) ≤ 351933934000000
   first =

@@ -14,8 +14,11 @@ rows c = rw (c .before .before .rows .ensures, c .row-moves .ensures .0) (rows-s
 words : (c : tie.After-row-moves) → c .before .before .rows .result * (c .before .before .before .before .args .g .part .«row_bytes» / 4 * 3) ≤ 50331648
 words c = rw (c .before .before .rows .ensures) (words-small (c .before .before .before .before .args .g) (c .before .before .before .before .pre))
 
-macros : (c : tie.After-macro-moves) → macrosOf (c .before .before .before .before .before .before .args .g) * c .macro-moves .result ≤ 10624
-macros c = rw (c .macro-moves .ensures .0) (macros-small (c .before .before .before .before .before .before .args .g) (c .before .before .before .before .before .before .pre))
+abbrev start-of : tie.After-row-moves → tie.Start
+start-of c = c .before .before .before .before
+
+macros : (c : tie.After-macro-moves) → macrosOf (start-of (c .before .before) .args .g) * c .macro-moves .result ≤ 10624
+macros c = rw (c .macro-moves .ensures .0) (macros-small (start-of (c .before .before) .args .g) (start-of (c .before .before) .pre))
 
 pub ends-of-spec : {M : Type 1} → statement M
 ends-of-spec =
@@ -34,8 +37,8 @@ ends-of-spec =
     (λ c. omega (arith, macros c))
     (λ c. omega (arith, rows (c .before .before), words (c .before .before), macros c))
     (λ c.
-    let s = c .before .before .before .before .before .before in
-    let r = c .before .before .before .before .rows .ensures in
+    let at-rows = c .before .before .before .before in let s = at-rows .before .before in
+    let r = at-rows .rows .ensures in
     record {
       rows = ap (λ (x : ℕ). 13 + x * c .before .before .row-moves .result) r ∙ ap (λ (x : ℕ). 13 + rowsOf (s .args .g) * x) (c .before .before .row-moves .ensures .0);
       words = rw r;

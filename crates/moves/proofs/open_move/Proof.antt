@@ -14,6 +14,8 @@ open-move-spec =
     (tie.spec
     (λ c κs. search needs)
     (λ c κs. search needs)
-    (λ c. let s = c .before .before .before .before .before in (rw (c .before .key-of .ensures) at (c .one-move .ensures (s .args .g) refl)) ∙ in-reach _ _ (s .pre .0 .sysreq) ∙ sym (open-call (imageOf (s .args .g) (s .args .h) (now (s .args .bytes))) (s .args .j) (c .before .before .if1 .taken)))
+    (λ c.
+    let at-if1 = c .before .before in let s = at-if1 .before .before .before in
+    (rw (c .before .key-of .ensures) at (c .one-move .ensures (s .args .g) refl)) ∙ in-reach _ _ (s .pre .0 .sysreq) ∙ sym (open-call (imageOf (s .args .g) (s .args .h) (now (s .args .bytes))) (s .args .j) (at-if1 .if1 .taken)))
     (λ c κs. search needs)
     (λ c. let s = c .before .before .before .before in c .program-move .ensures ∙ sym (open-rest (imageOf (s .args .g) (s .args .h) (now (s .args .bytes))) (s .args .j) (c .before .if1 .left))))

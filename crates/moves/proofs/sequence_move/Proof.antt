@@ -20,5 +20,9 @@ sequence-move-spec =
     (λ c κs. search needs)
     (λ c. search needs)
     (λ c κs. search needs)
-    (λ c. let s = c .before .before .before .before .before .before in rw (c .before .enum-told .given .1) (c .open-move .ensures ∙ sym (sequence-rest (imageOf (s .args .g) (s .args .h) (now (s .args .bytes))) (s .args .j) FromOpen _ (c .before .before .before .before .opening-moves .ensures .0) (c .before .before .before .if1 .left))))
-    (λ c. let s = c .before .before .before .before .before .before in rw (c .before .enum-told2 .given .1) (c .reopen-move .ensures ∙ sym (sequence-rest (imageOf (s .args .g) (s .args .h) (now (s .args .bytes))) (s .args .j) FromProtected _ (c .before .before .before .before .opening-moves .ensures .0) (c .before .before .before .if1 .left)))))
+    (λ c.
+    let at-opening-moves = c .before .before .before .before in let s = at-opening-moves .before .before in
+    rw (c .before .enum-told .given .1) (c .open-move .ensures ∙ sym (sequence-rest (imageOf (s .args .g) (s .args .h) (now (s .args .bytes))) (s .args .j) FromOpen _ (at-opening-moves .opening-moves .ensures .0) (c .before .before .before .if1 .left))))
+    (λ c.
+    let at-opening-moves = c .before .before .before .before in let s = at-opening-moves .before .before in
+    rw (c .before .enum-told2 .given .1) (c .reopen-move .ensures ∙ sym (sequence-rest (imageOf (s .args .g) (s .args .h) (now (s .args .bytes))) (s .args .j) FromProtected _ (at-opening-moves .opening-moves .ensures .0) (c .before .before .before .if1 .left)))))

@@ -15,20 +15,23 @@ abbrev μ-loop : tie.MeasureT-loop
 
 returns : tie.Need-returns Inv-loop μ-loop
 returns c =
-    let l = c .before .before .before .before .before .before .before .before .loop in
-    let nil = front-high _ (l .q) (l .left) _ _ (omega arith) (l .inv .inside) (c .before .before .before .before .digit .ensures) (c .before .digit2 .ensures) (c .if1 .taken) in
+    let at-digit = c .before .before .before .before in let at-loop = at-digit .before .before .before .before in
+    let l = at-loop .loop in
+    let nil = front-high _ (l .q) (l .left) _ _ (omega arith) (l .inv .inside) (at-digit .digit .ensures) (c .before .digit2 .ensures) (c .if1 .taken) in
     (stops (l .inv) nil (omega arith), row-then (l .inv) nil)
 
 returns-2 : tie.Need-returns-2 Inv-loop μ-loop
 returns-2 c =
-    let l = c .before .before .before .before .before .before .before .before .before .loop in
-    let nil = front-low _ (l .q) (l .left) _ _ (omega arith) (l .inv .inside) (c .before .before .before .before .before .digit .ensures) (c .before .before .digit2 .ensures) (c .before .if1 .left) (c .if2 .taken) in
+    let at-table2 = c .before .before .before .before in let at-digit = at-table2 .before in let at-loop = at-digit .before .before .before .before in
+    let l = at-loop .loop in
+    let nil = front-low _ (l .q) (l .left) _ _ (omega arith) (l .inv .inside) (at-digit .digit .ensures) (c .before .before .digit2 .ensures) (c .before .if1 .left) (c .if2 .taken) in
     (stops (l .inv) nil (omega arith), row-then (l .inv) nil)
 
 loop-again : tie.Need-loop-again Inv-loop μ-loop
 loop-again c =
-    let l = c .before .before .before .before .before .before .before .before .before .loop in
-    turn (l .inv) _ _ (c .before .before .before .before .before .digit .ensures) (c .before .before .digit2 .ensures) (omega arith) (c .before .if1 .left) (c .if2 .left)
+    let at-table2 = c .before .before .before .before in let at-digit = at-table2 .before in let at-loop = at-digit .before .before .before .before in
+    let l = at-loop .loop in
+    turn (l .inv) _ _ (at-digit .digit .ensures) (c .before .before .digit2 .ensures) (omega arith) (c .before .if1 .left) (c .if2 .left)
 
 returns-3 : tie.Need-returns-3 Inv-loop μ-loop
 returns-3 c =
@@ -50,9 +53,9 @@ spell-pairs-spec =
     (λ c. omega arith)
     (λ c. omega arith)
     (λ c κs. refl)
-    (λ c. c .before .before .before .before .before .before .before .before .loop .inv .kept)
+    (λ c. let at-digit = c .before .before .before .before in let at-loop = at-digit .before .before .before .before in at-loop .loop .inv .kept)
     returns
-    (λ c. c .before .before .before .before .before .before .before .before .before .loop .inv .kept)
+    (λ c. let at-table2 = c .before .before .before .before in let at-loop-test = at-table2 .before .before .before .before in let at-loop = at-loop-test .before in at-loop .loop .inv .kept)
     returns-2
     (λ c. omega arith)
     (λ c. omega arith)

@@ -26,13 +26,15 @@ flash-word-is-spec =
     (λ c κs. search needs)
     (λ c κs. search needs)
     (λ c.
-    let a = c .before .before .before .before .before .before .args in
+    let at-flash-size = c .before .before in let at-start = at-flash-size .before .before .before .before in
+    let a = at-start .args in
     c .part-word-is .ensures
     ∙ ap (λ (l : List ℕ). sameWord (partOf l (a .row * rowBytes (a .g)) (rowBytes (a .g))) (a .at) (a .w))
-    (all-flash (now (a .bytes)) _ _ (c .before .if1 .taken) (c .before .before .flash-size .ensures .0)))
+    (all-flash (now (a .bytes)) _ _ (c .before .if1 .taken) (at-flash-size .flash-size .ensures .0)))
     (λ c. simp length-take (omega (arith, c .before .if1 .left)))
     (λ c κs. search needs)
     (λ c.
-    let a = c .before .before .before .before .before .before .before .args in
+    let at-flash-size = c .before .before .before in let at-start = at-flash-size .before .before .before .before in
+    let a = at-start .args in
     c .part-word-is2 .ensures
-    ∙ ap (λ (n : ℕ). sameWord (partOf (take n (now (a .bytes))) (a .row * rowBytes (a .g)) (rowBytes (a .g))) (a .at) (a .w)) (c .before .before .before .flash-size .ensures .0)))
+    ∙ ap (λ (n : ℕ). sameWord (partOf (take n (now (a .bytes))) (a .row * rowBytes (a .g)) (rowBytes (a .g))) (a .at) (a .w)) (at-flash-size .flash-size .ensures .0)))

@@ -17,8 +17,9 @@ on-poll-spec =
     (λ c. search needs)
     (λ c κs. search needs)
     (λ c.
-    let p = c .before .before .before .before .before .before .args .c .polls in
-    simp (c .with-polls2 .ensures, ← c .before .before .before .before .before .is-free .ensures, c .before .before .before .before .if1 .left, lt-ltb (suc p) 10000 (omega (arith, c .before .before .if2 .taken)), add-one))
+    let at-if1 = c .before .before .before .before in let at-is-free = at-if1 .before in let at-start = at-is-free .before in
+    let p = at-start .args .c .polls in
+    simp (c .with-polls2 .ensures, ← at-is-free .is-free .ensures, at-if1 .if1 .left, lt-ltb (suc p) 10000 (omega (arith, c .before .before .if2 .taken)), add-one))
     (λ c.
     let p = c .before .before .before .before .args .c .polls in
     simp (← c .before .before .before .is-free .ensures, c .before .before .if1 .left, le-ltb (suc p) 10000 (omega (arith, c .if2 .left)))))

@@ -26,9 +26,10 @@ refuse-requires-2 c κs = search needs
 
 returns : tie.Need-returns
 returns c =
+    let at-found = c .before .before .before .before in let at-find = at-found .before .before in let at-start = at-find .before .before .before in
     c .refuse2 .ensures
     ∙ sym
-    (looked-up (c .before .before .before .before .before .before .before .before .before .args .s) (c .before .before .before .before .before .before .before .before .before .args .bytes .now) (c .before .before .before .before .before .before .before .before .before .args .a) _ (sym (c .before .before .before .before .before .before .find .ensures) ∙ c .before .before .before .before .found .given .1)
+    (looked-up (at-start .args .s) (at-start .args .bytes .now) (at-start .args .a) _ (sym (at-find .find .ensures) ∙ at-found .found .given .1)
     ∙ simp (← c .before .before .possible-in .ensures, not-true (c .before .before .possible-in .result) (c .before .if1 .taken)))
 
 image-size-requires : tie.Need-image-size-requires
@@ -39,28 +40,34 @@ refuse-requires-3 c κs = search needs
 
 returns-2 : tie.Need-returns-2
 returns-2 c =
+    let at-possible-in = c .before .before .before .before in let at-found = at-possible-in .before .before in
+    let at-find = at-found .before .before in let at-start = at-find .before .before .before in
     c .refuse3 .ensures
     ∙ sym
-    (looked-up (c .before .before .before .before .before .before .before .before .before .before .before .args .s) (c .before .before .before .before .before .before .before .before .before .before .before .args .bytes .now) (c .before .before .before .before .before .before .before .before .before .before .before .args .a) _ (sym (c .before .before .before .before .before .before .before .before .find .ensures) ∙ c .before .before .before .before .before .before .found .given .1)
-    ∙ simp (← c .before .before .before .before .possible-in .ensures, not-false (c .before .before .before .before .possible-in .result) (c .before .before .before .if1 .left), ← c .before .before .image-size .ensures, ne-eqb _ _ (c .before .if2 .taken)))
+    (looked-up (at-start .args .s) (at-start .args .bytes .now) (at-start .args .a) _ (sym (at-find .find .ensures) ∙ at-found .found .given .1)
+    ∙ simp (← at-possible-in .possible-in .ensures, not-false (at-possible-in .possible-in .result) (c .before .before .before .if1 .left), ← c .before .before .image-size .ensures, ne-eqb _ _ (c .before .if2 .taken)))
 
 step-on-requires : tie.Need-step-on-requires
-step-on-requires c κs = (
-  record { found = (sym (c .before .before .before .before .before .before .before .find .ensures) ∙ c .before .before .before .before .before .found .given .1); size = c .if2 .left ∙ c .before .image-size .ensures },
-  sym (c .before .before .before .possible-in .ensures) ∙ not-false (c .before .before .before .possible-in .result) (c .before .before .if1 .left),
-)
+step-on-requires c κs =
+    let at-possible-in = c .before .before .before in let at-found = at-possible-in .before .before in let at-find = at-found .before .before in (
+      record { found = (sym (at-find .find .ensures) ∙ at-found .found .given .1); size = c .if2 .left ∙ c .before .image-size .ensures },
+      sym (at-possible-in .possible-in .ensures) ∙ not-false (at-possible-in .possible-in .result) (c .before .before .if1 .left),
+    )
 
 returns-3 : tie.Need-returns-3
 returns-3 c =
+    let at-h = c .before .before .before .before in let at-start = at-h .before .before in
     c .refuse .ensures
-    ∙ sym (looked-up (c .before .before .before .before .before .before .args .s) (c .before .before .before .before .before .before .args .bytes .now) (c .before .before .before .before .before .before .args .a) _ (sym (c .before .before .before .find .ensures) ∙ c .before .enum-told .given .1))
+    ∙ sym (looked-up (at-start .args .s) (at-start .args .bytes .now) (at-start .args .a) _ (sym (c .before .before .before .find .ensures) ∙ c .before .enum-told .given .1))
 
 returns-4 : tie.Need-returns-4
 returns-4 c =
+    let at-possible-in = c .before .before .before .before in let at-found = at-possible-in .before .before in
+    let at-find = at-found .before .before in let at-start = at-find .before .before .before in
     c .step-on .ensures
     ∙ sym
-    (looked-up (c .before .before .before .before .before .before .before .before .before .before .before .args .s) (c .before .before .before .before .before .before .before .before .before .before .before .args .bytes .now) (c .before .before .before .before .before .before .before .before .before .before .before .args .a) _ (sym (c .before .before .before .before .before .before .before .before .find .ensures) ∙ c .before .before .before .before .before .before .found .given .1)
-    ∙ simp (← c .before .before .before .before .possible-in .ensures, not-false (c .before .before .before .before .possible-in .result) (c .before .before .before .if1 .left), ← c .before .before .image-size .ensures, eq-eqb _ _ (c .before .if2 .left)))
+    (looked-up (at-start .args .s) (at-start .args .bytes .now) (at-start .args .a) _ (sym (at-find .find .ensures) ∙ at-found .found .given .1)
+    ∙ simp (← at-possible-in .possible-in .ensures, not-false (at-possible-in .possible-in .result) (c .before .before .before .if1 .left), ← c .before .before .image-size .ensures, eq-eqb _ _ (c .before .if2 .left)))
 
 pub step-spec : {M : Type 1} → statement M
 step-spec =

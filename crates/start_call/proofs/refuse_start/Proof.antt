@@ -14,5 +14,5 @@ refuse-start-spec =
     (λ c. search needs)
     (λ c. search needs)
     (λ c.
-    let clearing = c .before .before .before .before .before .before in
-    (refl, (clearing .clear .ensures ∙ zero-session (clearing .before .before .before .before .args .bytes .now), c .before .before .put-outcome .ensures))))
+    let at-put-outcome = c .before .before in let clearing = at-put-outcome .before .before .before .before in
+    (refl, (clearing .clear .ensures ∙ zero-session (clearing .before .before .before .before .args .bytes .now), at-put-outcome .put-outcome .ensures))))

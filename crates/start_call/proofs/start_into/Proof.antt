@@ -15,9 +15,10 @@ start-into-spec =
     (λ c. search needs)
     (λ c. search needs)
     (λ c.
-    let refusing = c .before .before .before .before in
-    let a = refusing .before .before .before .before .before .before .before .before .args in
-    leaves-as _ _ _ _ _ (start-partless (a .header .now) (a .image .now) (a .leave) (a .session .now) (a .outcome .now) (refusing .before .before .before .if1 .taken))
+    let refusing = c .before .before .before .before in let at-if1 = refusing .before .before .before in
+    let at-shared-slice-known = at-if1 .before .before .before .before in let at-start = at-shared-slice-known .before in
+    let a = at-start .args in
+    leaves-as _ _ _ _ _ (start-partless (a .header .now) (a .image .now) (a .leave) (a .session .now) (a .outcome .now) (at-if1 .if1 .taken))
     (refusing .refuse-start .ensures))
     (λ c κs. search needs)
     (λ c κs. search needs)
@@ -25,22 +26,24 @@ start-into-spec =
     (λ c. search needs)
     (λ c. search needs)
     (λ c.
-    let refusing = c .before .before .before .before in
-    let tested = refusing .before .before .before .before in
-    let a = tested .before .before .before .before .before .before .before .args in
-    let n : refusing .before .under-size .result ≡ elevenOr12 _ _ = refusing .before .under-size .ensures ∙ ap (λ (h : Header). elevenOr12 (h .part) (h .macros)) (tested .before .header-in .ensures ∙ header-found (a .header .now) (tested .before .before .if1 .left)) in
-    leaves-as _ _ _ _ _ (start-under-session (a .header .now) (a .image .now) (a .leave) (a .session .now) (a .outcome .now) (tested .before .before .if1 .left) (tested .if2 .taken))
+    let refusing = c .before .before .before .before in let tested = refusing .before .before .before .before in
+    let at-if1 = tested .before .before in let at-shared-slice-known = at-if1 .before .before .before .before in
+    let at-start = at-shared-slice-known .before in
+    let a = at-start .args in
+    let n : refusing .before .under-size .result ≡ elevenOr12 _ _ = refusing .before .under-size .ensures ∙ ap (λ (h : Header). elevenOr12 (h .part) (h .macros)) (tested .before .header-in .ensures ∙ header-found (a .header .now) (at-if1 .if1 .left)) in
+    leaves-as _ _ _ _ _ (start-under-session (a .header .now) (a .image .now) (a .leave) (a .session .now) (a .outcome .now) (at-if1 .if1 .left) (tested .if2 .taken))
     (rw (← n) (refusing .refuse-start2 .ensures)))
     (λ c κs. search needs)
     (λ c κs. search needs)
     (λ c. search needs)
     (λ c. search needs)
     (λ c.
-    let refusing = c .before .before .before .before in
-    let tested = refusing .before .before .before .before in
-    let a = tested .before .before .before .before .before .before .before .before .args in
-    let n : refusing .before .under-size2 .result ≡ elevenOr12 _ _ = refusing .before .under-size2 .ensures ∙ ap (λ (h : Header). elevenOr12 (h .part) (h .macros)) (tested .before .before .header-in .ensures ∙ header-found (a .header .now) (tested .before .before .before .if1 .left)) in
-    leaves-as _ _ _ _ _ (start-under-outcome (a .header .now) (a .image .now) (a .leave) (a .session .now) (a .outcome .now) (tested .before .before .before .if1 .left) (tested .before .if2 .left) (tested .if3 .taken))
+    let refusing = c .before .before .before .before in let tested = refusing .before .before .before .before in
+    let at-if1 = tested .before .before .before in let at-shared-slice-known = at-if1 .before .before .before .before in
+    let at-start = at-shared-slice-known .before in
+    let a = at-start .args in
+    let n : refusing .before .under-size2 .result ≡ elevenOr12 _ _ = refusing .before .under-size2 .ensures ∙ ap (λ (h : Header). elevenOr12 (h .part) (h .macros)) (tested .before .before .header-in .ensures ∙ header-found (a .header .now) (at-if1 .if1 .left)) in
+    leaves-as _ _ _ _ _ (start-under-outcome (a .header .now) (a .image .now) (a .leave) (a .session .now) (a .outcome .now) (at-if1 .if1 .left) (tested .before .if2 .left) (tested .if3 .taken))
     (rw (← n) (refusing .refuse-start3 .ensures)))
     (λ c κs. search needs)
     (λ c κs. search needs)
@@ -49,8 +52,8 @@ start-into-spec =
     (λ c. search needs)
     (λ c. search needs)
     (λ c.
-    let putting = c .before .before .before .before .before .before .before in
-    let starting = putting .before .before .before in
-    let tested = starting .before in
-    let a = tested .before .before .before .before .before .before .before .before .args in
-    start-done (a .header .now) (a .image .now) (a .leave) (a .session .now) (a .outcome .now) (tested .before .before .before .if1 .left) _ _ _ _ _ (tested .before .if2 .left) (tested .if3 .left) (tested .before .before .header-in .ensures ∙ header-found (a .header .now) (tested .before .before .before .if1 .left)) (starting .start .ensures) (c .number-of .ensures) (putting .put-session .ensures) (c .before .before .before .put-outcome .ensures)))
+    let at-put-outcome = c .before .before .before in let putting = at-put-outcome .before .before .before .before in
+    let starting = putting .before .before .before in let tested = starting .before in let at-if1 = tested .before .before .before in
+    let at-shared-slice-known = at-if1 .before .before .before .before in let at-start = at-shared-slice-known .before in
+    let a = at-start .args in
+    start-done (a .header .now) (a .image .now) (a .leave) (a .session .now) (a .outcome .now) (at-if1 .if1 .left) _ _ _ _ _ (tested .before .if2 .left) (tested .if3 .left) (tested .before .before .header-in .ensures ∙ header-found (a .header .now) (at-if1 .if1 .left)) (starting .start .ensures) (c .number-of .ensures) (putting .put-session .ensures) (at-put-outcome .put-outcome .ensures)))

@@ -7,14 +7,17 @@ use Rattle.text.proofs.settle.Tie as tie
 
 returns : tie.Need-returns
 returns c =
-    let a = c .before .before .before .before .before .args in
-    settle-taken (a .part) (a .macros) _ (a .image .now) _ _ (c .before .before .before .header-of .ensures) (c .before .check .ensures) (c .if1 .taken)
+    let at-header-of = c .before .before .before in let at-start = at-header-of .before .before in
+    let a = at-start .args in
+    settle-taken (a .part) (a .macros) _ (a .image .now) _ _ (at-header-of .header-of .ensures) (c .before .check .ensures) (c .if1 .taken)
 
 returns-2 : tie.Need-returns-2
 returns-2 c =
-    let a = c .before .before .before .before .before .before .before .before .before .before .args in
-    let r = settle-refused (a .part) (a .macros) _ (a .image .now) _ _ (c .before .before .before .before .before .before .before .before .header-of .ensures) (c .before .before .before .before .before .before .check .ensures) (c .before .before .before .before .before .if1 .left) in
-    (c .refusal .ensures ∙ r .0, c .before .before .before .clear .ensures ∙ r .1)
+    let at-clear = c .before .before .before in let at-if1 = at-clear .before .before in let at-check = at-if1 .before in
+    let at-header-of = at-check .before .before in let at-start = at-header-of .before .before in
+    let a = at-start .args in
+    let r = settle-refused (a .part) (a .macros) _ (a .image .now) _ _ (at-header-of .header-of .ensures) (at-check .check .ensures) (at-if1 .if1 .left) in
+    (c .refusal .ensures ∙ r .0, at-clear .clear .ensures ∙ r .1)
 
 pub settle-spec : {M : Type 1} → statement M
 settle-spec =

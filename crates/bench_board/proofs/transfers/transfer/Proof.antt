@@ -8,17 +8,17 @@ use Rattle.bench_board.proofs.transfers.transfer.Tie as tie
 
 returns : tie.Need-returns
 returns c =
-    let a = c .before .before .before .before .before .before .before .before .before .before .args in
-    let p = c .before .before .before in
-    carried-out (a .g) (seen (a .flash .now) (a .locks .now) (a .params .now)) (a .q) (a .e) (a .o) (p .before .before .before .place-of .result) (a .r) _ _ (p .before .before .before .place-of .ensures) (p .before .before .bars .ensures) (p .before .answer .ensures)
+    let p = c .before .before .before in let at-place-of = p .before .before .before in let at-start = at-place-of .before .before .before .before in
+    let a = at-start .args in
+    carried-out (a .g) (seen (a .flash .now) (a .locks .now) (a .params .now)) (a .q) (a .e) (a .o) (at-place-of .place-of .result) (a .r) _ _ (at-place-of .place-of .ensures) (p .before .before .bars .ensures) (p .before .answer .ensures)
     (c .before .carry-out .result) _ (sym (p .goes-through .ensures) ∙ c .before .before .if1 .taken) (c .before .carry-out .ensures) (c .starts-call .ensures)
 
 returns-2 : tie.Need-returns-2
 returns-2 c =
-    let a = c .before .before .before .before .before .before .before .before .before .args in
-    let p = c .before .before in
+    let p = c .before .before in let at-place-of = p .before .before .before in let at-start = at-place-of .before .before .before .before in
+    let a = at-start .args in
     rw (c .keep .ensures)
-    (left-out (a .g) (seen (a .flash .now) (a .locks .now) (a .params .now)) (a .q) (a .e) (a .o) (p .before .before .before .place-of .result) (a .r) _ _ (p .before .before .before .place-of .ensures) (p .before .before .bars .ensures) (p .before .answer .ensures)
+    (left-out (a .g) (seen (a .flash .now) (a .locks .now) (a .params .now)) (a .q) (a .e) (a .o) (at-place-of .place-of .result) (a .r) _ _ (at-place-of .place-of .ensures) (p .before .before .bars .ensures) (p .before .answer .ensures)
     (sym (p .goes-through .ensures) ∙ c .before .if1 .left))
 
 pub transfer-spec : {M : Type 1} → statement M

@@ -6,15 +6,17 @@ use Rattle.bench_board.proofs.words.tick_busy.Tie as tie
 
 returns : tie.Need-returns
 returns c =
-    let a = c .before .before .before .before .before .before .args in
+    let at-if1 = c .before .before in let at-start = at-if1 .before .before .before .before in
+    let a = at-start .args in
     ended-there (a .g) (a .flash .now) (a .params .now) (a .r) (a .other) (a .o) (a .c) (c .before .complete .result) (c .post-sysreq .result)
-    (c .before .before .if1 .taken) (c .before .complete .ensures) (c .post-sysreq .ensures)
+    (at-if1 .if1 .taken) (c .before .complete .ensures) (c .post-sysreq .ensures)
 
 returns-2 : tie.Need-returns-2
 returns-2 c =
-    let a = c .before .before .before .before .before .before .args in
+    let at-if1 = c .before .before in let at-start = at-if1 .before .before .before .before in
+    let a = at-start .args in
     rw (c .ask .ensures, c .before .one-less .ensures)
-    (still-busy (a .g) (a .flash .now) (a .params .now) (a .r) (a .other) (a .o) (a .c) (c .before .before .if1 .left))
+    (still-busy (a .g) (a .flash .now) (a .params .now) (a .r) (a .other) (a .o) (a .c) (at-if1 .if1 .left))
 
 pub tick-busy-spec : {M : Type 1} → statement M
 tick-busy-spec =

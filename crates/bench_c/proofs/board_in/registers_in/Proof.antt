@@ -18,4 +18,7 @@ registers-in-spec =
     (λ c κs. search needs)
     (λ c. search needs)
     (λ c. search needs)
-    (λ c. simp (c .before .before .word-at5 .ensures, c .before .before .before .word-at4 .ensures, c .before .before .before .before .word-at3 .ensures, c .before .before .before .before .before .word-at2 .ensures, c .before .before .before .before .before .before .word-at .ensures, c .before .before .before .before .before .before .before .running-in .ensures, c .before .before .before .before .before .before .before .before .silicon-in .ensures)))
+    (λ c.
+    let at-word-at3 = c .before .before .before .before in let at-word-at2 = at-word-at3 .before in let at-word-at = at-word-at2 .before in
+    let at-running-in = at-word-at .before in let at-silicon-in = at-running-in .before in
+    simp (c .before .before .word-at5 .ensures, c .before .before .before .word-at4 .ensures, at-word-at3 .word-at3 .ensures, at-word-at2 .word-at2 .ensures, at-word-at .word-at .ensures, at-running-in .running-in .ensures, at-silicon-in .silicon-in .ensures)))

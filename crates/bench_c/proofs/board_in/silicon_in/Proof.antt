@@ -13,4 +13,4 @@ silicon-in-spec =
     (λ c. search needs)
     (λ c. search needs)
     (λ c. search needs)
-    (λ c. simp (c .before .before .before .before .word-at2 .ensures, c .before .before .before .before .before .word-at .ensures)))
+    (λ c. let at-word-at2 = c .before .before .before .before in let at-word-at = at-word-at2 .before in simp (at-word-at2 .word-at2 .ensures, at-word-at .word-at .ensures)))

@@ -11,13 +11,15 @@ use Rattle.bench_c.proofs.board_out.put_flagged.Tie as tie
 
 same-length : tie.Need-same-length
 same-length c =
-    let a = c .before .before .before .before .before .args in
-    ap length (flagged-put (a .bytes .now) _ (a .at) (a .flag) (a .word) (c .before .before .before .before .before .pre) (c .before .before .put-word .ensures)) ∙ length-sets (a .bytes .now) (a .at) (a .flag ∷ lowFirst 4 (a .word))
+    let at-put-word = c .before .before in let at-start = at-put-word .before .before .before in
+    let a = at-start .args in
+    ap length (flagged-put (a .bytes .now) _ (a .at) (a .flag) (a .word) (at-start .pre) (at-put-word .put-word .ensures)) ∙ length-sets (a .bytes .now) (a .at) (a .flag ∷ lowFirst 4 (a .word))
 
 returns : tie.Need-returns
 returns c =
-    let a = c .before .before .before .before .before .args in
-    flagged-put (a .bytes .now) _ (a .at) (a .flag) (a .word) (c .before .before .before .before .before .pre) (c .before .before .put-word .ensures)
+    let at-put-word = c .before .before in let at-start = at-put-word .before .before .before in
+    let a = at-start .args in
+    flagged-put (a .bytes .now) _ (a .at) (a .flag) (a .word) (at-start .pre) (at-put-word .put-word .ensures)
 
 pub put-flagged-spec : {M : Type 1} → statement M
 put-flagged-spec =

@@ -6,11 +6,14 @@ use Rattle.bench_c.proofs.board_out.put_running.Tie as tie
 
 returns : tie.Need-returns
 returns c =
-    idle-put (c .before .before .before .before .before .before .before .args .bytes .now) _ (c .before .before .before .before .before .before .before .args .running) (c .before .before .before .before .enum-told .given .1) (c .before .before .put-run .ensures)
+    let at-put-run = c .before .before in let at-match = at-put-run .before .before .before in let at-start = at-match .before .before in
+    idle-put (at-start .args .bytes .now) _ (at-start .args .running) (c .before .before .before .before .enum-told .given .1) (at-put-run .put-run .ensures)
 
 returns-2 : tie.Need-returns-2
 returns-2 c =
-    busy-put (c .before .before .before .before .before .before .before .before .before .before .args .bytes .now) _ (c .before .before .before .before .before .before .before .before .before .before .args .running) _ _ _ _ (c .before .before .before .before .before .before .before .running .given .1) (c .before .before .before .before .flag-byte .ensures) (c .before .before .before .flag-byte2 .ensures) (c .before .before .put-run2 .ensures)
+    let at-flag-byte = c .before .before .before .before in let at-running = at-flag-byte .before .before .before in
+    let at-start = at-running .before .before .before in
+    busy-put (at-start .args .bytes .now) _ (at-start .args .running) _ _ _ _ (at-running .running .given .1) (at-flag-byte .flag-byte .ensures) (c .before .before .before .flag-byte2 .ensures) (c .before .before .put-run2 .ensures)
 
 pub put-running-spec : {M : Type 1} → statement M
 put-running-spec =

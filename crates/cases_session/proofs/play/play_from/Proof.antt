@@ -16,13 +16,21 @@ play-from-spec =
     (λ c κs. search needs)
     (λ c κs. search needs)
     (λ c. search needs)
-    (λ c. sym (length-take-le (c .before .before .before .before .before .sizes-of .result .flash) (c .before .before .before .before .blank-image .result) (omega arith)))
+    (λ c.
+    let at-blank-image = c .before .before .before .before in let at-sizes-of = at-blank-image .before in
+    sym (length-take-le (at-sizes-of .sizes-of .result .flash) (at-blank-image .blank-image .result) (omega arith)))
     (λ c. search needs)
-    (λ c. sym (length-take-le (c .before .before .before .before .before .before .sizes-of .result .locks) (c .before .before .before .before .blank-bytes .result) (omega arith)))
+    (λ c.
+    let at-blank-bytes = c .before .before .before .before in let at-sizes-of = at-blank-bytes .before .before in
+    sym (length-take-le (at-sizes-of .sizes-of .result .locks) (at-blank-bytes .blank-bytes .result) (omega arith)))
     (λ c. search needs)
-    (λ c. sym (length-take-le (c .before .before .before .before .before .before .before .sizes-of .result .latch) (c .before .before .before .before .blank-bytes2 .result) (omega arith)))
+    (λ c.
+    let at-blank-bytes2 = c .before .before .before .before in let at-sizes-of = at-blank-bytes2 .before .before .before in
+    sym (length-take-le (at-sizes-of .sizes-of .result .latch) (at-blank-bytes2 .blank-bytes2 .result) (omega arith)))
     (λ c. search needs)
-    (λ c. sym (length-take-le (c .before .before .before .before .before .before .before .before .sizes-of .result .params) (c .before .before .before .before .blank-words .result) (omega arith)))
+    (λ c.
+    let at-blank-words = c .before .before .before .before in let at-sizes-of = at-blank-words .before .before .before .before in
+    sym (length-take-le (at-sizes-of .sizes-of .result .params) (at-blank-words .blank-words .result) (omega arith)))
     (λ c. search needs)
     (λ c κs. search needs)
     (λ c κs. search needs)

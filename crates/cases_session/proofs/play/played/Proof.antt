@@ -16,8 +16,11 @@ abbrev μ-loop : tie.MeasureT-loop
 
 loop-again : tie.Need-loop-again Inv-loop μ-loop
 loop-again c =
-    let i = c .before .before .before .before .before .before .before .before .before .before .before .before .before .before .before .before .before .before .before .before .loop .inv in
-    (omega (arith, c .before .before .before .before .before .before .before .before .flash .given, i), omega (arith, c .before .before .before .before .before .before .locks .given, i), omega (arith, c .before .before .before .before .latch .given, i), omega (arith, c .before .before .params .given, i))
+    let at-latch = c .before .before .before .before in let at-locks = at-latch .before .before in let at-flash = at-locks .before .before in
+    let at-meet-arg2 = at-flash .before .before .before .before in let at-r = at-meet-arg2 .before .before .before .before in
+    let at-loop = at-r .before .before .before .before in
+    let i = at-loop .loop .inv in
+    (omega (arith, at-flash .flash .given, i), omega (arith, at-locks .locks .given, i), omega (arith, at-latch .latch .given, i), omega (arith, c .before .before .params .given, i))
 
 pub played-spec : {M : Type 1} → statement M
 played-spec =
@@ -30,8 +33,16 @@ played-spec =
     (λ c κs. search needs)
     (λ c κs. search needs)
     (λ c κs. search needs)
-    (λ c. omega (arith, c .before .before .before .before .before .before .before .before .before .before .before .before .before .before .before .before .before .before .before .loop-test .taken))
-    (λ c. omega (arith, c .before .before .before .before .before .before .before .before .before .before .before .before .before .before .before .before .before .before .before .loop-test .taken))
+    (λ c.
+    let at-latch = c .before .before .before .before in let at-flash = at-latch .before .before .before .before in
+    let at-meet-arg2 = at-flash .before .before .before .before in let at-r = at-meet-arg2 .before .before .before .before in
+    let at-loop-test = at-r .before .before .before in
+    omega (arith, at-loop-test .loop-test .taken))
+    (λ c.
+    let at-latch = c .before .before .before .before in let at-flash = at-latch .before .before .before .before in
+    let at-meet-arg2 = at-flash .before .before .before .before in let at-r = at-meet-arg2 .before .before .before .before in
+    let at-loop-test = at-r .before .before .before in
+    omega (arith, at-loop-test .loop-test .taken))
     loop-again
     (λ c. search needs)
     (λ c. search needs)

@@ -7,9 +7,10 @@ use Rattle.dry.proofs.lines.put.Tie as tie
 
 returns : tie.Need-returns
 returns c =
-    let a = c .before .before .before .before .before .before .args in
-    let room = c .before .before .before .before .before .before .pre .0 in
-    let kept = c .before .before .fill .ensures in
+    let at-fill = c .before .before in let at-start = at-fill .before .before .before .before in
+    let a = at-start .args in
+    let room = at-start .pre .0 in
+    let kept = at-fill .fill .ensures in
     (refl, (put-on (a .line .now) (a .bytes .now) _ (a .at) room kept, put-rest (a .line .now) (a .bytes .now) _ (a .at) room kept))
 
 pub put-spec : {M : Type 1} → statement M

@@ -11,8 +11,11 @@ use Rattle.moves.proofs.rows.macro_move.Statement.{statement}
 use Rattle.moves.proofs.rows.macro_move.Tie as tie
 
 module _ (c : tie.After-locks-in) where
+  abbrev at-else : tie.Else1
+  at-else = c .before .before .before .before
+
   abbrev at-start : tie.Start
-  at-start = c .before .before .before .before .before .before .before
+  at-start = at-else .before .before .before
 
   place : LockPlace (at-start .args .g) (now (at-start .args .bytes)) (at-start .args .m)
   place = lock-place (at-start .args .g) (at-start .pre .0) (now (at-start .args .bytes)) (at-start .pre .1 .0) (at-start .args .m) (at-start .pre .1 .1 .0)
@@ -43,7 +46,7 @@ macro-move-spec =
     (λ c. omega (arith, place (c .before) .low))
     (λ c κs. search needs)
     (λ c.
-    let b = c .before .before in
+    let b = c .before .before in let at-if1 = b .before .before .before .before in let at-lock-moves = at-if1 .before in
     let s = at-start b in
-    lock-at (s .args .g) (s .pre .0) (s .args .h) (now (s .args .bytes)) (s .pre .1 .0) (s .args .m) (s .args .j) _ (b .before .before .before .before .before .lock-moves .ensures .0)
-    _ _ (starts b) (b .locks-in .ensures .0) (s .pre .1 .1 .0) _ refl (b .before .before .before .before .if1 .left) (c .lock-move .ensures (s .args .g) refl)))
+    lock-at (s .args .g) (s .pre .0) (s .args .h) (now (s .args .bytes)) (s .pre .1 .0) (s .args .m) (s .args .j) _ (at-lock-moves .lock-moves .ensures .0)
+    _ _ (starts b) (b .locks-in .ensures .0) (s .pre .1 .1 .0) _ refl (at-if1 .if1 .left) (c .lock-move .ensures (s .args .g) refl)))

@@ -34,5 +34,5 @@ rows-move-spec =
     (λ c. search needs)
     (λ c κs. search needs)
     (λ c.
-    let s = c .before .before .before .before .before .before .before in
-    rows-at (s .args .g) (s .pre .0) (s .args .h) (now (s .args .bytes)) (s .pre .1 .0) (s .args .j) _ (c .before .before .before .row-moves .ensures .0) (s .pre .1 .1) _ refl (c .row-move .ensures (s .args .g) refl)))
+    let at-row-moves = c .before .before .before in let s = at-row-moves .before .before .before .before in
+    rows-at (s .args .g) (s .pre .0) (s .args .h) (now (s .args .bytes)) (s .pre .1 .0) (s .args .j) _ (at-row-moves .row-moves .ensures .0) (s .pre .1 .1) _ refl (c .row-move .ensures (s .args .g) refl)))

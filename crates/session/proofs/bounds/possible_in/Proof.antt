@@ -16,6 +16,11 @@ possible-in-spec =
     (λ c. search needs)
     (λ c. simp (← c .before .before .before .before .header-fits .ensures, not-false (c .before .before .before .before .header-fits .result) (c .before .before .before .if1 .left), ← c .before .before .most-transfers .ensures, lt-leb _ _ (c .if2 .taken)))
     (λ c κs. search needs)
-    (λ c. simp (← c .before .before .before .before .before .before .header-fits .ensures, not-false (c .before .before .before .before .before .before .header-fits .result) (c .before .before .before .before .before .if1 .left), ← c .before .before .before .before .most-transfers .ensures, le-leb _ _ (c .before .before .if2 .left), c .before .if3 .taken, ← c .report-fits .ensures))
+    (λ c.
+    let at-most-transfers = c .before .before .before .before in let at-if1 = at-most-transfers .before in let at-header-fits = at-if1 .before in
+    simp (← at-header-fits .header-fits .ensures, not-false (at-header-fits .header-fits .result) (at-if1 .if1 .left), ← at-most-transfers .most-transfers .ensures, le-leb _ _ (c .before .before .if2 .left), c .before .if3 .taken, ← c .report-fits .ensures))
     (λ c κs. search needs)
-    (λ c. simp (← c .before .before .before .before .before .before .before .before .header-fits .ensures, not-false (c .before .before .before .before .before .before .before .before .header-fits .result) (c .before .before .before .before .before .before .before .if1 .left), ← c .before .before .before .before .before .before .most-transfers .ensures, le-leb _ _ (c .before .before .before .before .if2 .left), c .before .before .before .if3 .left, ← c .running-fits .ensures)))
+    (λ c.
+    let at-if2 = c .before .before .before .before in let at-most-transfers = at-if2 .before .before in let at-if1 = at-most-transfers .before in
+    let at-header-fits = at-if1 .before in
+    simp (← at-header-fits .header-fits .ensures, not-false (at-header-fits .header-fits .result) (at-if1 .if1 .left), ← at-most-transfers .most-transfers .ensures, le-leb _ _ (at-if2 .if2 .left), c .before .before .before .if3 .left, ← c .running-fits .ensures)))

@@ -18,5 +18,7 @@ resume-spec =
     (λ c κs. search needs)
     (λ c. search needs)
     (λ c κs. search needs)
-    (λ c. simp (c .running-at .ensures, c .before .arrive .ensures, c .before .before .before .before .next .given .1, c .before .before .before .before .before .before .capped .ensures))
+    (λ c.
+    let at-next = c .before .before .before .before in let at-capped = at-next .before .before in
+    simp (c .running-at .ensures, c .before .arrive .ensures, at-next .next .given .1, at-capped .capped .ensures))
     (λ c. simp (c .reported-at .ensures, c .before .before .next2 .given .1, c .before .before .before .before .capped .ensures)))
