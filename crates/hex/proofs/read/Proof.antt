@@ -17,9 +17,9 @@ returns c =
 
 read-image-requires : tie.Need-read-image-requires
 read-image-requires c κs =
-    let at-found2 = c .before .before .before .before in let at-find = at-found2 .before .before in let at-start = at-find .before .before .before in
+    let at-found2 = c .before .before .before .before in let at-find = at-found2 .before .before in
     let e = sym (at-find .find .ensures) ∙ at-found2 .found2 .given .1 in
-    (e, length-take-le _ (at-start .args .buffer .now) (omega arith) ∙ c .before .before .image-size .ensures)
+    (e, length-take-le _ _ (omega arith) ∙ c .before .before .image-size .ensures)
 
 returns-2 : tie.Need-returns-2
 returns-2 c =
@@ -50,9 +50,7 @@ read-spec =
     (λ c κs. search needs)
     returns
     (λ c. search needs)
-    (λ c.
-    let at-found2 = c .before .before .before .before in let at-find = at-found2 .before .before in let at-start = at-find .before .before .before in
-    sym (length-take-le _ (at-start .args .buffer .now) (omega arith)))
+    (λ c. sym (length-take-le _ _ (omega arith)))
     read-image-requires
     returns-2
     (λ c. search needs)
