@@ -17,15 +17,15 @@ use Rattle.text.specs.Scanning.{ToFill, advancedOf, ScannedAs}
 use Rattle.text.specs.declared.Due.{Due}
 use Rattle.text.specs.declared.Scanned.the-variants.{Bad, Whole}
 
-pub record Here (g : Geometry) (text image₀ header₀ image header : List ℕ) (at upper : ℕ) (due : Due) : Type 0 where
+pub record Here (g : Geometry) (text : List ℕ) (b₀ : scans.Buffers) (b : scans.Filling) (at upper : ℕ) : Type 0 where
   pub at-le : at ≤ length text
-  pub there : scans.Here hexFormat text g (contentAt text at upper) image₀ header₀ image header due
+  pub there : scans.Here hexFormat text g (contentAt text at upper) b₀ b
 
 module _ (g : Geometry) (text image₀ header₀ : List ℕ) (z : ToFill g image₀ header₀) where
-  pub here-start : (s : Section) → s ≡ getD (sectionsOf g) 0 noSection → Here g text image₀ header₀ image₀ header₀ 0 0 (record { section = s; next = 1 })
+  pub here-start : (s : Section) → s ≡ getD (sectionsOf g) 0 noSection → Here g text (scans.buffers image₀ header₀) (scans.filling image₀ header₀ (record { section = s; next = 1 })) 0 0
   here-start s e = record { at-le = omega arith; there = scans.here-start hexFormat text g image₀ header₀ z s e }
 
-  module _ {image header : List ℕ} {at upper : ℕ} {due : Due} (h : Here g text image₀ header₀ image header at upper due)
+  module _ {image header : List ℕ} {at upper : ℕ} {due : Due} (h : Here g text (scans.buffers image₀ header₀) (scans.filling image header due) at upper)
       (t : Turn) (row : List ℕ) (turn : TurnAt text at upper (due .section) t row) where
     pub here-stop : (n : ℕ) → t ≡ Stop n → ScannedAs hexFormat text g (Bad n) image header
     here-stop n e = scans.here-stop hexFormat text g image₀ header₀ z (h .there) n (rw e at turn)
@@ -34,7 +34,7 @@ module _ (g : Geometry) (text image₀ header₀ : List ℕ) (z : ToFill g image
     here-done e = let u = rw e at turn in scans.here-done hexFormat text g image₀ header₀ z (h .there) (u .0) (u .1)
 
     module _ (next new : ℕ) (e : t ≡ Moved next new) where
-      pub here-moved : Here g text image₀ header₀ image header next new due
+      pub here-moved : Here g text (scans.buffers image₀ header₀) (scans.filling image header due) next new
       here-moved =
           let u = rw e at turn in
           record { at-le = u .2; there = scans.here-moved hexFormat text g image₀ header₀ z (h .there) (contentAt text next new) (u .0) }
@@ -57,7 +57,7 @@ module _ (g : Geometry) (text image₀ header₀ : List ℕ) (z : ToFill g image
       pub here-store : (image′ header′ : List ℕ) (due′ : Due) → length image′ ≡ length image → length header′ ≡ length header
           → Stored g (due .section) row 4 count image header image′ header′
           → due′ ≡ advancedOf g due count
-          → Here g text image₀ header₀ image′ header′ next upper due′
+          → Here g text (scans.buffers image₀ header₀) (scans.filling image′ header′ due′) next upper
       here-store image′ header′ due′ ki kh is ed =
           let u = rw e at turn in
           let b = store-bounds in

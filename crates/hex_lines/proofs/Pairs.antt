@@ -19,16 +19,25 @@ capitals-at zero i k h = absurd (omega arith)
 capitals-at (suc n) i zero h = ap capital (omega arith)
 capitals-at (suc n) i (suc k) h = capitals-at n (i + 1) k (omega arith) ∙ ap capital (omega arith)
 
--- how far the loop has come: what is left is still to be put and added
-pub record Putting (text₀ : List ℕ) (at : ℕ) (bytes text : List ℕ) (sum q i : ℕ) : Type 0 where
-  pub within : i ≤ length bytes
-  pub room : q + 2 * (length bytes - i) ≤ length text
-  pub kept : length text ≡ length text₀
-  pub small : sum ≤ 255 * i
-  pub summed : total bytes ≡ sum + total (drop i bytes)
-  pub put : sets text₀ at (pairsOf bytes) ≡ sets text q (pairsOf (drop i bytes))
+-- the loop's own: the sum so far, the place in the text and among the bytes
+pub record Cursor : Type 0 where
+  pub sum : ℕ
+  pub q : ℕ
+  pub i : ℕ
 
-pub start : (text : List ℕ) (at : ℕ) (bytes : List ℕ) → at + 2 * length bytes ≤ length text → Putting text at bytes text 0 at 0
+abbrev pub cursor : (sum q i : ℕ) → Cursor
+cursor sum q i = record { sum = sum; q = q; i = i }
+
+-- how far the loop has come: what is left is still to be put and added
+pub record Putting (text₀ : List ℕ) (at : ℕ) (bytes text : List ℕ) (t : Cursor) : Type 0 where
+  pub within : t .i ≤ length bytes
+  pub room : t .q + 2 * (length bytes - t .i) ≤ length text
+  pub kept : length text ≡ length text₀
+  pub small : t .sum ≤ 255 * t .i
+  pub summed : total bytes ≡ t .sum + total (drop (t .i) bytes)
+  pub put : sets text₀ at (pairsOf bytes) ≡ sets text (t .q) (pairsOf (drop (t .i) bytes))
+
+pub start : (text : List ℕ) (at : ℕ) (bytes : List ℕ) → at + 2 * length bytes ≤ length text → Putting text at bytes text (cursor 0 at 0)
 start text at bytes h = record {
   within = omega arith;
   room = omega arith;
@@ -38,9 +47,9 @@ start text at bytes h = record {
   put = refl;
 }
 
-module _ {text₀ : List ℕ} {at : ℕ} {bytes text : List ℕ} {sum q i : ℕ} (v : Putting text₀ at bytes text sum q i) where
+module _ {text₀ : List ℕ} {at : ℕ} {bytes text : List ℕ} {sum q i : ℕ} (v : Putting text₀ at bytes text (cursor sum q i)) where
   pub turn : (h l : ℕ) → i < length bytes → getD bytes i 0 < 256 → h ≡ capital (getD bytes i 0 / 16) → l ≡ capital (getD bytes i 0 % 16)
-      → Putting text₀ at bytes (set (set text q h) (q + 1) l) (sum + getD bytes i 0) (q + 2) (i + 1)
+      → Putting text₀ at bytes (set (set text q h) (q + 1) l) (cursor (sum + getD bytes i 0) (q + 2) (i + 1))
   unfolding total pairsOf
   turn h l some byte eh el =
       let n : i + 1 ≡ suc i = omega arith in

@@ -34,20 +34,30 @@ pub cut-none : (n a : ℕ) (bs : List ℕ) → n ≡ 0 → cut n a bs ≡ []
 unfolding cut
 cut-none n a bs e = rw e
 
+-- the loop's own: where it writes, the next piece's address and first byte, the pieces left
+pub record Cursor : Type 0 where
+  pub w : Position
+  pub a : ℕ
+  pub from : ℕ
+  pub left : ℕ
+
+abbrev pub cursor : Position → (a from left : ℕ) → Cursor
+cursor w a from left = record { w = w; a = a; from = from; left = left }
+
 -- how far the loop over a section's pieces has come
-pub record Piecing (text₀ : List ℕ) (w₀ : Position) (address : ℕ) (bytes text : List ℕ) (w : Position) (a from left : ℕ) : Type 0 where
-  pub going : lines.Going text₀ w₀ (cut ((length bytes + 63) / 64) address bytes) text w (cut left a (drop from bytes))
-  pub within : from ≤ length bytes
-  pub count : left ≡ (length bytes - from + 63) / 64
-  pub high : a + 64 * left < 0x100000000
+pub record Piecing (text₀ : List ℕ) (w₀ : Position) (address : ℕ) (bytes text : List ℕ) (t : Cursor) : Type 0 where
+  pub going : lines.Going text₀ w₀ (cut ((length bytes + 63) / 64) address bytes) text (t .w) (cut (t .left) (t .a) (drop (t .from) bytes))
+  pub within : t .from ≤ length bytes
+  pub count : t .left ≡ (length bytes - t .from + 63) / 64
+  pub high : t .a + 64 * t .left < 0x100000000
 
 pub start : (text : List ℕ) (w : Position) (address : ℕ) (bytes : List ℕ)
     → address + length bytes + 64 ≤ 0x100000000
     → positionAfter w (cut ((length bytes + 63) / 64) address bytes) .at ≤ length text
-    → Piecing text w address bytes text w address 0 ((length bytes + 63) / 64)
+    → Piecing text w address bytes text (cursor w address 0 ((length bytes + 63) / 64))
 start text w address bytes h r = record { going = lines.start text w _ r; within = omega arith; count = omega arith; high = omega arith }
 
-module _ {text₀ : List ℕ} {w₀ : Position} {address : ℕ} {bytes text : List ℕ} {w : Position} {a from left : ℕ} (v : Piecing text₀ w₀ address bytes text w a from left) where
+module _ {text₀ : List ℕ} {w₀ : Position} {address : ℕ} {bytes text : List ℕ} {w : Position} {a from left : ℕ} (v : Piecing text₀ w₀ address bytes text (cursor w a from left)) where
   module _ (some : 0 < left) (end : ℕ) (is : end ≡ min (from + 64) (length bytes)) where
     part : take (end - from) (drop from bytes) ≡ take 64 (drop from bytes)
     part =
@@ -68,7 +78,7 @@ module _ {text₀ : List ℕ} {w₀ : Position} {address : ℕ} {bytes text : Li
     pub turn : (text′ : List ℕ) (w′ : Position)
         → w′ ≡ positionAfter w (onePiece a (take (end - from) (drop from bytes)))
         → text′ ≡ sets text (w .at) (linesFrom (w .upper) (onePiece a (take (end - from) (drop from bytes))))
-        → Piecing text₀ w₀ address bytes text′ w′ (a + 64) end (left - 1)
+        → Piecing text₀ w₀ address bytes text′ (cursor w′ (a + 64) end (left - 1))
     turn text′ w′ ew et = record {
       going = lines.turn (v .going) _ _ splits text′ w′ ew et;
       within = omega arith;

@@ -41,17 +41,25 @@ flash-inside : {g : Geometry} {h : Header} {bytes : List ℕ} → Sized g h byte
 unfolding imageSize
 flash-inside z = omega (arith, z .exact)
 
+-- a text, and where the next line goes
+pub record Page : Type 0 where
+  pub text : List ℕ
+  pub w : Position
+
+abbrev pub page : List ℕ → Position → Page
+page text w = record { text = text; w = w }
+
 -- how far the loop over the sections has come
-pub record Through (text₀ : List ℕ) (w₀ : Position) (g : Geometry) (h : Header) (bytes text : List ℕ) (w : Position) (k : ℕ) : Type 0 where
+pub record Through (p₀ : Page) (g : Geometry) (h : Header) (bytes : List ℕ) (p : Page) (k : ℕ) : Type 0 where
   pub sized : Sized g h bytes
-  pub going : lines.Going text₀ w₀ (pieces (sectionBytes g h bytes) (sectionsOf g)) text w (pieces (sectionBytes g h bytes) (drop k (sectionsOf g)))
+  pub going : lines.Going (p₀ .text) (p₀ .w) (pieces (sectionBytes g h bytes) (sectionsOf g)) (p .text) (p .w) (pieces (sectionBytes g h bytes) (drop k (sectionsOf g)))
 
 pub start : (text : List ℕ) (w : Position) (g : Geometry) (h : Header) (bytes : List ℕ) → Sized g h bytes
     → positionAfter w (pieces (sectionBytes g h bytes) (sectionsOf g)) .at ≤ length text
-    → Through text w g h bytes text w 0
+    → Through (page text w) g h bytes (page text w) 0
 start text w g h bytes z r = record { sized = z; going = lines.start text w _ r }
 
-module _ {text₀ : List ℕ} {w₀ : Position} {g : Geometry} {h : Header} {bytes text : List ℕ} {w : Position} {k : ℕ} (v : Through text₀ w₀ g h bytes text w k) where
+module _ {text₀ : List ℕ} {w₀ : Position} {g : Geometry} {h : Header} {bytes text : List ℕ} {w : Position} {k : ℕ} (v : Through (page text₀ w₀) g h bytes (page text w) k) where
   module _ (some : k < 5) (s : Section) (is : s ≡ getD (sectionsOf g) k noSection) where
     first : pieces (sectionBytes g h bytes) (drop k (sectionsOf g))
         ≡ cut (piecesIn s) (s .address) (sectionBytes g h bytes s) ++ pieces (sectionBytes g h bytes) (drop (k + 1) (sectionsOf g))
@@ -64,7 +72,7 @@ module _ {text₀ : List ℕ} {w₀ : Position} {g : Geometry} {h : Header} {byt
     pub turn : (text′ : List ℕ) (w′ : Position)
         → w′ ≡ positionAfter w (cut (piecesIn s) (s .address) (sectionBytes g h bytes s))
         → text′ ≡ sets text (w .at) (linesFrom (w .upper) (cut (piecesIn s) (s .address) (sectionBytes g h bytes s)))
-        → Through text₀ w₀ g h bytes text′ w′ (k + 1)
+        → Through (page text₀ w₀) g h bytes (page text′ w′) (k + 1)
     turn text′ w′ ew et = record { sized = v .sized; going = lines.turn (v .going) _ _ first text′ w′ ew et }
 
   pub ended : 5 ≤ k

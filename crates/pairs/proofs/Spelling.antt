@@ -55,21 +55,31 @@ module _ (s : List ℕ) (q k h l : ℕ) (some : 0 < k) (inside : q + 2 * k ≤ l
   unfolding front
   front-low i j = rw (pairs-turn s q k some inside) (rw (← eh, ← el, lt-ltb h 16 (omega arith), le-ltb l 16 (omega arith)))
 
+-- the loop's own: the place in the text and in the row, the pairs left, the sum so far
+pub record Cursor : Type 0 where
+  pub q : ℕ
+  pub i : ℕ
+  pub left : ℕ
+  pub sum : ℕ
+
+abbrev pub cursor : (q i left sum : ℕ) → Cursor
+cursor q i left sum = record { q = q; i = i; left = left; sum = sum }
+
 -- how far the loop has come: what is left spells the rest
-pub record Spelling (text : List ℕ) (p k : ℕ) (row₀ row : List ℕ) (q i left sum : ℕ) : Type 0 where
-  pub inside : q + 2 * left ≤ length text
-  pub room : i + left ≤ length row
+pub record Spelling (text : List ℕ) (p k : ℕ) (row₀ row : List ℕ) (t : Cursor) : Type 0 where
+  pub inside : t .q + 2 * t .left ≤ length text
+  pub room : t .i + t .left ≤ length row
   pub kept : length row ≡ length row₀
-  pub small : sum + 255 * left ≤ 66300
-  pub count : i + left ≡ k
-  pub spelt : length (front (pairsAt text p k)) ≡ i + length (front (pairsAt text q left))
-  pub summed : total (front (pairsAt text p k)) ≡ sum + total (front (pairsAt text q left))
-  pub written : sets row₀ 0 (front (pairsAt text p k)) ≡ sets row i (front (pairsAt text q left))
+  pub small : t .sum + 255 * t .left ≤ 66300
+  pub count : t .i + t .left ≡ k
+  pub spelt : length (front (pairsAt text p k)) ≡ t .i + length (front (pairsAt text (t .q) (t .left)))
+  pub summed : total (front (pairsAt text p k)) ≡ t .sum + total (front (pairsAt text (t .q) (t .left)))
+  pub written : sets row₀ 0 (front (pairsAt text p k)) ≡ sets row (t .i) (front (pairsAt text (t .q) (t .left)))
 
 abbrev pub ran : (text : List ℕ) (p k : ℕ) → PairRun
 ran text p k = record { good = eqb (length (front (pairsAt text p k))) k; sum = total (front (pairsAt text p k)) }
 
-module _ {text : List ℕ} {p k : ℕ} {row₀ row : List ℕ} {q i left sum : ℕ} (v : Spelling text p k row₀ row q i left sum) where
+module _ {text : List ℕ} {p k : ℕ} {row₀ row : List ℕ} {q i left sum : ℕ} (v : Spelling text p k row₀ row (cursor q i left sum)) where
   module _ (nil : front (pairsAt text q left) ≡ []) where
     come : length (front (pairsAt text p k)) ≡ i
     come = v .spelt ∙ ap (λ (x : List ℕ). i + length x) nil ∙ add-zero i
@@ -90,7 +100,7 @@ module _ {text : List ℕ} {p k : ℕ} {row₀ row : List ℕ} {q i left sum : �
 
   -- one turn
   pub turn : (h l : ℕ) → h ≡ digitOf (getD text q 0) → l ≡ digitOf (getD text (q + 1) 0) → 0 < left → h ≤ 15 → l ≤ 15
-      → Spelling text p k row₀ (set row i (16 * h + l)) (q + 2) (i + 1) (left - 1) (sum + (16 * h + l))
+      → Spelling text p k row₀ (set row i (16 * h + l)) (cursor (q + 2) (i + 1) (left - 1) (sum + (16 * h + l)))
   unfolding total
   turn h l eh el some x y =
       let m = front-more text q left h l some (v .inside) eh el x y in
@@ -107,7 +117,7 @@ module _ {text : List ℕ} {p k : ℕ} {row₀ row : List ℕ} {q i left sum : �
       }
 
 pub start : (text : List ℕ) (p k : ℕ) (row : List ℕ) → p + 2 * k ≤ length text → k ≤ length row → k ≤ 260
-    → Spelling text p k row row p 0 k 0
+    → Spelling text p k row row (cursor p 0 k 0)
 start text p k row a b c = record {
   inside = a;
   room = omega arith;

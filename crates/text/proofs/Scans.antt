@@ -96,16 +96,32 @@ module _ (g : Geometry) (z : TableSizes g) (d : Due) (count : ℕ) (some : 1 ≤
       go true i = omega (arith, last-section g (d .next) i)
       go false i = h
 
+-- what is lent to be filled, and how far it is: what it holds, and what is due
+pub record Buffers : Type 0 where
+  pub image : List ℕ
+  pub header : List ℕ
+
+pub record Filling : Type 0 where
+  pub image : List ℕ
+  pub header : List ℕ
+  pub due : Due
+
+abbrev pub buffers : (image header : List ℕ) → Buffers
+buffers image header = record { image = image; header = header }
+
+abbrev pub filling : (image header : List ℕ) → Due → Filling
+filling image header due = record { image = image; header = header; due = due }
+
 -- the place of a loop: the content is what the rest comes to after the bytes done, and those are laid where they belong
-pub record Here (F : Format) (text : List ℕ) (g : Geometry) (rest : List Section → Content) (image₀ header₀ image header : List ℕ) (due : Due) : Type 0 where
-  pub image-kept : length image ≡ length image₀
-  pub header-kept : length header ≡ length header₀
-  pub roomy : Roomy g (due .section)
-  pub next-le : 0 < due .section .size → due .next ≤ 5
+pub record Here (F : Format) (text : List ℕ) (g : Geometry) (rest : List Section → Content) (b₀ : Buffers) (b : Filling) : Type 0 where
+  pub image-kept : length (b .image) ≡ length (b₀ .image)
+  pub header-kept : length (b .header) ≡ length (b₀ .header)
+  pub roomy : Roomy g (b .due .section)
+  pub next-le : 0 < b .due .section .size → b .due .next ≤ 5
   pub done : List ℕ
-  pub content : contentIn F text (sectionsOf g) ≡ prepend done (rest (dueList g due))
+  pub content : contentIn F text (sectionsOf g) ≡ prepend done (rest (dueList g (b .due)))
   pub lies : (l : Location) (r : List ℕ)
-      → laid l (sectionsOf g) (done ++ r) (locationBytes g image₀ header₀ l) ≡ laid l (dueList g due) r (locationBytes g image header l)
+      → laid l (sectionsOf g) (done ++ r) (locationBytes g (b₀ .image) (b₀ .header) l) ≡ laid l (dueList g (b .due)) r (locationBytes g (b .image) (b .header) l)
 
 prepend-nil : (o : Content) → o ≡ prepend [] o
 unfolding prepend
@@ -114,7 +130,7 @@ prepend-nil (Stream bs) = refl
 
 module _ (F : Format) (text : List ℕ) (g : Geometry) (image₀ header₀ : List ℕ) (z : ToFill g image₀ header₀) where
   pub here-start : (s : Section) → s ≡ getD (sectionsOf g) 0 noSection
-      → Here F text g (contentIn F text) image₀ header₀ image₀ header₀ (record { section = s; next = 1 })
+      → Here F text g (contentIn F text) (buffers image₀ header₀) (filling image₀ header₀ (record { section = s; next = 1 }))
   here-start s e =
       let d : dueList g (record { section = s; next = 1 }) ≡ sectionsOf g = ap (λ (x : Section). dues x (drop 1 (sectionsOf g))) e ∙ due-at g (z .table) 0 in
       record {
@@ -127,7 +143,7 @@ module _ (F : Format) (text : List ℕ) (g : Geometry) (image₀ header₀ : Lis
         lies = λ l r. ap (λ (ds : List Section). laid l ds r (locationBytes g image₀ header₀ l)) (sym d);
       }
 
-  module _ {rest : List Section → Content} {image header : List ℕ} {due : Due} (h : Here F text g rest image₀ header₀ image header due) where
+  module _ {rest : List Section → Content} {image header : List ℕ} {due : Due} (h : Here F text g rest (buffers image₀ header₀) (filling image header due)) where
     -- the image has room for its flash
     pub here-flash : flashSize g ≤ length image
     unfolding imageSize
@@ -153,7 +169,7 @@ module _ (F : Format) (text : List ℕ) (g : Geometry) (image₀ header₀ : Lis
         }
 
     -- a record without data
-    pub here-moved : (rest′ : List Section → Content) → ((ss : List Section) → rest ss ≡ rest′ ss) → Here F text g rest′ image₀ header₀ image header due
+    pub here-moved : (rest′ : List Section → Content) → ((ss : List Section) → rest ss ≡ rest′ ss) → Here F text g rest′ (buffers image₀ header₀) (filling image header due)
     here-moved rest′ u = record {
       image-kept = h .image-kept;
       header-kept = h .header-kept;
@@ -217,7 +233,7 @@ module _ (F : Format) (text : List ℕ) (g : Geometry) (image₀ header₀ : Lis
       pub here-store : (image′ header′ : List ℕ) (due′ : Due) → length image′ ≡ length image → length header′ ≡ length header
           → Stored g (due .section) row from count image header image′ header′
           → due′ ≡ advancedOf g due count
-          → Here F text g rest′ image₀ header₀ image′ header′ due′
+          → Here F text g rest′ (buffers image₀ header₀) (filling image′ header′ due′)
       here-store image′ header′ due′ ki kh is ed =
           rw ed
           (record {

@@ -25,7 +25,7 @@ use Rattle.text.specs.Formats.{Format, contentIn}
 use Rattle.text.specs.Placing.{Event, Content, Refusal, Stream, gathered, overall}
 use Rattle.text.specs.Reading.{Untouched, Cleared, Taken, imageIn, judged, readFor}
 
-pub record TakenFrom (F : Format) (part macros : ℕ) (text : List ℕ) (room : ℕ) (h : Header) (bytes : List ℕ) : Type 0 where
+pub record TakenFrom (F : Format) (part macros : ℕ) (text : List ℕ) (h : Header) (bytes : List ℕ) : Type 0 where
   pub g : Geometry
   pub found : lookupOf part macros ≡ Found g
   pub stream : List ℕ
@@ -37,7 +37,7 @@ pub record TakenFrom (F : Format) (part macros : ℕ) (text : List ℕ) (room : 
 module _ (F : Format) (part macros : ℕ) (text : List ℕ) (room : ℕ) (h : Header) (bytes : List ℕ) where
   from-stream : (g : Geometry) (found : lookupOf part macros ≡ Found g) (s : List ℕ) → contentIn F text (sectionsOf g) ≡ Stream s
       → judged g part macros (Stream s) ≡ Taken h bytes
-      → TakenFrom F part macros text room h bytes
+      → TakenFrom F part macros text h bytes
   from-stream g found s o = go (eqb (imageFault i b) 0) refl
     where
       i : Header
@@ -47,28 +47,28 @@ module _ (F : Format) (part macros : ℕ) (text : List ℕ) (room : ℕ) (h : He
       b = imageIn g s
 
       go : (y : Bool) → eqb (imageFault i b) 0 ≡ y → cond y (Taken i b) (Cleared (imageFault i b) (imageSize g)) ≡ Taken h bytes
-          → TakenFrom F part macros text room h bytes
+          → TakenFrom F part macros text h bytes
       go true q e =
           let ei : i ≡ h = cc e in
           let eb : b ≡ bytes = cc e in
           record { g = g; found = found; stream = s; content = o; header = ei; image = eb; none = ap (λ (x : Header). imageFault x bytes) (sym ei) ∙ ap (imageFault i) (sym eb) ∙ eqb-true (imageFault i b) 0 q }
       go false q e = let t : false ≡ true = cc e in absurd (false≢true t)
 
-  pub taken-from : Takes F part macros text room h bytes → TakenFrom F part macros text room h bytes
+  pub taken-from : Takes F part macros text room h bytes → TakenFrom F part macros text h bytes
   taken-from = look (lookupOf part macros) refl
     where
       come : (g : Geometry) → lookupOf part macros ≡ Found g → (o : Content) → contentIn F text (sectionsOf g) ≡ o → judged g part macros o ≡ Taken h bytes
-          → TakenFrom F part macros text room h bytes
+          → TakenFrom F part macros text h bytes
       come g q (Refusal n) d e = let t : false ≡ true = cc e in absurd (false≢true t)
       come g q (Stream s) d e = from-stream g q s d e
 
       fit : (g : Geometry) → lookupOf part macros ≡ Found g → (y : Bool)
           → cond y (judged g part macros (contentIn F text (sectionsOf g))) (Untouched 12) ≡ Taken h bytes
-          → TakenFrom F part macros text room h bytes
+          → TakenFrom F part macros text h bytes
       fit g q true e = come g q (contentIn F text (sectionsOf g)) refl e
       fit g q false e = let t : false ≡ true = cc e in absurd (false≢true t)
 
-      look : (l : Lookup) → lookupOf part macros ≡ l → readFor l part macros room (contentIn F text) ≡ Taken h bytes → TakenFrom F part macros text room h bytes
+      look : (l : Lookup) → lookupOf part macros ≡ l → readFor l part macros room (contentIn F text) ≡ Taken h bytes → TakenFrom F part macros text h bytes
       look (Refused n) q e = let t : false ≡ true = cc e in absurd (false≢true t)
       look (Found g) q e = fit g q (leb (imageSize g) room) e
 
@@ -79,7 +79,7 @@ sizes-sum : (g : Geometry) → overall (λ s. s .size) (sectionsOf g) ≡ imageS
 unfolding overall imageSize
 sizes-sum g = omega arith
 
-module _ {F : Format} {part macros : ℕ} {text : List ℕ} {room : ℕ} {h : Header} {bytes : List ℕ} (a : TakenFrom F part macros text room h bytes) where
+module _ {F : Format} {part macros : ℕ} {text : List ℕ} {h : Header} {bytes : List ℕ} (a : TakenFrom F part macros text h bytes) where
   abbrev records : List Event
   records = F .eventsOf text
 
@@ -107,8 +107,8 @@ module _ {F : Format} {part macros : ℕ} {text : List ℕ} {room : ℕ} {h : He
   id-fits : imageIdFits (a .g) h ≡ true
   id-fits = (all-passed (a .g) h bytes found-header (a .none)) .id
 
-module _ {F : Format} {part macros part′ macros′ : ℕ} {text : List ℕ} {room room′ : ℕ} {h h′ : Header} {bytes bytes′ : List ℕ}
-    (a : TakenFrom F part macros text room h bytes) (b : TakenFrom F part′ macros′ text room′ h′ bytes′) where
+module _ {F : Format} {part macros part′ macros′ : ℕ} {text : List ℕ} {h h′ : Header} {bytes bytes′ : List ℕ}
+    (a : TakenFrom F part macros text h bytes) (b : TakenFrom F part′ macros′ text h′ bytes′) where
   same-stream : a .stream ≡ b .stream
   same-stream = all-data a ∙ sym (all-data b)
 

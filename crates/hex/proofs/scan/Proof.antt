@@ -4,12 +4,12 @@ use borrow.Author.Needs.{needs}
 use Prim.Native.Nat.{_-_}
 use lib.ListN.{length}
 use Rattle.hex.proofs.Scans.{Here, here-start, here-stop, here-done, here-moved, moved-less, store-bounds, store-asks, here-store}
-use Rattle.text.proofs.Scans.{here-flash}
+use Rattle.text.proofs.Scans.{buffers, filling, here-flash}
 use Rattle.hex.proofs.scan.Statement.{statement}
 use Rattle.hex.proofs.scan.Tie as tie
 
 abbrev Inv-loop : tie.InvT-loop
-Inv-loop g text image₀ header₀ row₀ at₀ upper₀ due₀ image header row at upper due = Here g text image₀ header₀ image header at upper due
+Inv-loop g text image₀ header₀ row₀ at₀ upper₀ due₀ image header row at upper due = Here g text (buffers image₀ header₀) (filling image header due) at upper
 
 abbrev μ-loop : tie.MeasureT-loop
 μ-loop g text image₀ header₀ row₀ at₀ upper₀ due₀ image header row at upper due = length text - at

@@ -1,11 +1,11 @@
 -- The loop puts the pieces that are left. Assumes nothing.
 use native.Mathlib.Omega.{arith}
-use Rattle.hex_writer.proofs.Sections.{Piecing, start, turn, ended, piece-fits}
+use Rattle.hex_writer.proofs.Sections.{Piecing, cursor, start, turn, ended, piece-fits}
 use Rattle.hex_writer.proofs.put_section.Statement.{statement}
 use Rattle.hex_writer.proofs.put_section.Tie as tie
 
 abbrev Inv-loop : tie.InvT-loop
-Inv-loop text₀ address bytes w₀ a₀ from₀ left₀ text w a from left = Piecing text₀ w₀ address bytes text w a from left
+Inv-loop text₀ address bytes w₀ a₀ from₀ left₀ text w a from left = Piecing text₀ w₀ address bytes text (cursor w a from left)
 
 abbrev μ-loop : tie.MeasureT-loop
 μ-loop text₀ address bytes w₀ a₀ from₀ left₀ text w a from left = left

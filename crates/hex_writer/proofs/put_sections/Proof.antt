@@ -2,12 +2,12 @@
 use Prim.Native.Nat.{_-_}
 use native.Mathlib.Omega.{arith}
 use borrow.Author.Needs.{needs}
-use Rattle.hex_writer.proofs.Whole.{Through, start, asks, turn, ended}
+use Rattle.hex_writer.proofs.Whole.{Through, page, start, asks, turn, ended}
 use Rattle.hex_writer.proofs.put_sections.Statement.{statement}
 use Rattle.hex_writer.proofs.put_sections.Tie as tie
 
 abbrev Inv-loop : tie.InvT-loop
-Inv-loop text₀ g h bytes w₀ k₀ text w k = Through text₀ w₀ g h bytes text w k
+Inv-loop text₀ g h bytes w₀ k₀ text w k = Through (page text₀ w₀) g h bytes (page text w) k
 
 abbrev μ-loop : tie.MeasureT-loop
 μ-loop text₀ g h bytes w₀ k₀ text w k = 5 - k

@@ -3,12 +3,12 @@ use mathlib.Core.Path.{_≡_, refl}
 use native.Mathlib.Omega.{arith}
 use Rattle.pairs.specs.Digits.{digitOf}
 use Rattle.pairs.specs.Spelling.{digitsFrom}
-use Rattle.pairs.proofs.Spelling.{Spelling, start, turn, stops, ends, row-then, none-left, front-high, front-low}
+use Rattle.pairs.proofs.Spelling.{Spelling, cursor, start, turn, stops, ends, row-then, none-left, front-high, front-low}
 use Rattle.pairs.proofs.spell_pairs.Statement.{statement}
 use Rattle.pairs.proofs.spell_pairs.Tie as tie
 
 abbrev Inv-loop : tie.InvT-loop
-Inv-loop row₀ text p k table q₀ i₀ left₀ sum₀ row q i left sum = Spelling text p k row₀ row q i left sum
+Inv-loop row₀ text p k table q₀ i₀ left₀ sum₀ row q i left sum = Spelling text p k row₀ row (cursor q i left sum)
 
 abbrev μ-loop : tie.MeasureT-loop
 μ-loop row₀ text p k table q₀ i₀ left₀ sum₀ row q i left sum = left
