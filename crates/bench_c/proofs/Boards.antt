@@ -30,7 +30,8 @@ use Rattle.flow.specs.declared.Packet.{Packet}
 use Rattle.flow.specs.declared.Reply.{Reply}
 use Rattle.flow.specs.declared.Silicon.{Silicon}
 use Rattle.lent.specs.Words.{lowFirst}
-use Rattle.layout.proofs.Bytes.{sets-whole, put-in}
+use Rattle.layout.proofs.Bytes.{put-in}
+use Rattle.lent.proofs.Lists.{sets-whole}
 use Rattle.layout.specs.Bytes.{flagByte, wordPut}
 use Rattle.parts.proofs.Table.{both}
 use Rattle.parts.specs.Parts.{lookupOf}

@@ -7,7 +7,7 @@ use lib.ListN.{length, getD, set, take, drop, replicate, length-set, length-appe
 use lib.Seq.{sets, getD-drop, take-all, length-take-le}
 use Rattle.flow.specs.Calls.{bytesIn}
 use Rattle.flow.specs.Target.{sized}
-use Rattle.flow.proofs.Lists.{sets-whole}
+use Rattle.lent.proofs.Lists.{sets-whole}
 use Rattle.lent.specs.Words.{lowFirst}
 
 sets-cons : (y : ℕ) (l : List ℕ) (o : ℕ) (x : List ℕ) → sets (y ∷ l) (suc o) x ≡ y ∷ sets l o x

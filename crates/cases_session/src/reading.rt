@@ -28,7 +28,7 @@ pub struct Case {
 }
 
 fn number() -> u32 {
-    let n = cases::read_number(4294967295);
+    let n = cases::read_number(0xFFFFFFFF);
     n.value
 }
 

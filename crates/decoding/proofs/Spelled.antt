@@ -40,13 +40,13 @@ flag-byte n h = by (eqb n 1) refl
     by false e = let z = eqb-false n 1 e in omega arith
 
 module _ (a b c d : ℕ) (ha : a < 256) (hb : b < 256) (hc : c < 256) (hd : d < 256) where
-  four : lowFirst 4 (a + 256 * b + 65536 * c + 16777216 * d) ≡ a ∷ b ∷ c ∷ d ∷ []
+  four : lowFirst 4 (a + 256 * b + 0x10000 * c + 0x1000000 * d) ≡ a ∷ b ∷ c ∷ d ∷ []
   four =
-      let w = a + 256 * b + 65536 * c + 16777216 * d in
+      let w = a + 256 * b + 0x10000 * c + 0x1000000 * d in
       let e : w % 256 ≡ a = omega arith in
-      let rest : w / 256 ≡ b + 256 * c + 65536 * d = omega arith in
-      let f : (b + 256 * c + 65536 * d) % 256 ≡ b = omega arith in
-      let rest₂ : (b + 256 * c + 65536 * d) / 256 ≡ c + 256 * d = omega arith in
+      let rest : w / 256 ≡ b + 256 * c + 0x10000 * d = omega arith in
+      let f : (b + 256 * c + 0x10000 * d) % 256 ≡ b = omega arith in
+      let rest₂ : (b + 256 * c + 0x10000 * d) / 256 ≡ c + 256 * d = omega arith in
       let g : (c + 256 * d) % 256 ≡ c = omega arith in
       let rest₃ : (c + 256 * d) / 256 ≡ d = omega arith in
       let h : d % 256 ≡ d = omega arith in

@@ -1,5 +1,5 @@
 -- A run of turns is a list of steps, and demand 3 says how it ends. Assumes nothing.
-use mathlib.Core.Bool.{Bool, true, false, false≢true, _&&_}
+use mathlib.Core.Bool.{Bool, true, false, false≢true, _&&_, and-false}
 use mathlib.Core.List.{List, [], _∷_, _++_}
 use mathlib.Core.Path.{_≡_, refl, sym, ap, subst, _∙_}
 use Prim.Native.Nat.{ℕ, suc, _+_, _≤_, _<_}
@@ -63,10 +63,6 @@ calm-used {left} u = record { line = rw (nothing-used (u .line) (left .line) (u 
 start-taken : (h : Header) (bytes : List ℕ) → imageFault h bytes ≡ 0 → startOf h bytes true ≡ startedOn h
 unfolding startOf
 start-taken h bytes e = rw (e, and-false (eqb (h .level) 4)) refl
-  where
-    and-false : (a : Bool) → a && false ≡ false
-    and-false true = refl
-    and-false false = refl
 
 unrefused : (h : Header) (bytes : List ℕ) → imageFault h bytes ≡ 0 → (n : ℕ) → ¬ ((startOf h bytes true) .outcome ≡ Refused n)
 unrefused h bytes e n f =

@@ -30,7 +30,7 @@ use Rattle.flow.proofs.Access.{barred-off}
 use Rattle.flow.proofs.Decoding.{attempt, meets}
 use Rattle.flow.proofs.Hearing.{listsAfter, Heard, heardOkay, heardWait, heardError, heardErrorDone, hears}
 use Rattle.flow.proofs.Reaches.{Allowance, Env, tally, seen, sync, after, Frame, Lasting, at-rest, OnPlan, at-move, at-next, Turn, without, same-running, Reaches, stop, Onto, steps}
-use Rattle.flow.proofs.Transfer.{more, passed, calm-event, calm-rest}
+use Rattle.flow.proofs.Transfer.{more, passed, not-calm, calm-rest}
 use Rattle.image.specs.Image.{Image}
 
 -- after a reset
@@ -113,9 +113,6 @@ module _ {i : Image} (f : Frame i) where
       met : Run
       met = tried (metBy b e₁) s (position y (suc n)) (tally 0 a k) t e₁
 
-      not-calm : ((nextEvent (e .lists .line)) .outcome ≡ Clean → ⊥) → f .Still → ⊥
-      not-calm bad still = bad (calm-event ((st .calm still) .line))
-
       moved : OnPlan f y (suc n) (move s ReadIdcode Idcode ∷ ms) (afterLine m κ) e₁ → OnPlan f y (suc (suc n)) ms κ (passed (listsAfter (i .geometry) ReadIdcode b (e .lists)) e₁)
       moved st₁ = record {
         at = at-next st₁;
@@ -139,9 +136,9 @@ module _ {i : Image} (f : Frame i) where
 
       by : OnPlan f y (suc n) (move s ReadIdcode Idcode ∷ ms) (afterLine m κ) e₁ → Heard (i .geometry) ReadIdcode (e .lists) b (metBy b e₁) → Onto f s z b met
       by st₁ (heardOkay hb hv hl) = rw (hb, hv, hl) (going-on same (fit st₁ (eqb (b .silicon .idcode) 0x0BB11477) refl))
-      by st₁ (heardWait bad hb hv hl) = rw (hb, hv, hl) (going-on same (onMiss (not-calm bad) _ st₁))
-      by st₁ (heardError c hn bad hb hv) = rw (hb, hv) (going-on same (onMiss (not-calm bad) _ st₁))
-      by st₁ (heardErrorDone c hn bad hb hv) = rw (hb, hv) (going-on same (onMiss (not-calm bad) _ st₁))
+      by st₁ (heardWait bad hb hv hl) = rw (hb, hv, hl) (going-on same (onMiss (not-calm st bad) _ st₁))
+      by st₁ (heardError c hn bad hb hv) = rw (hb, hv) (going-on same (onMiss (not-calm st bad) _ st₁))
+      by st₁ (heardErrorDone c hn bad hb hv) = rw (hb, hv) (going-on same (onMiss (not-calm st bad) _ st₁))
 
   -- the attempts; after this one m more are allowed
   pub attempts : (m s : ℕ) {z : Bool} {y : Entry} {n : ℕ} {ms : List Move} {κ : Allowance} {e : Env} (a k : ℕ) (b : Target) (t : Watch)

@@ -1,5 +1,5 @@
 -- A call, whatever the line and the target do. Assumes nothing.
-use mathlib.Core.Bool.{Bool, true, false}
+use mathlib.Core.Bool.{Bool, true, false, and-false}
 use mathlib.Core.List.{List, [], _++_}
 use mathlib.Core.Path.{_≡_, refl, sym}
 use Prim.Native.Nat.{ℕ, _+_, _*_, _/_, _%_, _<_}
@@ -24,7 +24,7 @@ use Rattle.flow.proofs.Access.{aim, Answering, admits, write-reaches, c
 use Rattle.flow.proofs.Legs.{core}
 use Rattle.flow.proofs.Table.{place-sysreq, place-sysarg, Facts}
 use Rattle.flow.proofs.Polling.{idleAt, during, looping, loopAt, poll-busy}
-use Rattle.flow.proofs.Reaches.{Allowance, withTransfer, withMoves, Env, sync, Frame, at-rest, OnPlan, OnPlanFor, less-room, Turn, without, reopening, sealing, and-false, Reaches, stop, tally}
+use Rattle.flow.proofs.Reaches.{Allowance, withTransfer, withMoves, Env, sync, Frame, at-rest, OnPlan, OnPlanFor, less-room, Turn, without, reopening, sealing, Reaches, stop, tally}
 use Rattle.image.specs.Image.{Image}
 use Rattle.parts.specs.Sizes.{sysreqOf, sysargOf}
 use Rattle.parts.specs.declared.Geometry.{Geometry}

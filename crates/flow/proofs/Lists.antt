@@ -1,10 +1,10 @@
 -- Words and bytes; bytes laid over a list. Assumes nothing.
-use mathlib.Core.List.{List, [], _∷_, _++_, append-assoc, append-nil}
+use mathlib.Core.List.{List, [], _∷_, _++_, append-assoc}
 use mathlib.Core.Path.{_≡_, refl, ap, _∙_, sym}
 use Prim.Native.Nat.{ℕ, zero, suc, _+_, _*_, _-_, _/_, _%_, _≤_, _<_}
 use native.Mathlib.Numerals.{towards-suc}
 use native.Mathlib.Omega.{arith}
-use lib.ListN.{length, getD, set, take, drop, replicate, length-append, length-take, length-drop, drop-of-length-le, take-append-drop}
+use lib.ListN.{length, getD, set, take, drop, replicate, length-append, length-take, length-drop, take-append-drop}
 use lib.Seq.{sets, sets-eq, drop-cons, drop-drop, drop-at, getD-drop, append-snoc, set-append-seam, length-take-le, take-at}
 use Rattle.flow.specs.Calls.{bytesIn}
 use Rattle.lent.specs.Words.{total, wordAt, lowFirst, wordsAt}
@@ -85,9 +85,6 @@ same-word a b o k h = rw (at k, at′ 1, at′ 2, at′ 3)
 
     at′ : (j : ℕ) → getD a (o + k + j) 0 ≡ getD b (o + k + j) 0
     at′ j = let e : o + k + j ≡ o + (k + j) = omega arith in rw e (at (k + j))
-
-pub sets-whole : (l x : List ℕ) → length x ≡ length l → sets l 0 x ≡ x
-sets-whole l x h = sets-eq x l 0 (omega arith) ∙ rw (drop-of-length-le l {i = 0 + length x} (omega arith)) (append-nil x)
 
 -- one word behind those of `pre`
 pub set-next : (pre tl : List ℕ) (w : ℕ) → 1 ≤ length tl → set (pre ++ tl) (length pre) w ≡ (pre ++ (w ∷ [])) ++ drop 1 tl

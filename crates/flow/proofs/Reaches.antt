@@ -6,7 +6,7 @@ use native.Mathlib.Omega.{arith}
 use lib.Dec.{eqb}
 use lib.ListN.{getD, drop}
 use lib.Seq.{getD-drop, drop-drop}
-use mathlib.Core.Bool.{Bool, true, false, _&&_, not}
+use mathlib.Core.Bool.{Bool, true, false, _&&_, not, and-false}
 use Rattle.flow.specs.Terms.{CalmLine, CalmCalls, NoError}
 use Rattle.flow.specs.Cuts.{cutMemory}
 use Rattle.flow.specs.Monitor.{Monitor, Waits, noWaits, Seen, watching, linkError, Watch, Delays, delayed}
@@ -122,10 +122,6 @@ pub data Turn (s : ℕ) : (before : Bool) → Target → Target → (after : Boo
   without : {z : Bool} {b b′ : Target} → succeeds0 b b′ ≡ false → Turn s z b b′ z
   reopening : {b b′ : Target} → seals b b′ ≡ false → s ≡ 3 → Turn s false b b′ false
   sealing : {b b′ : Target} → seals b b′ ≡ true → s ≡ 7 → Turn s false b b′ true
-
-pub and-false : (y : Bool) → y && false ≡ false
-and-false true = refl
-and-false false = refl
 
 -- a call that is not over has not succeeded
 pub not-idle : (b b′ : Target) → isIdle (b′ .running) ≡ false → succeeds0 b b′ ≡ false

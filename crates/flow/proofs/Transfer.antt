@@ -41,9 +41,14 @@ passed l e = record { lists = l; delays = e .delays; traffic = more (e .traffic)
 abbrev waiting : ℕ → Allowance → Allowance
 waiting v κ = record { due = suc (κ .due); room = suc v + κ .room; xres = κ .xres; lines = κ .lines }
 
-pub calm-event : {l : List LineEvent} → CalmLine l → (nextEvent l) .outcome ≡ Clean
+calm-event : {l : List LineEvent} → CalmLine l → (nextEvent l) .outcome ≡ Clean
 calm-event calmEnd = refl
 calm-event (calmEvent h c) = h
+
+-- a list with such an event is not calm
+pub not-calm : {i : Image} {f : Frame i} {y : Entry} {n : ℕ} {ms : List Move} {κ : Allowance} {e : Env} → OnPlan f y n ms κ e
+    → ((nextEvent (e .lists .line)) .outcome ≡ Clean → ⊥) → f .Still → ⊥
+not-calm st bad still = bad (calm-event ((st .calm still) .line))
 
 pub calm-rest : {l : List LineEvent} → CalmLine l → CalmLine (rest l)
 calm-rest calmEnd = calmEnd
@@ -116,9 +121,6 @@ module _ {i : Image} (f : Frame i) where
       (arrives h c b t st)
       (by (hears (i .geometry) (e .lists) b (plain h) not-killed free))
     where
-      not-calm : ((nextEvent (e .lists .line)) .outcome ≡ Clean → ⊥) → f .Still → ⊥
-      not-calm bad still = bad (calm-event ((st .calm still) .line))
-
       met : Run
       met = after (heardBy false i u (verdict q ((metBy q b e) .answer)) c) (position y n) s ((metBy q b e) .target) (sees (i .geometry) q (verdict q ((metBy q b e) .answer)) c t (e .delays)) (passed ((metBy q b e) .lists) e)
 
@@ -139,10 +141,10 @@ module _ {i : Image} (f : Frame i) where
 
       by : Heard (i .geometry) q (e .lists) b (metBy q b e) → Onto f s z b met
       by (heardOkay hb hv hl) = rw (hb, hv, hl) (record { sealed = z′; turn = turn ((nextEvent (e .lists .line)) .other); reaches = next ((nextEvent (e .lists .line)) .other) moved })
-      by (heardWait bad hb hv hl) = rw (hb, hv, hl) (record { sealed = z; turn = same; reaches = onWait (not-calm bad) })
-      by (heardError x hn bad hb hv) = rw (hb, hv) (record { sealed = z; turn = same; reaches = stop (f .caught x s b _ (more (e .traffic)) hn (not-calm bad) safe) })
+      by (heardWait bad hb hv hl) = rw (hb, hv, hl) (record { sealed = z; turn = same; reaches = onWait (not-calm st bad) })
+      by (heardError x hn bad hb hv) = rw (hb, hv) (record { sealed = z; turn = same; reaches = stop (f .caught x s b _ (more (e .traffic)) hn (not-calm st bad) safe) })
       by (heardErrorDone x hn bad hb hv) =
-          rw (hb, hv) (record { sealed = z′; turn = turn ((nextEvent (e .lists .line)) .other); reaches = stop (f .caught x s _ _ (more (e .traffic)) hn (not-calm bad) (safe′ ((nextEvent (e .lists .line)) .other))) })
+          rw (hb, hv) (record { sealed = z′; turn = turn ((nextEvent (e .lists .line)) .other); reaches = stop (f .caught x s _ _ (more (e .traffic)) hn (not-calm st bad) (safe′ ((nextEvent (e .lists .line)) .other))) })
 
   -- v more repeats are allowed
   transfer-from : (v : ℕ) {z z′ : Bool} {q : Request} → Plain q → {s : ℕ} {u : Purpose} {y : Entry} {n : ℕ} {ms : List Move} {κ : Allowance} (e : Env) (c : Counters) (b : Target) (t : Watch)

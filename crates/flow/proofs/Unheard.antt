@@ -1,6 +1,6 @@
 -- The success that seals a board can go unheard: with the line clean up to that transfer, and the transfer carried out but answered by
 -- silence, the session reports 29. Assumes nothing.
-use mathlib.Core.Bool.{Bool, true, false, false≢true, _&&_, not, cond}
+use mathlib.Core.Bool.{Bool, true, false, false≢true, _&&_, not, cond, and-false}
 use mathlib.Core.List.{List, [], _∷_}
 use mathlib.Core.Path.{_≡_, refl, ap, sym, _∙_}
 use Prim.Native.Nat.{ℕ, zero, suc}
@@ -29,7 +29,7 @@ use Rattle.flow.proofs.Calling.{failed}
 use Rattle.flow.proofs.Decoding.{attempt, decodes}
 use Rattle.flow.proofs.Hearing.{silence-heard}
 use Rattle.flow.proofs.Keeping.{carried-keeps}
-use Rattle.flow.proofs.Reaches.{same-running, no-seal, and-false}
+use Rattle.flow.proofs.Reaches.{same-running, no-seal}
 use Rattle.image.specs.Image.{Image}
 use Rattle.parts.specs.declared.Geometry.{Geometry}
 

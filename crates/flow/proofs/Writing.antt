@@ -17,7 +17,8 @@ use Rattle.flow.proofs.Calling.{Ends, ordinary, locking, asked, Returne
 use Rattle.flow.proofs.Counting.{length-words}
 use Rattle.flow.proofs.Legs.{core, Leg, halt, leg-pieces}
 use Rattle.flow.proofs.Listing.{ListReturned, listing}
-use Rattle.flow.proofs.Lists.{Small, sent-bytes, length-part, take-sets, sets-whole, drop-sets, drop-parts}
+use Rattle.lent.proofs.Lists.{sets-whole}
+use Rattle.flow.proofs.Lists.{Small, sent-bytes, length-part, take-sets, drop-sets, drop-parts}
 use Rattle.flow.proofs.Phases.{Valid, Wrote, plain-call, Level, isOpen, isProtected, isKill, Locked, levelAfter, level-safe, callD, still-opened}
 use Rattle.flow.proofs.Reaches.{Frame, split}
 use Rattle.flow.proofs.Table.{Facts}

@@ -50,5 +50,5 @@ pub none-cancels : (size n : ℕ) (l : List ℕ) → Zeros l → someCancels siz
 unfolding someCancels cancels
 none-cancels size zero l z = refl
 none-cancels size (suc n) l z =
-    rw (and-not (eqb (total (rowWords (take size l)) % 4294967296) 0) (allZero (rowWords (take size l))) (words-zero (take size l) (zeros-take size l z) 0 (length (take size l) / 4)))
+    rw (and-not (eqb (total (rowWords (take size l)) % 0x100000000) 0) (allZero (rowWords (take size l))) (words-zero (take size l) (zeros-take size l z) 0 (length (take size l) / 4)))
     (none-cancels size n (drop size l) (zeros-drop size l z))

@@ -17,9 +17,9 @@ use Rattle.pairs.specs.Lines.{linesOf}
 event-carries : (u : ℕ) (r : Record) → Carries (eventOf u r) (payloadOf r)
 unfolding eventOf
 event-carries u (BadRecord n) = tt
-event-carries u (DataRecord low bs) = go (leb (low + length bs) 65536) refl
+event-carries u (DataRecord low bs) = go (leb (low + length bs) 0x10000) refl
   where
-    go : (b : Bool) → leb (low + length bs) 65536 ≡ b → Carries (eventOf u (DataRecord low bs)) bs
+    go : (b : Bool) → leb (low + length bs) 0x10000 ≡ b → Carries (eventOf u (DataRecord low bs)) bs
     go true e = rw e refl
     go false e = rw e tt
 event-carries u (ExtendedAddress new) = refl

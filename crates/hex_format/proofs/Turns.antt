@@ -57,21 +57,21 @@ module _ (s : List ℕ) (at next u low count : ℕ) (due : Section) (row : List 
   rest : List Event
   rest = events u (linesOf (drop next s))
 
-  crosses : leb (low + count) 65536 ≡ false → (ds : List Section) → contentAt s at u ds ≡ Refusal 4
+  crosses : leb (low + count) 0x10000 ≡ false → (ds : List Section) → contentAt s at u ds ≡ Refusal 4
   unfolding eventOf upperAfter placing
   crosses h ds = onward s at next u (DataRecord low (payloadIn row count)) ds l ∙ rw (size, h)
 
-  fits-line : leb (low + count) 65536 ≡ true → (ds : List Section) → contentAt s at u ds ≡ placing ds (Data (65536 * u + low) (payloadIn row count) ∷ rest)
+  fits-line : leb (low + count) 0x10000 ≡ true → (ds : List Section) → contentAt s at u ds ≡ placing ds (Data (0x10000 * u + low) (payloadIn row count) ∷ rest)
   unfolding eventOf upperAfter rest
   fits-line h ds = onward s at next u (DataRecord low (payloadIn row count)) ds l ∙ rw (size, h)
 
-  no-place : (b : Bool) → (eqb (65536 * u + low) (due .address) && leb count (due .size)) ≡ false → (ss : List Section)
-      → placing (cond b [] (due ∷ ss)) (Data (65536 * u + low) (payloadIn row count) ∷ rest) ≡ Refusal 4
+  no-place : (b : Bool) → (eqb (0x10000 * u + low) (due .address) && leb count (due .size)) ≡ false → (ss : List Section)
+      → placing (cond b [] (due ∷ ss)) (Data (0x10000 * u + low) (payloadIn row count) ∷ rest) ≡ Refusal 4
   unfolding placing
   no-place true h ss = refl
   no-place false h ss = rw size (rw h)
 
-  by-tests : (a b c : Bool) → leb (low + count) 65536 ≡ a → eqb (65536 * u + low) (due .address) ≡ b → leb count (due .size) ≡ c
+  by-tests : (a b c : Bool) → leb (low + count) 0x10000 ≡ a → eqb (0x10000 * u + low) (due .address) ≡ b → leb count (due .size) ≡ c
       → TurnAt s at u due (cond (a && (b && c)) (Store count next) (Stop 4)) row
   unfolding placing rest
   by-tests true true true p q r =
@@ -82,7 +82,7 @@ module _ (s : List ℕ) (at next u low count : ℕ) (due : Section) (row : List 
 
   pub data-turn : TurnAt s at u due (dataTurn due u low count next) row
   unfolding dataTurn
-  data-turn = by-tests (leb (low + count) 65536) (eqb (65536 * u + low) (due .address)) (leb count (due .size)) refl refl refl
+  data-turn = by-tests (leb (low + count) 0x10000) (eqb (0x10000 * u + low) (due .address)) (leb count (due .size)) refl refl refl
 
 -- the end record
 module _ (s : List ℕ) (at next u : ℕ) (due : Section) (row : List ℕ) (l : LineTo s at next EndRecord) where

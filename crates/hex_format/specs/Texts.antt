@@ -20,7 +20,7 @@ upperAfter upper EndRecord = upper
 -- what a record says while the upper half is so; 'a record crosses neither its section's end nor a 64 KiB line' (4)
 unfoldable pub eventOf : (upper : ℕ) → Record → Event
 eventOf upper (BadRecord n) = Bad n
-eventOf upper (DataRecord low bs) = cond (leb (low + length bs) 65536) (Data (65536 * upper + low) bs) (Bad 4)
+eventOf upper (DataRecord low bs) = cond (leb (low + length bs) 0x10000) (Data (0x10000 * upper + low) bs) (Bad 4)
 eventOf upper (ExtendedAddress new) = Other
 eventOf upper EndRecord = End
 

@@ -19,7 +19,7 @@ contentAt text at upper due = placing due (events upper (linesOf (drop at text))
 
 unfoldable pub dataTurn : Section → (upper low count next : ℕ) → Turn
 dataTurn due upper low count next =
-    cond (leb (low + count) 65536 && (eqb (65536 * upper + low) (due .address) && leb count (due .size))) (Store count next) (Stop 4)
+    cond (leb (low + count) 0x10000 && (eqb (0x10000 * upper + low) (due .address) && leb count (due .size))) (Store count next) (Stop 4)
 
 unfoldable pub endTurn : Section → (next len : ℕ) → Turn
 endTurn due next len = cond (eqb (due .size) 0 && eqb next len) Done (Stop 5)

@@ -32,10 +32,10 @@ endLine = 58 ∷ 48 ∷ 48 ∷ 48 ∷ 48 ∷ 48 ∷ 48 ∷ 48 ∷ 49 ∷ 70 ∷ 
 
 -- the halves of an address
 abbrev pub upperOf : ℕ → ℕ
-upperOf a = a / 65536
+upperOf a = a / 0x10000
 
 abbrev pub lowOf : ℕ → ℕ
-lowOf a = a % 65536
+lowOf a = a % 0x10000
 
 -- '.. and at each new upper half'
 abbrev pub newUpper : (upper new : ℕ) → List ℕ
@@ -53,7 +53,7 @@ writtenText ps = extendedLine 0 ++ (linesFrom 0 ps ++ endLine)
 
 -- the text's length: 17 bytes for each upper half, 13 for each data record and the end record, 2 for each byte of data
 abbrev pub uppersIn : Section → ℕ
-uppersIn s = (s .size + 65535) / 65536
+uppersIn s = (s .size + 65535) / 0x10000
 
 unfoldable pub writtenLength : List Section → ℕ
 writtenLength ss = 17 * overall uppersIn ss + 13 * (overall piecesIn ss + 1) + 2 * overall (λ s. s .size) ss

@@ -18,10 +18,10 @@ fn data_turn(due: Section, upper: u16, low: u16, count: usize, next: usize) -> T
     requires { ⌜ count ≤ 255 ⌝ }
     ensures { λ r. ⌜ r ≡ dataTurn due upper low count next ⌝ }
 {
-    if 65536 < (low as usize) + count {
+    if 0x10000 < (low as usize) + count {
         return Turn::Stop(4);
     }
-    if 65536 * (upper as u32) + (low as u32) != due.address {
+    if 0x10000 * (upper as u32) + (low as u32) != due.address {
         return Turn::Stop(4);
     }
     if due.size < count {

@@ -55,44 +55,44 @@ adds all new here rest next last u v n size h a b c d = omega arith
 
 -- the lines of a section's pieces, from a place on that 64 divides
 pub cut-lines : (n a u size : ℕ) (bs : List ℕ) → length bs ≡ size → 0 < size → n ≡ (size + 63) / 64 → a % 64 ≡ 0
-    → length (linesFrom u (cut n a bs)) + 17 * (a / 65536) ≡ length (newUpper u (a / 65536)) + 17 * ((a + size - 1) / 65536) + 13 * n + 2 * size
+    → length (linesFrom u (cut n a bs)) + 17 * (a / 0x10000) ≡ length (newUpper u (a / 0x10000)) + 17 * ((a + size - 1) / 0x10000) + 13 * n + 2 * size
 unfolding cut linesFrom
 cut-lines zero a u size bs l some c d = absurd (omega arith)
 cut-lines (suc zero) a u size bs l some c d =
-    let e : (a + size - 1) / 65536 ≡ a / 65536 = omega arith in
+    let e : (a + size - 1) / 0x10000 ≡ a / 0x10000 = omega arith in
     let t : length (take 64 bs) ≡ size = omega (arith, length-take 64 bs) in
     let z : length (linesFrom (upperOf a) []) ≡ 0 = refl in
     omega (arith, lines-cons u (record { address = a; bytes = take 64 bs }) [])
 cut-lines (suc (suc n)) a u size bs l some c d =
     let big : 64 < size = omega arith in
-    let more = cut-lines (suc n) (a + 64) (a / 65536) (size - 64) (drop 64 bs) (omega (arith, length-drop 64 bs)) (omega arith) (omega arith) (omega arith) in
+    let more = cut-lines (suc n) (a + 64) (a / 0x10000) (size - 64) (drop 64 bs) (omega (arith, length-drop 64 bs)) (omega arith) (omega arith) (omega arith) in
     let e : a + 64 + (size - 64) - 1 ≡ a + size - 1 = omega arith in
-    adds _ _ _ _ _ _ (a / 65536) ((a + 64) / 65536) n size
+    adds _ _ _ _ _ _ (a / 0x10000) ((a + 64) / 0x10000) n size
     (length-take 64 bs ∙ omega arith)
     (lines-cons u (record { address = a; bytes = take 64 bs }) (cut (suc n) (a + 64) (drop 64 bs)))
     (rw e at more)
-    (steps (a / 65536) ((a + 64) / 65536) (omega arith) (omega arith))
+    (steps (a / 0x10000) ((a + 64) / 0x10000) (omega arith) (omega arith))
     big
 
-pub cut-past : (n a u size : ℕ) (bs : List ℕ) → 0 < size → n ≡ (size + 63) / 64 → a % 64 ≡ 0 → upperPast u (cut n a bs) ≡ (a + size - 1) / 65536
+pub cut-past : (n a u size : ℕ) (bs : List ℕ) → 0 < size → n ≡ (size + 63) / 64 → a % 64 ≡ 0 → upperPast u (cut n a bs) ≡ (a + size - 1) / 0x10000
 unfolding cut upperPast
 cut-past zero a u size bs some c d = absurd (omega arith)
 cut-past (suc zero) a u size bs some c d = omega arith
 cut-past (suc (suc n)) a u size bs some c d =
     let e : a + 64 + (size - 64) - 1 ≡ a + size - 1 = omega arith in
-    rw e at (cut-past (suc n) (a + 64) (a / 65536) (size - 64) (drop 64 bs) (omega arith) (omega arith) (omega arith))
+    rw e at (cut-past (suc n) (a + 64) (a / 0x10000) (size - 64) (drop 64 bs) (omega arith) (omega arith) (omega arith))
 
 -- sections with bytes, each from a 64 KiB line on, none of which goes on in the upper half that the one before it leaves
 abbrev pub Apart : (Section → List ℕ) → (upper : ℕ) → List Section → Type 0
 Apart f u [] = Unit {0}
 Apart f u (s ∷ ss) =
-    (0 < s .size) × (length (f s) ≡ s .size) × (s .address % 65536 ≡ 0) × (s .address / 65536 ≡ u → ⊥) × Apart f ((s .address + s .size - 1) / 65536) ss
+    (0 < s .size) × (length (f s) ≡ s .size) × (s .address % 0x10000 ≡ 0) × (s .address / 0x10000 ≡ u → ⊥) × Apart f ((s .address + s .size - 1) / 0x10000) ss
 
-pub section-lines : (u a size : ℕ) (bs : List ℕ) → length bs ≡ size → 0 < size → a % 65536 ≡ 0
-    → length (linesFrom u (cut ((size + 63) / 64) a bs)) ≡ length (newUpper u (a / 65536)) + 17 * ((size - 1) / 65536) + 13 * ((size + 63) / 64) + 2 * size
+pub section-lines : (u a size : ℕ) (bs : List ℕ) → length bs ≡ size → 0 < size → a % 0x10000 ≡ 0
+    → length (linesFrom u (cut ((size + 63) / 64) a bs)) ≡ length (newUpper u (a / 0x10000)) + 17 * ((size - 1) / 0x10000) + 13 * ((size + 63) / 64) + 2 * size
 section-lines u a size bs l some d =
     let c = cut-lines ((size + 63) / 64) a u size bs l some refl (omega arith) in
-    let e : (a + size - 1) / 65536 ≡ a / 65536 + (size - 1) / 65536 = omega arith in
+    let e : (a + size - 1) / 0x10000 ≡ a / 0x10000 + (size - 1) / 0x10000 = omega arith in
     omega arith
 
 pub all-lines : (f : Section → List ℕ) (u : ℕ) (ss : List Section) → Apart f u ss → length (linesFrom u (pieces f ss)) ≡ overall linesLength ss
@@ -101,12 +101,12 @@ all-lines f u [] a = refl
 all-lines f u (s ∷ ss) a =
     let here = section-lines u (s .address) (s .size) (f s) (a .1) (a .0) (a .2) in
     let past = cut-past (piecesIn s) (s .address) u (s .size) (f s) (a .0) refl (omega (arith, a .2)) in
-    let rest = all-lines f ((s .address + s .size - 1) / 65536) ss (a .4) in
+    let rest = all-lines f ((s .address + s .size - 1) / 0x10000) ss (a .4) in
     let some = a .0 in
     omega (
       arith,
       here,
-      moves u (s .address / 65536) (a .3),
+      moves u (s .address / 0x10000) (a .3),
       rest,
       ap length (lines-append u (cut (piecesIn s) (s .address) (f s)) (pieces f ss)),
       length-append (linesFrom u (cut (piecesIn s) (s .address) (f s))) (linesFrom (upperPast u (cut (piecesIn s) (s .address) (f s))) (pieces f ss)),
@@ -115,18 +115,18 @@ all-lines f u (s ∷ ss) a =
 
 -- 'a type 4 record first': the first section's upper half is written before it
 pub first-lines : (f : Section → List ℕ) (s : Section) (ss : List Section) → 0 < s .size → length (f s) ≡ s .size → s .address ≡ 0
-    → Apart f ((s .size - 1) / 65536) ss
+    → Apart f ((s .size - 1) / 0x10000) ss
     → 17 + length (linesFrom 0 (pieces f (s ∷ ss))) ≡ overall linesLength (s ∷ ss)
 unfolding pieces overall
 first-lines f s ss some size begins rest =
     let here = section-lines 0 (s .address) (s .size) (f s) size some (omega arith) in
-    let past : upperPast 0 (cut (piecesIn s) (s .address) (f s)) ≡ (s .size - 1) / 65536 =
+    let past : upperPast 0 (cut (piecesIn s) (s .address) (f s)) ≡ (s .size - 1) / 0x10000 =
     cut-past (piecesIn s) (s .address) 0 (s .size) (f s) some refl (omega arith) ∙ omega arith in
     omega (
       arith,
       here,
-      stays 0 (s .address / 65536) (omega arith),
-      all-lines f ((s .size - 1) / 65536) ss rest,
+      stays 0 (s .address / 0x10000) (omega arith),
+      all-lines f ((s .size - 1) / 0x10000) ss rest,
       ap length (lines-append 0 (cut (piecesIn s) (s .address) (f s)) (pieces f ss)),
       length-append (linesFrom 0 (cut (piecesIn s) (s .address) (f s))) (linesFrom (upperPast 0 (cut (piecesIn s) (s .address) (f s))) (pieces f ss)),
       ap (λ (v : ℕ). length (linesFrom v (pieces f ss))) past,
@@ -134,7 +134,7 @@ first-lines f s ss some size begins rest =
 
 -- the text of an image has the length that the formula says
 module _ {g : Geometry} {h : Header} {bytes : List ℕ} (z : Sized g h bytes) where
-  all-apart : Apart (sectionBytes g h bytes) ((flashSize g - 1) / 65536) (drop 1 (sectionsOf g))
+  all-apart : Apart (sectionBytes g h bytes) ((flashSize g - 1) / 0x10000) (drop 1 (sectionsOf g))
   all-apart =
       let f = z .sizes .flash-most in
       let l = z .sizes .locks-most in

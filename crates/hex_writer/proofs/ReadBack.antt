@@ -55,7 +55,7 @@ module _ (bs rest : List ℕ) (all : AllBytes bs) where
   line-events u r e = rw first-line (rw (its-record ∙ e))
 
 -- the records of the three kinds of lines
-module _ (low : ℕ) (payload : List ℕ) (small : low < 65536) (some : 0 < length payload) where
+module _ (low : ℕ) (payload : List ℕ) (small : low < 0x10000) (some : 0 < length payload) where
   abbrev head : List ℕ
   head = length payload ∷ low / 256 ∷ low % 256 ∷ 0 ∷ []
 
@@ -69,7 +69,7 @@ module _ (low : ℕ) (payload : List ℕ) (small : low < 65536) (some : 0 < leng
       let t = take-at payload (sumByte (head ++ payload) ∷ []) (length payload) refl in
       rw (eq-eqb _ _ n, eq-eqb _ _ z, t, le-leb 1 (length payload) some, l)
 
-extended-record : (upper : ℕ) → upper < 65536 → recordOf (withSum (2 ∷ 0 ∷ 0 ∷ 4 ∷ upper / 256 ∷ upper % 256 ∷ [])) ≡ ExtendedAddress upper
+extended-record : (upper : ℕ) → upper < 0x10000 → recordOf (withSum (2 ∷ 0 ∷ 0 ∷ 4 ∷ upper / 256 ∷ upper % 256 ∷ [])) ≡ ExtendedAddress upper
 unfolding recordOf typed
 extended-record upper h =
     let z = sums-to-zero (2 ∷ 0 ∷ 0 ∷ 4 ∷ upper / 256 ∷ upper % 256 ∷ []) in
@@ -81,22 +81,22 @@ pub end-events : (u : ℕ) → events u (linesOf endLine) ≡ End ∷ []
 unfolding events linesOf onto lineRecord ofBody ofSpelt recordOf typed total digitOf spelt withByte withoutCR eventOf upperAfter
 end-events u = refl
 
-extended-events : (u v : ℕ) (rest : List ℕ) → v < 65536 → events u (linesOf (extendedLine v ++ rest)) ≡ Other ∷ events v (linesOf rest)
+extended-events : (u v : ℕ) (rest : List ℕ) → v < 0x10000 → events u (linesOf (extendedLine v ++ rest)) ≡ Other ∷ events v (linesOf rest)
 unfolding eventOf upperAfter
 extended-events u v rest h =
     line-events (2 ∷ 0 ∷ 0 ∷ 4 ∷ v / 256 ∷ v % 256 ∷ []) rest (omega arith, (omega arith, (omega arith, (omega arith, (omega arith, (omega arith, tt)))))) u (ExtendedAddress v) (extended-record v h)
 
 data-events : (p : Piece) (rest : List ℕ) → FitsRecord p
     → events (upperOf (p .address)) (linesOf (dataLine (lowOf (p .address)) (p .bytes) ++ rest))
-    ≡ Data (65536 * upperOf (p .address) + lowOf (p .address)) (p .bytes) ∷ events (upperOf (p .address)) (linesOf rest)
+    ≡ Data (0x10000 * upperOf (p .address) + lowOf (p .address)) (p .bytes) ∷ events (upperOf (p .address)) (linesOf rest)
 unfolding eventOf upperAfter
 data-events p rest n =
     let low = lowOf (p .address) in
-    let small : low < 65536 = omega arith in
+    let small : low < 0x10000 = omega arith in
     let most = n .most in
     line-events (length (p .bytes) ∷ low / 256 ∷ low % 256 ∷ 0 ∷ p .bytes) rest (omega arith, (omega arith, (omega arith, (omega arith, n .bytes)))) (upperOf (p .address)) (DataRecord low (p .bytes))
     (data-record low (p .bytes) small (n .some))
-    ∙ rw (le-leb (low + length (p .bytes)) 65536 (n .inside))
+    ∙ rw (le-leb (low + length (p .bytes)) 0x10000 (n .inside))
 
 -- the lines of pieces say these pieces
 module _ (u : ℕ) (p : Piece) (ps : List Piece) (n : FitsRecord p) where

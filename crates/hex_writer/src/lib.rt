@@ -27,7 +27,7 @@ struct Position {
 
 // Puts a type 4 record where the upper half is a new one; the place after it.
 fn put_upper(text: &mut [u8], position: Position, upper: u32) -> usize
-    requires { ⌜ (upper < 65536) × (position .at + length (newUpper (position .upper) upper) ≤ length (now text)) ⌝ }
+    requires { ⌜ (upper < 0x10000) × (position .at + length (newUpper (position .upper) upper) ≤ length (now text)) ⌝ }
     ensures { λ r. ⌜ r ≡ position .at + length (newUpper (position .upper) upper) ⌝ }
     ensures { λ _. ⌜ now (text .exit) ≡ sets (now (text .entry)) (position .at) (newUpper (position .upper) upper) ⌝ }
 {
@@ -45,9 +45,9 @@ fn put_piece(text: &mut [u8], position: Position, address: u32, payload: &[u8]) 
     ensures { λ r. ⌜ r ≡ positionAfter position (onePiece address (now (payload .entry))) ⌝ }
     ensures { λ _. ⌜ now (text .exit) ≡ sets (now (text .entry)) (position .at) (linesFrom (position .upper) (onePiece address (now (payload .entry)))) ⌝ }
 {
-    let upper = address / 65536;
+    let upper = address / 0x10000;
     let at = put_upper(text, position, upper);
-    hex_lines::put_data(text, at, (address % 65536) as u16, payload);
+    hex_lines::put_data(text, at, (address % 0x10000) as u16, payload);
     Position {
         at: at + 13 + 2 * payload.len(),
         upper,
@@ -139,9 +139,9 @@ fn put_sections(
 // The length of a section's lines.
 fn lines_length(size: usize) -> usize
     requires { ⌜ size ≤ 33554432 ⌝ }
-    ensures { λ r. ⌜ r ≡ 17 * ((size + 65535) / 65536) + 13 * ((size + 63) / 64) + 2 * size ⌝ ∗ ⌜ r ≤ 100000000 ⌝ }
+    ensures { λ r. ⌜ r ≡ 17 * ((size + 65535) / 0x10000) + 13 * ((size + 63) / 64) + 2 * size ⌝ ∗ ⌜ r ≤ 100000000 ⌝ }
 {
-    17 * ((size + 65535) / 65536) + 13 * ((size + 63) / 64) + 2 * size
+    17 * ((size + 65535) / 0x10000) + 13 * ((size + 63) / 64) + 2 * size
 }
 
 // The length of an image's text.

@@ -1,19 +1,19 @@
 -- Laws of numbers and flags as bytes. Assumes nothing.
 use mathlib.Core.Bool.{Bool, true, false}
-use mathlib.Core.List.{List, _++_, append-nil}
+use mathlib.Core.List.{List, _++_}
 use mathlib.Core.Path.{_≡_, refl, sym, ap, _∙_}
 use Prim.Native.Nat.{ℕ, suc, _+_, _*_, _/_, _%_, _≤_, _<_}
 use native.Mathlib.Omega.{arith}
 use borrow.Author.Tests.{le-leb, lt-leb}
 use lib.Dec.{eqb}
-use lib.ListN.{length, set, drop-of-length-le}
-use lib.Seq.{sets, sets-eq, length-sets}
+use lib.ListN.{length, set}
+use lib.Seq.{sets, length-sets}
 use Rattle.lent.specs.Words.{lowFirst}
 use Rattle.layout.specs.Bytes.{flagByte, wordPut, Word}
 
 -- what four bytes of a number come to
 abbrev pub low32 : ℕ → ℕ
-low32 v = v % 256 + 256 * (v / 256 % 256) + 65536 * (v / 256 / 256 % 256) + 16777216 * (v / 256 / 256 / 256 % 256)
+low32 v = v % 256 + 256 * (v / 256 % 256) + 0x10000 * (v / 256 / 256 % 256) + 0x1000000 * (v / 256 / 256 / 256 % 256)
 
 pub low-same : (v : ℕ) → Word v → low32 v ≡ v
 low-same v h = omega arith
@@ -24,13 +24,6 @@ low-less v = omega arith
 pub flag-same : (f : Bool) → eqb (flagByte f) 1 ≡ f
 flag-same true = refl
 flag-same false = refl
-
--- a store of as many elements as the list has
-pub sets-whole : (l vs : List ℕ) → length vs ≡ length l → sets l 0 vs ≡ vs
-sets-whole l vs e =
-    sets-eq vs l 0 (omega arith)
-    ∙ ap (λ (r : List ℕ). vs ++ r) (drop-of-length-le l {i = 0 + length vs} (omega arith))
-    ∙ append-nil vs
 
 -- four stores are a word's
 stores : (l : List ℕ) (at w : ℕ)

@@ -17,4 +17,4 @@ wordPut bytes at word = cond (leb (at + 4) (length bytes)) (sets bytes at (lowFi
 
 -- a number of 32 bits
 abbrev pub Word : ℕ → Type 0
-Word n = n < 4294967296
+Word n = n < 0x100000000

@@ -8,7 +8,7 @@ use borrow.Author.Tests.{leb-true, leb-false}
 use borrow.Rule.Slice.PartMut.{putMid}
 use lib.Dec.{leb}
 use lib.ListN.{length, set, take, drop, length-drop, drop-of-length-le}
-use lib.Seq.{sets, take-all}
+use lib.Seq.{sets, sets-eq, take-all}
 
 -- a cut past the end is one at the end
 pub take-min : (n : ℕ) (l : List ℕ) → take (min n (length l)) l ≡ take n l
@@ -43,6 +43,10 @@ sets-append l i [] ws = let e : i + 0 ≡ i = omega arith in rw e
 sets-append l i (v ∷ vs) ws =
     let e : i + suc (length vs) ≡ suc i + length vs = omega arith in
     rw e (sets-append (set l i v) (suc i) vs ws)
+
+-- a store of as many elements as the list has
+pub sets-whole : (l vs : List ℕ) → length vs ≡ length l → sets l 0 vs ≡ vs
+sets-whole l vs h = sets-eq vs l 0 (omega arith) ∙ rw (drop-of-length-le l {i = 0 + length vs} (omega arith)) (append-nil vs)
 
 -- a part from a to the end of a list, and the list after the part came back
 module _ (xs : List ℕ) (a : ℕ) where

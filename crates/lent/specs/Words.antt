@@ -15,7 +15,7 @@ allZero (x ∷ xs) = eqb x 0 && allZero xs
 
 -- 'Words have the low byte first': the word of the four bytes from offset o on
 unfoldable pub wordAt : List ℕ → (o : ℕ) → ℕ
-wordAt bytes o = getD bytes o 0 + 256 * getD bytes (o + 1) 0 + 65536 * getD bytes (o + 2) 0 + 16777216 * getD bytes (o + 3) 0
+wordAt bytes o = getD bytes o 0 + 256 * getD bytes (o + 1) 0 + 0x10000 * getD bytes (o + 2) 0 + 0x1000000 * getD bytes (o + 3) 0
 
 -- a number in n bytes, the low byte first
 abbrev pub lowFirst : (n value : ℕ) → List ℕ

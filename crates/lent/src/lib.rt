@@ -19,9 +19,9 @@ fn wide(b: u8) -> u32
 
 // A word of four bytes, the low one first.
 fn word_of(a: u8, b: u8, c: u8, d: u8) -> u32
-    ensures { λ r. ⌜ r ≡ a + 256 * b + 65536 * c + 16777216 * d ⌝ }
+    ensures { λ r. ⌜ r ≡ a + 256 * b + 0x10000 * c + 0x1000000 * d ⌝ }
 {
-    wide(a) + 256 * wide(b) + 65536 * wide(c) + 16777216 * wide(d)
+    wide(a) + 256 * wide(b) + 0x10000 * wide(c) + 0x1000000 * wide(d)
 }
 
 // The word at an offset near or past the end.

@@ -8,7 +8,7 @@ use Rattle.flow.specs.Plan.{lockPlan}
 use Rattle.parts.specs.Sizes.{locksIn}
 use Rattle.parts.specs.declared.Geometry.{Geometry}
 
-pub rows-bound : (n l : ℕ) → n ≤ 4294967295 → l ≤ 65535 → n * (26 + 5 * l / 4) ≤ 4294967295 * 81944
+pub rows-bound : (n l : ℕ) → n ≤ 0xFFFFFFFF → l ≤ 65535 → n * (26 + 5 * l / 4) ≤ 0xFFFFFFFF * 81944
 rows-bound n l a b = let c : 26 + 5 * l / 4 ≤ 81944 = omega arith in mul-le-mul a c
 
 pub none-planned : (g : Geometry) → lockPlan g 0 ≡ 0

@@ -40,7 +40,7 @@ zero-none e = rw e
 -- a word is 0 exactly when its four bytes are, whatever follows
 module _ (a b c d : ℕ) (rest : Bool) where
   abbrev w : ℕ
-  w = a + 256 * b + 65536 * c + 16777216 * d
+  w = a + 256 * b + 0x10000 * c + 0x1000000 * d
 
   by : (p q r s : Bool) → eqb a 0 ≡ p → eqb b 0 ≡ q → eqb c 0 ≡ r → eqb d 0 ≡ s
       → (eqb a 0 && (eqb b 0 && (eqb c 0 && (eqb d 0 && rest)))) ≡ (eqb w 0 && rest)
@@ -89,7 +89,7 @@ module _ (row : List ℕ) where
   Whole = take (4 * (length row / 4)) row
 
   abbrev adds : Bool
-  adds = eqb (total (rowWords row) % 4294967296) 0
+  adds = eqb (total (rowWords row) % 0x100000000) 0
 
   pub whole-zero : allZero Whole ≡ allZero (rowWords row)
   whole-zero = bytes-zero row 0 (length row / 4) (omega arith)

@@ -11,7 +11,7 @@ abbrev pub rowWords : List ℕ → List ℕ
 rowWords row = wordsAt row 0 (length row / 4)
 
 unfoldable pub cancels : List ℕ → Bool
-cancels row = eqb (total (rowWords row) % 4294967296) 0 && not (allZero (rowWords row))
+cancels row = eqb (total (rowWords row) % 0x100000000) 0 && not (allZero (rowWords row))
 
 -- one of n rows of size bytes, from the first on, cancels
 unfoldable pub someCancels : (size n : ℕ) → List ℕ → Bool

@@ -33,7 +33,7 @@ pub fn zero_row(row: &[u8]) -> ZeroRow
 
 // The sum of a row's words, modulo 2^32.
 fn words_sum(row: &[u8]) -> u32
-    ensures { λ r. ⌜ r ≡ total (rowWords (now (row .entry))) % 4294967296 ⌝ }
+    ensures { λ r. ⌜ r ≡ total (rowWords (now (row .entry))) % 0x100000000 ⌝ }
 {
     let mut sum: u32 = 0;
     let mut place: usize = 0;

@@ -20,7 +20,7 @@ pub record FitsRecord (p : Piece) : Type 0 where
   pub some : 0 < length (p .bytes)
   pub most : length (p .bytes) ≤ 64
   pub high : p .address < 0x100000000
-  pub inside : p .address % 65536 + length (p .bytes) ≤ 65536
+  pub inside : p .address % 0x10000 + length (p .bytes) ≤ 0x10000
   pub bytes : AllBytes (p .bytes)
 
 abbrev pub AllFitRecords : List Piece → Type 0

@@ -8,7 +8,7 @@ use native.Mathlib.Omega.{arith}
 use borrow.Author.Tests.{eqb-true, leb-true}
 use lib.Dec.{eqb, leb}
 use lib.ListN.{length, take, drop, replicate, length-append, length-drop}
-use lib.Seq.{sets, sets-eq, length-sets, drop-length, take-at, drop-at, drop-drop, take-append-add, drop-append-add, length-take-le}
+use lib.Seq.{sets, sets-eq, length-sets, take-at, drop-at, drop-drop, take-append-add, drop-append-add, length-take-le}
 use Rattle.sections.proofs.Sections.{locationSize}
 use Rattle.sections.specs.Sections.{sectionsOf}
 use Rattle.sections.specs.declared.Location.{Location}
@@ -19,7 +19,7 @@ use Rattle.parts.specs.declared.Geometry.{Geometry}
 use Rattle.text.specs.Placing.{Event, Bad, Other, Data, End, Content, Refusal, Stream, prepend, restOf, dueAfter, placing, sameLocation, gathered, overall}
 use Rattle.text.specs.Reading.{imageIn}
 use Rattle.storing.specs.Storing.{storedAt}
-use Rattle.lent.proofs.Lists.{sets-past, sets-append}
+use Rattle.lent.proofs.Lists.{sets-past, sets-append, sets-whole}
 use Rattle.storing.proofs.Storing.{stored}
 
 -- Taken: each byte of each section once.
@@ -132,10 +132,6 @@ sets-front : (d vs : List ℕ) → length vs ≤ length d → sets d 0 vs ≡ vs
 sets-front d vs h =
     let e : 0 + length vs ≡ length vs = omega arith in
     sets-eq vs d 0 (omega arith) ∙ ap (λ (k : ℕ). vs ++ drop k d) e
-
-sets-whole : (d vs : List ℕ) → length vs ≡ length d → sets d 0 vs ≡ vs
-sets-whole d vs h =
-    sets-front d vs (omega arith) ∙ ap (λ (l : List ℕ). vs ++ l) (ap (λ (k : ℕ). drop k d) h ∙ drop-length d) ∙ append-nil vs
 
 -- a store right behind the first part of a list
 sets-second : (a b vs : List ℕ) (n : ℕ) → length a ≡ n → sets (a ++ b) n vs ≡ a ++ sets b 0 vs

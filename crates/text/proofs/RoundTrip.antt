@@ -32,7 +32,7 @@ use Rattle.text.specs.Reading.{Untouched, imageIn, judged, readFor}
 use Rattle.text.specs.Sized.{Sized}
 
 -- what a header says of itself makes it again
-module _ (h : Header) (sum : h .sum < 65536) (twelve : length (h .metadata) ≡ 12) where
+module _ (h : Header) (sum : h .sum < 0x10000) (twelve : length (h .metadata) ≡ 12) where
   pub header-again : headerOf (h .part) (h .macros) (headerSections h) ≡ h
   header-again =
       let s : 256 * (h .sum / 256) + h .sum % 256 ≡ h .sum = omega arith in

@@ -18,7 +18,7 @@ use Rattle.text.specs.Writing.{Written, writingIn, writeIn, textAfterIn}
 
 -- what the types say of a header (`u16`, `[u8; 12]`, `u8`) and of lent bytes (`&[u8]`)
 pub record Typed (h : Header) (bytes : List ℕ) : Type 0 where
-  pub sum : h .sum < 65536
+  pub sum : h .sum < 0x10000
   pub metadata : length (h .metadata) ≡ 12
   pub metadataBytes : (j : ℕ) → getD (h .metadata) j 0 < 256
   pub level : h .level < 256

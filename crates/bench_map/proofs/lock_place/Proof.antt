@@ -43,7 +43,7 @@ returns c =
     ∙ l .inv .0
 
 -- where the next macro's locks start
-small : (locks step m start : ℕ) → start ≡ locks + m * step → locks ≤ 4294967295 → step ≤ 4294967295 → m ≤ 255 → start ≤ 4294967295 * 256
+small : (locks step m start : ℕ) → start ≡ locks + m * step → locks ≤ 0xFFFFFFFF → step ≤ 0xFFFFFFFF → m ≤ 255 → start ≤ 0xFFFFFFFF * 256
 small locks step m start e a b d = omega (arith, mul-le-mul d b)
 
 add-start : tie.Need-add-start Inv-loop μ-loop
@@ -53,7 +53,7 @@ add-start c =
     let at-step = in-loop .before .before .before .before in
     let g = at-step .before .before .args .g in
     let known = at-step .struct-known .given in
-    let b : g .part .«locks_step» ≤ 4294967295 = omega (arith, known) in
+    let b : g .part .«locks_step» ≤ 0xFFFFFFFF = omega (arith, known) in
     let s = small (g .part .locks) (g .part .«locks_step») (l .m) (l .start) (l .inv .1) (omega (arith, known)) b (omega arith) in
     omega arith
 

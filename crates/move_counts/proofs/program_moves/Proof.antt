@@ -18,7 +18,7 @@ module _ (c : tie.After-locks-in) where
 
   first : c .before .before .before .rows .result * (26 + 5 * (at-start .args .g .part .«row_bytes» / 4)) ≤ 351933934000000
   first =
-      let r : c .before .before .before .rows .result ≤ 4294967295 = omega arith in
+      let r : c .before .before .before .rows .result ≤ 0xFFFFFFFF = omega arith in
       let b : 26 + 5 * (at-start .args .g .part .«row_bytes» / 4) ≤ 81941 = omega arith in
       omega (arith, mul-le-mul r b)
 

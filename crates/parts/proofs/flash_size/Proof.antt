@@ -10,7 +10,7 @@ use Rattle.parts.proofs.flash_size.Tie as tie
 mul-result : tie.Need-mul-result
 mul-result c =
     let g = c .before .before .before .args .g in
-    let a : c .before .rows .result ≤ 4294967295 = omega arith in
+    let a : c .before .rows .result ≤ 0xFFFFFFFF = omega arith in
     let b : g .part .«row_bytes» ≤ 65535 = omega arith in
     omega (arith, mul-le-mul a b)
 
@@ -18,7 +18,7 @@ returns : tie.Need-returns
 unfolding flashSize
 returns c =
     let g = c .before .before .before .args .g in
-    let a : c .before .rows .result ≤ 4294967295 = omega arith in
+    let a : c .before .rows .result ≤ 0xFFFFFFFF = omega arith in
     let b : g .part .«row_bytes» ≤ 65535 = omega arith in
     (rw (c .before .rows .ensures), omega (arith, mul-le-mul a b))
 

@@ -8,9 +8,9 @@ use Rattle.parts.proofs.Locks.{start-product}
 use Rattle.parts.proofs.lock_start.Statement.{statement}
 use Rattle.parts.proofs.lock_start.Tie as tie
 
-small : (c : tie.After-locks-in) → c .before .args .m * c .locks-in .result ≤ 4294967295 * 8191
+small : (c : tie.After-locks-in) → c .before .args .m * c .locks-in .result ≤ 0xFFFFFFFF * 8191
 small c =
-    let m : c .before .args .m ≤ 4294967295 = omega arith in
+    let m : c .before .args .m ≤ 0xFFFFFFFF = omega arith in
     let n : c .locks-in .result ≤ 8191 = omega arith in
     mul-le-mul m n
 

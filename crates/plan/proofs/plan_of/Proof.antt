@@ -8,7 +8,7 @@ use Rattle.plan.proofs.plan_of.Statement.{statement}
 use Rattle.plan.proofs.plan_of.Tie as tie
 
 -- the rows' term
-rows : (c : tie.After-rows) → c .rows .result * (26 + 5 * c .before .before .before .before .args .g .part .«row_bytes» / 4) ≤ 4294967295 * 81944
+rows : (c : tie.After-rows) → c .rows .result * (26 + 5 * c .before .before .before .before .args .g .part .«row_bytes» / 4) ≤ 0xFFFFFFFF * 81944
 rows c = rows-bound (c .rows .result) (c .before .before .before .before .args .g .part .«row_bytes») (omega arith) (omega arith)
 
 pub plan-of-spec : {M : Type 1} → statement M

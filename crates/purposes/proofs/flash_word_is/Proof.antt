@@ -20,7 +20,7 @@ flash-word-is-spec =
     (λ c. search needs)
     (λ c.
     let s = c .before .before .before in
-    let a : s .args .row ≤ 4294967295 = omega arith in
+    let a : s .args .row ≤ 0xFFFFFFFF = omega arith in
     let b : s .args .g .part .«row_bytes» ≤ 65535 = omega arith in
     omega (arith, mul-le-mul a b))
     (λ c κs. search needs)

@@ -14,8 +14,8 @@ use Rattle.rows.proofs.words_sum.Tie as tie
 abbrev Inv-loop : tie.InvT-loop
 Inv-loop row sum₀ place₀ left₀ sum place left =
     (place + 4 * left ≤ length row)
-    × (sum < 4294967296)
-    × ((sum + total (wordsAt row place left)) % 4294967296 ≡ total (wordsAt row 0 (length row / 4)) % 4294967296)
+    × (sum < 0x100000000)
+    × ((sum + total (wordsAt row place left)) % 0x100000000 ≡ total (wordsAt row 0 (length row / 4)) % 0x100000000)
 
 abbrev μ-loop : tie.MeasureT-loop
 μ-loop row sum₀ place₀ left₀ sum place left = left
@@ -31,8 +31,8 @@ loop-again c =
       omega arith,
       omega arith,
       rw (c .wrapping-add-u32 .ensures, c .before .word-at .ensures)
-          (carry-in (l .loop .sum) _ _ 4294967296
-          ∙ ap (λ (t : ℕ). (l .loop .sum + t) % 4294967296) (sym (total-cons turn))
+          (carry-in (l .loop .sum) _ _ 0x100000000
+          ∙ ap (λ (t : ℕ). (l .loop .sum + t) % 0x100000000) (sym (total-cons turn))
           ∙ l .loop .inv .2),
     )
 
@@ -40,7 +40,7 @@ returns : tie.Need-returns Inv-loop μ-loop
 returns c =
     let l = c .before in
     let none : l .loop .left ≡ 0 = omega arith in
-    carried (l .loop .sum) _ 4294967296 (l .loop .inv .1) (total-none (words-end (l .before .before .args .row .now) (l .loop .place) (l .loop .left) none))
+    carried (l .loop .sum) _ 0x100000000 (l .loop .inv .1) (total-none (words-end (l .before .before .args .row .now) (l .loop .place) (l .loop .left) none))
     ∙ l .loop .inv .2
 
 pub words-sum-spec : {M : Type 1} → statement M
