@@ -1,4 +1,4 @@
--- The board's registers and lent buffers as flow's target, and what is handed in with a request. Assumes nothing.
+-- The board's registers and lent buffers as flow's target, and what is handed in with a packet. Assumes nothing.
 use Prim.Native.Nat.{_%_}
 use Rattle.bench_calls.specs.declared.CallOutcome.{CallOutcome}
 use Rattle.bench_calls.specs.declared.Registers.{Registers}

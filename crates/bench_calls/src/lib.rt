@@ -131,7 +131,7 @@ fn sysreq_after(s: Silicon, effect: u8, c: u8) -> u32
     ensures { λ w. ⌜ w ≡ sysreqAfter c s effect ⌝ }
 {
     if c == 0 {
-        return (effect as u32) * 4096 + (s.family as u32);
+        return (effect as u32) * 0x1000 + (s.family as u32);
     }
     0
 }

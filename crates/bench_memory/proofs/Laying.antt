@@ -24,9 +24,9 @@ sets-out (y ∷ l) (suc o) (v ∷ x) h = sets-cons y l o (v ∷ x) ∙ ap (λ (r
 -- ---- a loop that lays xs from the front
 
 -- one turn, of a loop that has laid i of them and stores v at j
-pub lay-turn : (d₀ : List ℕ) (a i j v : ℕ) (xs d : List ℕ) → d ≡ sets d₀ a (take i xs) → j ≡ a + i → v ≡ getD xs i 0 → i < length xs
+pub sets-turn : (d₀ : List ℕ) (a i j v : ℕ) (xs d : List ℕ) → d ≡ sets d₀ a (take i xs) → j ≡ a + i → v ≡ getD xs i 0 → i < length xs
     → set d j v ≡ sets d₀ a (take (i + 1) xs)
-lay-turn d₀ a i j v xs d e p q h = rw (e, p, q) (go d₀ a i xs h)
+sets-turn d₀ a i j v xs d e p q h = rw (e, p, q) (go d₀ a i xs h)
   where
     go : (d : List ℕ) (a i : ℕ) (xs : List ℕ) → i < length xs → set (sets d a (take i xs)) (a + i) (getD xs i 0) ≡ sets d a (take (i + 1) xs)
     go d a i [] h = absurd (omega arith)
@@ -37,17 +37,17 @@ lay-turn d₀ a i j v xs d e p q h = rw (e, p, q) (go d₀ a i xs h)
         rw (e, f) (go (set d a x) (suc a) i xs (omega arith))
 
 -- the end: n bytes are laid, or all of xs, or there is no more room
-pub lay-end : (d : List ℕ) (a i n : ℕ) (xs : List ℕ) → i ≡ min (min n (length xs)) (length d - a) → sets d a (take i xs) ≡ sets d a (take n xs)
-lay-end d a zero zero xs h = refl
-lay-end d a (suc i) zero xs h = absurd (omega arith)
-lay-end d a zero (suc n) [] h = refl
-lay-end d a (suc i) (suc n) [] h = refl
-lay-end d a zero (suc n) (x ∷ xs) h = sym (sets-out d a (x ∷ take n xs) (omega arith))
-lay-end d a (suc i) (suc n) (x ∷ xs) h = lay-end (set d a x) (suc a) i n xs (rw (length-set d a x) (omega arith))
+pub sets-end : (d : List ℕ) (a i n : ℕ) (xs : List ℕ) → i ≡ min (min n (length xs)) (length d - a) → sets d a (take i xs) ≡ sets d a (take n xs)
+sets-end d a zero zero xs h = refl
+sets-end d a (suc i) zero xs h = absurd (omega arith)
+sets-end d a zero (suc n) [] h = refl
+sets-end d a (suc i) (suc n) [] h = refl
+sets-end d a zero (suc n) (x ∷ xs) h = sym (sets-out d a (x ∷ take n xs) (omega arith))
+sets-end d a (suc i) (suc n) (x ∷ xs) h = sets-end (set d a x) (suc a) i n xs (rw (length-set d a x) (omega arith))
 
 -- where there is no room nothing is laid
-pub lay-none : (d : List ℕ) (a : ℕ) (xs : List ℕ) → length d ≤ a → d ≡ sets d a xs
-lay-none d a xs h = sym (sets-out d a xs h)
+pub sets-none : (d : List ℕ) (a : ℕ) (xs : List ℕ) → length d ≤ a → d ≡ sets d a xs
+sets-none d a xs h = sym (sets-out d a xs h)
 
 -- ---- bytes cut or filled to the size of d
 
@@ -119,4 +119,4 @@ pub list-end : (d ps : List ℕ) (i n end : ℕ) → i ≤ end → end ≤ i →
     → sets d 0 (take i (bytesIn (drop 2 ps))) ≡ sets d 0 (take n (bytesIn (drop 2 ps)))
 list-end d ps i n end h k e =
     let f : i ≡ min (min n (4 * (length ps - 2))) (length d - 0) = omega arith in
-    lay-end d 0 i n (bytesIn (drop 2 ps)) (rw (list-length ps) f)
+    sets-end d 0 i n (bytesIn (drop 2 ps)) (rw (list-length ps) f)

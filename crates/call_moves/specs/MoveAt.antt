@@ -11,7 +11,7 @@ use Rattle.flow.specs.declared.Move.{Move}
 use Rattle.parts.specs.Sizes.{sysreqOf, imoOf}
 use Rattle.parts.specs.declared.Geometry.{Geometry}
 
--- m where SYSARG has room behind SYSREQ, else the end move
+-- m where SYSREQ is at most 0x7FFFFFFF, as every part of the table has it, else the end move
 abbrev pub inReach : (sysreq : ℕ) → Move → Move
 inReach q m = cond (leb q 0x7FFFFFFF) m endMove
 

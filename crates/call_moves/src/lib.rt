@@ -1,5 +1,5 @@
 // Single moves and the calls made of them: what is at an index of each list of moves that is the same for every image. A call's functions
-// take SYSREQ's address for the geometry that has it, and give the end move where no SYSARG has room behind it.
+// take SYSREQ's address for the geometry that has it, and give the end move where it is over 0x7FFFFFFF.
 ghost use mathlib.Core.List.{[], _∷_, _++_};
 ghost use mathlib.Core.Path.{_≡_};
 ghost use Prim.Native.Nat.{_+_, _*_, _<_, _≤_};

@@ -171,14 +171,14 @@ module _ (header image : List ℕ) (leave : ℕ) (session outcome : List ℕ) wh
     start-room m n = start-tested true (rw (le-leb 45 (length session) m, le-leb 8 (length outcome) n))
 
     -- what starting gave, put
-    pub start-done : (record′ : Header) (given : Given) (number : ℕ) (session′ outcome′ : List ℕ) → 45 ≤ length session → 8 ≤ length outcome
-        → record′ ≡ headerIn header
-        → given ≡ startOf record′ image (yes leave)
+    pub start-done : (header′ : Header) (given : Given) (number : ℕ) (session′ outcome′ : List ℕ) → 45 ≤ length session → 8 ≤ length outcome
+        → header′ ≡ headerIn header
+        → given ≡ startOf header′ image (yes leave)
         → number ≡ numberOf (given .outcome)
         → session′ ≡ putInto session (sessionBytes (given .session))
         → outcome′ ≡ putInto outcome (outcomeBytes (given .outcome))
         → Leaves (startCall header image leave session outcome) number session′ outcome′
-    start-done record′ given number session′ outcome′ m n q e f g o =
+    start-done header′ given number session′ outcome′ m n q e f g o =
         let is : given ≡ startOf (headerIn header) image (yes leave) = e ∙ ap (λ (x : Header). startOf x image (yes leave)) q in
         leaves-as _ (startInto given session outcome) _ _ _ (start-room m n ∙ sym (ap (λ (x : Given). startInto x session outcome) is)) (f, (g, o))
 

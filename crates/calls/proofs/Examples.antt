@@ -15,14 +15,14 @@ use Rattle.session.specs.Possible.{possibleIn}
 
 pub read-examples : ReadExamples
 unfolding readCall firstRefusal lookIn headerBytes putInto imageSize flashSize lockTotal rowsOf
-read-examples = record { part-16 = refl; part-17 = refl; part-18 = refl; record-16 = refl; record-17 = refl; record-18 = refl }
+read-examples = record { part-16 = refl; part-17 = refl; part-18 = refl; header-16 = refl; header-17 = refl; header-18 = refl }
 
 pub write-examples : WriteExamples
 unfolding writeCall firstRefusal lookIn headerIn putInto imageSize flashSize lockTotal rowsOf
 write-examples = record {
-  record-16 = refl;
-  record-17 = refl;
-  record-18 = refl;
+  header-16 = refl;
+  header-17 = refl;
+  header-18 = refl;
   part-7 = refl;
   length-7 = refl;
   length-8 = refl;
@@ -32,9 +32,9 @@ write-examples = record {
 pub start-examples : StartExamples
 unfolding startCall firstRefusal lookIn headerIn headerBytes sessionBytes putInto startOf imageSize flashSize lockTotal rowsOf
 start-examples = record {
-  record-16 = refl;
-  record-17 = refl;
-  record-18 = refl;
+  header-16 = refl;
+  header-17 = refl;
+  header-18 = refl;
   part-44 = refl;
   session-44 = refl;
   session-45 = refl;

@@ -31,15 +31,15 @@ pub record ReadExamples : Type 0 where
   pub part-17 : readCall 9 1 [] (5 ∷ []) (ones 17) ≡ callResult 11 (5 ∷ []) (zeros 17)
   pub part-18 : readCall 9 1 [] (5 ∷ []) (ones 18) ≡ callResult 11 (5 ∷ []) (zeros 17 ++ ones 1)
   -- 12, of the header or of the image
-  pub record-16 : readCall 1 1 [] (5 ∷ []) (ones 16) ≡ callResult 12 (5 ∷ []) (ones 16)
-  pub record-17 : readCall 1 1 [] (5 ∷ []) (ones 17) ≡ callResult 12 (5 ∷ []) (zeros 17)
-  pub record-18 : readCall 1 1 [] (5 ∷ []) (ones 18) ≡ callResult 12 (5 ∷ []) (zeros 17 ++ ones 1)
+  pub header-16 : readCall 1 1 [] (5 ∷ []) (ones 16) ≡ callResult 12 (5 ∷ []) (ones 16)
+  pub header-17 : readCall 1 1 [] (5 ∷ []) (ones 17) ≡ callResult 12 (5 ∷ []) (zeros 17)
+  pub header-18 : readCall 1 1 [] (5 ∷ []) (ones 18) ≡ callResult 12 (5 ∷ []) (zeros 17 ++ ones 1)
 
 pub record WriteExamples : Type 0 where
   -- no part in 16 bytes: 12; then 11
-  pub record-16 : writeCall (twos 16) [] (5 ∷ []) (ones 8) ≡ callResult 12 (5 ∷ []) (zeros 8)
-  pub record-17 : writeCall (twos 17) [] (5 ∷ []) (ones 8) ≡ callResult 11 (5 ∷ []) (zeros 8)
-  pub record-18 : writeCall (twos 18) [] (5 ∷ []) (ones 8) ≡ callResult 11 (5 ∷ []) (zeros 8)
+  pub header-16 : writeCall (twos 16) [] (5 ∷ []) (ones 8) ≡ callResult 12 (5 ∷ []) (zeros 8)
+  pub header-17 : writeCall (twos 17) [] (5 ∷ []) (ones 8) ≡ callResult 11 (5 ∷ []) (zeros 8)
+  pub header-18 : writeCall (twos 18) [] (5 ∷ []) (ones 8) ≡ callResult 11 (5 ∷ []) (zeros 8)
   -- 11 before the length's 12
   pub part-7 : writeCall (twos 17) [] (5 ∷ []) (ones 7) ≡ callResult 11 (5 ∷ []) (ones 7)
   -- 12, of the length or of the image
@@ -49,9 +49,9 @@ pub record WriteExamples : Type 0 where
 
 pub record StartExamples : Type 0 where
   -- a header under size zeroes a session that a step takes, too
-  pub record-16 : startCall (twos 16) [] 0 finished (ones 8) ≡ callResult 12 (zeros 45) (refusal 12)
-  pub record-17 : startCall (twos 17) [] 0 finished (ones 8) ≡ callResult 11 (zeros 45) (refusal 11)
-  pub record-18 : startCall (twos 18) [] 0 finished (ones 8) ≡ callResult 11 (zeros 45) (refusal 11)
+  pub header-16 : startCall (twos 16) [] 0 finished (ones 8) ≡ callResult 12 (zeros 45) (refusal 12)
+  pub header-17 : startCall (twos 17) [] 0 finished (ones 8) ≡ callResult 11 (zeros 45) (refusal 11)
+  pub header-18 : startCall (twos 18) [] 0 finished (ones 8) ≡ callResult 11 (zeros 45) (refusal 11)
   -- 11 before 12, whatever the session's and the outcome's lengths
   pub part-44 : startCall (twos 17) [] 0 (ones 44) (ones 7) ≡ callResult 11 (ones 44) (ones 7)
   -- 12, of the session, the outcome or the image

@@ -148,7 +148,7 @@ fn put_eight(bytes: &mut [u8], kind: u8, first: u8, second: u8, word: u32)
     put_word(bytes, 4, word);
 }
 
-// Puts a request.
+// Puts a packet.
 fn put_packet(bytes: &mut [u8], p: Packet)
     ensures { λ _. ⌜ now (bytes .exit) ≡ putInto (now (bytes .entry)) (packetBytes p) ⌝ }
 {

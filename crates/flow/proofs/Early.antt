@@ -162,7 +162,7 @@ module _ (i : Image) where
 one-xres : (q : Request) (t : Traffic) → q ≡ Xres → (counting q t) .xresets ≡ suc (t .xresets)
 one-xres q t e = rw e
 
--- ---- where a session early-at
+-- ---- where an early session stands
 
 module _ (i : Image) (m₀ : Memory) where
   -- in steps 1 and 2 nothing is altered; past the first XRES, and past the second

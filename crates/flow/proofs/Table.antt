@@ -1,4 +1,4 @@
--- What every geometry of the part table has, by one computed test over the whole table. Assumes nothing.
+-- What every geometry of the part table has, by one computed test over the whole table, and where the map says that its places are. Assumes nothing.
 use mathlib.Core.Bool.{Bool, true, _&&_, _||_, false}
 use mathlib.Core.List.{List, [], _∷_}
 use mathlib.Core.Path.{_≡_, refl, ap, _∙_}

@@ -1,4 +1,4 @@
--- What the reader's private functions give, at a position of the text; `read`'s own contract needs none of it. Assumes nothing.
+-- What `turn_at` and the functions below it give, at a position of the text; `read`'s own contract needs none of it. Assumes nothing.
 use mathlib.Core.Bool.{_&&_, cond}
 use mathlib.Core.List.{List, [], _∷_}
 use mathlib.Core.Path.{_≡_}

@@ -3,6 +3,6 @@ use mathlib.Core.List.{List}
 use Prim.Native.Nat.{ℕ, _%_}
 use lib.ListN.{length}
 
--- their number, in 16 bits: a row and a macro's locks have at most 1024
+-- their number, wrapped to 16 bits: a row and a macro's locks have at most 1024
 abbrev pub told : List ℕ → ℕ
 told bytes = length bytes % 65536

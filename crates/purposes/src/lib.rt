@@ -66,7 +66,7 @@ fn on_poll(c: Counters, w: u32) -> Next
 fn enter_by(c: Counters, w: u32) -> Next
     ensures { λ r. ⌜ r ≡ entryBy (levelIn w) c ⌝ }
 {
-    let level = parts::read_level((w / 4096 % 16) as u8);
+    let level = parts::read_level((w / 0x1000 % 16) as u8);
     match level {
         Level::Virgin => Next::Stop(21),
         Level::Open => Next::Go(Way::Enter(Entry::FromOpen), c),
@@ -92,7 +92,7 @@ fn on_reopened(g: Geometry, h: Header, c: Counters, w: u32) -> Next
     ensures { λ r. ⌜ r ≡ reopened g h c w ⌝ }
 {
     if words::ids_fit(g, h, c.kept, w) {
-        go_if(w / 4096 % 16 == 1, 21, c)
+        go_if(w / 0x1000 % 16 == 1, 21, c)
     } else {
         Next::Stop(20)
     }

@@ -1,4 +1,4 @@
-// What the text formats share beside lines and digit pairs: the section that is due, and the answers of reading and writing (document 01, 'Hex text').
+// What the text formats share beside lines and digit pairs: the section that is due, the pieces it is written in, and the answers of reading and writing (document 01, 'Hex text').
 ghost use mathlib.Core.Path.{_≡_};
 ghost use Prim.Native.Nat.{min, _+_};
 ghost use Rattle.image.specs.Image.{noHeader};

@@ -6,7 +6,7 @@ use borrow.Author.Needs.{needs}
 use lib.ListN.{length, take, drop, length-set}
 use lib.Seq.{sets}
 use Rattle.flow.specs.Calls.{bytesIn}
-use Rattle.bench_memory.proofs.Laying.{lay-turn, list-at, list-length, list-end}
+use Rattle.bench_memory.proofs.Laying.{sets-turn, list-at, list-length, list-end}
 use Rattle.bench_memory.proofs.fill_latch.Statement.{statement}
 use Rattle.bench_memory.proofs.fill_latch.Tie as tie
 
@@ -25,7 +25,7 @@ loop-again c =
       omega arith,
       l .inv .1,
       simp length-set (l .inv .2),
-      lay-turn (a .latch .now) 0 (l .i) (l .i) (c .byte-of .result) (bytesIn (drop 2 ps)) (l .latch) (l .inv .3) (omega arith)
+      sets-turn (a .latch .now) 0 (l .i) (l .i) (c .byte-of .result) (bytesIn (drop 2 ps)) (l .latch) (l .inv .3) (omega arith)
           (c .byte-of .ensures ∙ sym (list-at ps (l .i)))
           (omega (arith, list-length ps)),
     )

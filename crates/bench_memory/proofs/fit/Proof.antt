@@ -5,7 +5,7 @@ use native.Mathlib.Omega.{arith}
 use borrow.Author.Needs.{needs}
 use lib.ListN.{length, take, length-set}
 use lib.Seq.{sets}
-use Rattle.bench_memory.proofs.Laying.{lay-turn, filled, filled-room, filled-at, fit-end}
+use Rattle.bench_memory.proofs.Laying.{sets-turn, filled, filled-room, filled-at, fit-end}
 use Rattle.bench_memory.proofs.fit.Statement.{statement}
 use Rattle.bench_memory.proofs.fit.Tie as tie
 
@@ -24,7 +24,7 @@ loop-again c =
     let src = a .src .now in (
       omega arith,
       simp length-set (l .inv .1),
-      lay-turn d 0 (l .i) (l .i) (c .byte-at .result) (filled d src) (l .dst) (l .inv .2) (omega arith)
+      sets-turn d 0 (l .i) (l .i) (c .byte-at .result) (filled d src) (l .dst) (l .inv .2) (omega arith)
           (c .byte-at .ensures ∙ sym (filled-at d src (l .i)))
           (omega (arith, filled-room d src)),
     )

@@ -5,7 +5,7 @@ use native.Mathlib.Omega.{arith}
 use borrow.Author.Needs.{needs}
 use lib.ListN.{length, take, length-set}
 use lib.Seq.{sets}
-use Rattle.bench_memory.proofs.Laying.{lay-turn, lay-end, lay-none}
+use Rattle.bench_memory.proofs.Laying.{sets-turn, sets-end, sets-none}
 use Rattle.bench_memory.proofs.overlay.Statement.{statement}
 use Rattle.bench_memory.proofs.overlay.Tie as tie
 
@@ -18,7 +18,7 @@ abbrev μ-loop : tie.MeasureT-loop
 returns : tie.Need-returns Inv-loop μ-loop
 returns c =
     let a = c .before .before .before .args in
-    lay-none (a .dst .now) (a .at) (take (a .n) (a .src .now)) (c .if1 .taken)
+    sets-none (a .dst .now) (a .at) (take (a .n) (a .src .now)) (c .if1 .taken)
 
 loop-again : tie.Need-loop-again Inv-loop μ-loop
 loop-again c =
@@ -28,7 +28,7 @@ loop-again c =
       omega arith,
       l .inv .1,
       simp length-set (l .inv .2),
-      lay-turn (a .dst .now) (a .at) (l .i) _ _ (a .src .now) (l .dst) (l .inv .3) refl refl (omega arith),
+      sets-turn (a .dst .now) (a .at) (l .i) _ _ (a .src .now) (l .dst) (l .inv .3) refl refl (omega arith),
     )
 
 returns-2 : tie.Need-returns-2 Inv-loop μ-loop
@@ -36,7 +36,7 @@ returns-2 c =
     let at-if1 = c .before .before .before .before in let at-start = at-if1 .before .before .before in
     let a = at-start .args in
     let l = c .before .loop in
-    l .inv .3 ∙ lay-end (a .dst .now) (a .at) (l .i) (a .n) (a .src .now) (omega arith)
+    l .inv .3 ∙ sets-end (a .dst .now) (a .at) (l .i) (a .n) (a .src .now) (omega arith)
 
 pub overlay-spec : {M : Type 1} → statement M
 overlay-spec =

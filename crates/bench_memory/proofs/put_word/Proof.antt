@@ -2,7 +2,7 @@
 use mathlib.Core.List.{[], _∷_}
 use mathlib.Core.Path.{refl}
 use borrow.Author.Needs.{needs}
-use Rattle.bench_memory.proofs.Laying.{lay-none}
+use Rattle.bench_memory.proofs.Laying.{sets-none}
 use Rattle.bench_memory.proofs.put_word.Statement.{statement}
 use Rattle.bench_memory.proofs.put_word.Tie as tie
 
@@ -14,4 +14,4 @@ put-word-spec =
     (λ c. search needs)
     (λ c. search needs)
     (λ c. refl)
-    (λ c. lay-none (c .before .args .params .now) (c .before .args .k) (c .before .args .w ∷ []) (c .if1 .left)))
+    (λ c. sets-none (c .before .args .params .now) (c .before .args .k) (c .before .args .w ∷ []) (c .if1 .left)))
