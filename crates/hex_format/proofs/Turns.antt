@@ -1,7 +1,7 @@
 -- What the record at a position does to the content. Assumes nothing.
 use mathlib.Core.Bool.{Bool, true, false, _&&_, cond}
 use mathlib.Core.List.{List, [], _∷_}
-use mathlib.Core.Path.{_≡_, refl, ap, _∙_}
+use mathlib.Core.Path.{_≡_, refl, sym, ap, _∙_}
 use Prim.Native.Nat.{ℕ, suc, _+_, _*_, _≤_, _<_}
 use native.Mathlib.Omega.{arith}
 use borrow.Author.Tests.{eqb-true, eqb-false, leb-true}
@@ -9,9 +9,10 @@ use lib.Dec.{eqb, leb}
 use lib.ListN.{length, getD, drop, drop-of-length-le}
 use lib.Seq.{drop-cons}
 use Rattle.hex_records.specs.Records.{Record, BadRecord, DataRecord, ExtendedAddress, EndRecord}
-use Rattle.hex_format.specs.Turns.{contentAt, dataTurn, endTurn, TurnAt}
-use Rattle.hex_records.specs.Places.{LineAt, LineTo, FoundAt}
+use Rattle.hex_format.specs.Turns.{contentAt, dataTurn, endTurn, turnOn, turnOf, TurnAt}
+use Rattle.hex_records.specs.Places.{LineAt, LineTo, FoundAt, locatedOf, locatedRow}
 use Rattle.hex_format.specs.Texts.{upperAfter, eventOf, events}
+use Rattle.hex_records.specs.declared.Located.{Located}
 use Rattle.hex_records.specs.declared.Found.{Found}
 use Rattle.hex_records.specs.declared.Found.the-variants.{Missing, Refused, Payload, Extended, Ended}
 use Rattle.hex_format.specs.declared.Turn.the-variants.{Stop, Done, Moved, Store}
@@ -21,6 +22,13 @@ use Rattle.text.specs.Placing.{Event, Data, Refusal, Stream, placing}
 use Rattle.text.specs.Scanning.{dues}
 use Rattle.pairs.proofs.Lines.{some-line}
 use Rattle.hex_records.proofs.Bodies.{payloadIn, payload-length}
+
+-- what is found leads where the definition says
+pub turned : (s : List ℕ) (at u : ℕ) (due : Section) (row : List ℕ) (l : Located) (row′ : List ℕ) → (l ≡ locatedOf s at row) × (row′ ≡ locatedRow s at row)
+    → (r : Found) → l .found ≡ r → (turnOn due u (length s) (l .next) r ≡ turnOf s at u due row) × (row′ ≡ locatedRow s at row)
+unfolding turnOf
+turned s at u due row l row′ is r e =
+    (ap (turnOn due u (length s) (l .next)) (sym e) ∙ ap (λ (x : Located). turnOn due u (length s) (x .next) (x .found)) (is .0), is .1)
 
 -- nothing is left
 no-lines : (s : List ℕ) (at : ℕ) → length s ≤ at → linesOf (drop at s) ≡ []

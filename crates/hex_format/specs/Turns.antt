@@ -8,6 +8,10 @@ use lib.ListN.{length, take, drop}
 use Rattle.hex_format.specs.Texts.{events}
 use Rattle.hex_format.specs.declared.Turn.{Turn}
 use Rattle.hex_format.specs.declared.Turn.the-variants.{Stop, Done, Moved, Store}
+use Rattle.hex_records.specs.Places.{locatedOf}
+use Rattle.hex_records.specs.declared.Found.{Found}
+use Rattle.hex_records.specs.declared.Found.the-variants.{Missing, Refused, Payload, Extended, Ended}
+use Rattle.hex_records.specs.declared.Located.{Located}
 use Rattle.pairs.specs.Lines.{linesOf}
 use Rattle.sections.specs.declared.Section.{Section}
 use Rattle.text.specs.Placing.{Content, Refusal, Stream, placing, prepend, dueAfter}
@@ -23,6 +27,17 @@ dataTurn due upper low count next =
 
 unfoldable pub endTurn : Section → (next len : ℕ) → Turn
 endTurn due next len = cond (eqb (due .size) 0 && eqb next len) Done (Stop 5)
+
+-- where what is found leads, in a text of so many bytes
+abbrev pub turnOn : Section → (upper len next : ℕ) → Found → Turn
+turnOn due upper len next Missing = Stop 5
+turnOn due upper len next (Refused n) = Stop n
+turnOn due upper len next (Payload low count) = dataTurn due upper low count next
+turnOn due upper len next (Extended new) = Moved next new
+turnOn due upper len next Ended = endTurn due next len
+
+unfoldable pub turnOf : (text : List ℕ) (at upper : ℕ) → Section → (row : List ℕ) → Turn
+turnOf text at upper due row = turnOn due upper (length text) (locatedOf text at row .next) (locatedOf text at row .found)
 
 -- what a turn does to the content, whatever sections follow the one that is due
 abbrev pub TurnAt : (text : List ℕ) (at upper : ℕ) → Section → Turn → (row : List ℕ) → Type 0

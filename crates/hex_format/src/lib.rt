@@ -1,7 +1,8 @@
 // Intel hex as a format: where the record at a position leads (document 01, 'Hex text').
 ghost use mathlib.Core.Path.{_≡_};
 ghost use Prim.Native.Nat.{_≤_};
-ghost use Rattle.hex_format.specs.Turns.{dataTurn, endTurn, TurnAt};
+ghost use Rattle.hex_format.specs.Turns.{dataTurn, endTurn, turnOf, TurnAt};
+ghost use Rattle.hex_records.specs.Places.{locatedRow};
 use hex_records::Found;
 use sections::Section;
 
@@ -45,6 +46,8 @@ fn end_turn(due: Section, next: usize, len: usize) -> Turn
 // What the record at a position leads to.
 pub fn turn_at(text: &[u8], at: usize, upper: u16, due: Section, row: &mut [u8; 260]) -> Turn
     ensures turn { λ r. ⌜ TurnAt (now (text .entry)) at upper due r (now (row .exit)) ⌝ }
+    ensures found { λ r. ⌜ r ≡ turnOf (now (text .entry)) at upper due (now (row .entry)) ⌝ }
+    ensures row { λ _. ⌜ now (row .exit) ≡ locatedRow (now (text .entry)) at (now (row .entry)) ⌝ }
 {
     let len = text.len();
     let located = hex_records::record_at(text, at, row);

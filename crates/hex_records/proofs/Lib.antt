@@ -1,3 +1,4 @@
 pub mod Types
+pub mod Finding
 pub mod Frames
 pub mod Bodies

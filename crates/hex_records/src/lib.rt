@@ -2,7 +2,7 @@
 ghost use mathlib.Core.Path.{_≡_};
 ghost use Prim.Native.Nat.{_<_};
 ghost use lib.ListN.{length};
-ghost use Rattle.hex_records.specs.Places.{FrameAt, foundIn, FoundAt};
+ghost use Rattle.hex_records.specs.Places.{FrameAt, frameOf, frameRow, foundIn, locatedOf, locatedRow, FoundAt};
 
 // The frame of a line: it is broken, or has so many payload bytes, a sum, and a place where the next line begins.
 enum Frame {
@@ -30,6 +30,8 @@ pub struct Located {
 fn frame_at(text: &[u8], at: usize, row: &mut [u8]) -> Frame
     requires { ⌜ (at < length (now text)) × (length (now row) ≡ 260) ⌝ }
     ensures { λ r. ⌜ FrameAt (now (text .entry)) at r (now (row .exit)) ⌝ }
+    ensures { λ r. ⌜ r ≡ frameOf (now (text .entry)) at (now (row .entry)) ⌝ }
+    ensures { λ _. ⌜ now (row .exit) ≡ frameRow (now (text .entry)) at (now (row .entry)) ⌝ }
 {
     if text[at] != 58 {
         return Frame::Broken;
@@ -104,6 +106,8 @@ fn typed_in(row: &[u8], count: usize) -> Found
 // The record of the line at a position.
 pub fn record_at(text: &[u8], at: usize, row: &mut [u8; 260]) -> Located
     ensures record { λ r. ⌜ FoundAt (now (text .entry)) at (r .next) (r .found) (now (row .exit)) ⌝ }
+    ensures located { λ r. ⌜ r ≡ locatedOf (now (text .entry)) at (now (row .entry)) ⌝ }
+    ensures row { λ _. ⌜ now (row .exit) ≡ locatedRow (now (text .entry)) at (now (row .entry)) ⌝ }
 {
     if text.len() <= at {
         return Located {

@@ -19,26 +19,26 @@ returns : tie.Need-returns Inv-loop μ-loop
 returns c =
     let t = c .before .before .before in let o = t .before .before .before in let at-shared-slice-known = o .before .before .before .before in
     let s = at-shared-slice-known .before in
-    here-stop (s .args .g) (s .args .text .now) (s .args .image .now) (s .args .header .now) (s .pre) (o .loop .inv) _ _ (t .turn-at .ensures) _ (c .before .turn .given .1)
+    here-stop (s .args .g) (s .args .text .now) (s .args .image .now) (s .args .header .now) (s .pre) (o .loop .inv) _ _ (t .turn-at .ensures .0) _ (c .before .turn .given .1)
 
 returns-2 : tie.Need-returns-2 Inv-loop μ-loop
 returns-2 c =
     let t = c .before .before in let o = t .before .before .before in let at-shared-slice-known = o .before .before .before .before in
     let s = at-shared-slice-known .before in
-    here-done (s .args .g) (s .args .text .now) (s .args .image .now) (s .args .header .now) (s .pre) (o .loop .inv) _ _ (t .turn-at .ensures) (c .enum-told .given .1)
+    here-done (s .args .g) (s .args .text .now) (s .args .image .now) (s .args .header .now) (s .pre) (o .loop .inv) _ _ (t .turn-at .ensures .0) (c .enum-told .given .1)
 
 loop-less : tie.Need-loop-less Inv-loop μ-loop
 loop-less c =
     let t = c .before .before .before in let o = t .before .before .before in let at-shared-slice-known = o .before .before .before .before in
     let s = at-shared-slice-known .before in
-    let m = moved-less (s .args .g) (s .args .text .now) (s .args .image .now) (s .args .header .now) (s .pre) (o .loop .inv) _ _ (t .turn-at .ensures) _ _ (c .before .turn2 .given .1) in
+    let m = moved-less (s .args .g) (s .args .text .now) (s .args .image .now) (s .args .header .now) (s .pre) (o .loop .inv) _ _ (t .turn-at .ensures .0) _ _ (c .before .turn2 .given .1) in
     omega (arith, m .0, m .1)
 
 loop-again : tie.Need-loop-again Inv-loop μ-loop
 loop-again c =
     let t = c .before .before .before in let o = t .before .before .before in let at-shared-slice-known = o .before .before .before .before in
     let s = at-shared-slice-known .before in
-    here-moved (s .args .g) (s .args .text .now) (s .args .image .now) (s .args .header .now) (s .pre) (o .loop .inv) _ _ (t .turn-at .ensures) _ _ (c .before .turn2 .given .1)
+    here-moved (s .args .g) (s .args .text .now) (s .args .image .now) (s .args .header .now) (s .pre) (o .loop .inv) _ _ (t .turn-at .ensures .0) _ _ (c .before .turn2 .given .1)
 
 store-payload-requires : tie.Need-store-payload-requires Inv-loop μ-loop
 store-payload-requires c κs =
@@ -51,14 +51,14 @@ advanced-requires c κs =
     let f = c .before .before .before .before in let at-store-payload-arg2 = f .before .before in
     let at-turn3 = at-store-payload-arg2 .before .before .before in let t = at-turn3 .before .before in let o = t .before .before .before in
     let at-shared-slice-known = o .before .before .before .before in let s = at-shared-slice-known .before in
-    store-asks (s .args .g) (s .args .text .now) (s .args .image .now) (s .args .header .now) (s .pre) (o .loop .inv) _ _ (t .turn-at .ensures) _ _ (at-turn3 .turn3 .given .1)
+    store-asks (s .args .g) (s .args .text .now) (s .args .image .now) (s .args .header .now) (s .pre) (o .loop .inv) _ _ (t .turn-at .ensures .0) _ _ (at-turn3 .turn3 .given .1)
 
 loop-less-2 : tie.Need-loop-less-2 Inv-loop μ-loop
 loop-less-2 c =
     let at-image = c .before .before .before .before in let f = at-image .before in let at-store-payload-arg2 = f .before .before in
     let at-turn3 = at-store-payload-arg2 .before .before .before in let t = at-turn3 .before .before in let o = t .before .before .before in
     let at-shared-slice-known = o .before .before .before .before in let s = at-shared-slice-known .before in
-    let m = store-bounds (s .args .g) (s .args .text .now) (s .args .image .now) (s .args .header .now) (s .pre) (o .loop .inv) _ _ (t .turn-at .ensures) _ _ (at-turn3 .turn3 .given .1) in
+    let m = store-bounds (s .args .g) (s .args .text .now) (s .args .image .now) (s .args .header .now) (s .pre) (o .loop .inv) _ _ (t .turn-at .ensures .0) _ _ (at-turn3 .turn3 .given .1) in
     omega (arith, m .0, m .1)
 
 loop-again-2 : tie.Need-loop-again-2 Inv-loop μ-loop
@@ -66,7 +66,7 @@ loop-again-2 c =
     let at-image = c .before .before .before .before in let f = at-image .before in let at-store-payload-arg2 = f .before .before in
     let at-turn3 = at-store-payload-arg2 .before .before .before in let t = at-turn3 .before .before in let o = t .before .before .before in
     let at-shared-slice-known = o .before .before .before .before in let s = at-shared-slice-known .before in
-    here-store (s .args .g) (s .args .text .now) (s .args .image .now) (s .args .header .now) (s .pre) (o .loop .inv) _ _ (t .turn-at .ensures) _ _ (at-turn3 .turn3 .given .1) _ _ _ (f .store-payload .kept .1 .0) (f .store-payload .kept .1 .1 .0) (f .store-payload .ensures) (c .advanced .ensures)
+    here-store (s .args .g) (s .args .text .now) (s .args .image .now) (s .args .header .now) (s .pre) (o .loop .inv) _ _ (t .turn-at .ensures .0) _ _ (at-turn3 .turn3 .given .1) _ _ _ (f .store-payload .kept .1 .0) (f .store-payload .kept .1 .1 .0) (f .store-payload .ensures) (c .advanced .ensures)
 
 pub scan-spec : {M : Type 1} → statement M
 scan-spec =
