@@ -59,9 +59,9 @@ extern "C" {
 #define HALZUQEEN_BENCH_ANSWER_USED 3       /* bit 0: the event was used; bit 1: the call was used */
 #define HALZUQEEN_BENCH_ANSWER_WORD 4       /* 4 bytes */
 
-/* The board meets a request.
+/* The board meets a packet.
  * part, macros: as in document 01's table of parts.
- * board, board_length: HALZUQEEN_BENCH_BOARD_SIZE bytes, which become the board after the request.
+ * board, board_length: HALZUQEEN_BENCH_BOARD_SIZE bytes, which become the board after the packet.
  * flash, locks, latch: the board's memory, each with its length in bytes; the locks are all macros', one after the other. A board of the
  *     part's own sizes has rows * row bytes, rows / 8 and row bytes; of other sizes, what is past an end reads as 0 and takes no write.
  * params, params_length: PARAMS as words, with its length in words: 2 + row bytes / 4.

@@ -64,7 +64,7 @@ pub fn row_is_lost(row: &[u8]) -> bool {
     !all && words.map(word).fold(0, u32::wrapping_add) == 0
 }
 
-/// 6 to 8, of the record alone.
+/// 6 to 8, of the header alone.
 pub fn header_refusal(header: &Header, sizes: &Sizes) -> Option<u8> {
     // "6 version"
     if header.version() != 2 {
@@ -85,7 +85,7 @@ pub fn header_refusal(header: &Header, sizes: &Sizes) -> Option<u8> {
     None
 }
 
-/// "then 6 to 10", on a record whose part and M are in the table and an image of exact size.
+/// "then 6 to 10", on a header whose part and M are in the table and an image of exact size.
 pub fn refusal(header: &Header, sizes: &Sizes, image: &[u8]) -> Option<u8> {
     let flash = &image[..sizes.flash()];
     header_refusal(header, sizes)
@@ -108,7 +108,7 @@ pub fn lent_refusal(header: &Header, image: &[u8], room: impl Fn(&Sizes) -> bool
     }
 }
 
-/// A record for these bytes that every check lets pass, unless a row is lost (10).
+/// A header for these bytes that every check lets pass, unless a row is lost (10).
 pub fn header_for(part: u32, macros: u32, low: u8, revision: u8, level: u8, image: &[u8]) -> Header {
     let sizes = Sizes::of(part, macros).expect("a part of the table");
     let ids = [sizes.part.id_high, low, revision, sizes.part.id_family];

@@ -15,7 +15,7 @@ use crate::wire::{acknowledgement, parity, Ack, Answer, Packet};
 
 pub const BYTES: usize = 45;
 
-/// Bytes 0 to 16, as a record's.
+/// Bytes 0 to 16, as a header's.
 pub fn header_of(bytes: &[u8]) -> Header {
     let mut metadata = [0; 12];
     metadata.copy_from_slice(&bytes[4..16]);
@@ -183,7 +183,7 @@ pub fn started(header: &Header) -> [u8; BYTES] {
     bytes
 }
 
-/// Steps the bytes. `moves` gives the list for a record and an entry, of the image that is lent.
+/// Steps the bytes. `moves` gives the list for a header and an entry, of the image that is lent.
 pub fn step<'a>(
     bytes: &mut [u8; BYTES],
     image_bytes: usize,

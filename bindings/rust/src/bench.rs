@@ -55,7 +55,7 @@ pub struct Outcomes<'a> {
     pub left: [&'a [u8]; 3],
 }
 
-/// The bench board meets a request, an outcome's bytes.
+/// The bench board meets a packet, an outcome's bytes.
 pub fn meet(
     part: u8,
     macros: u8,

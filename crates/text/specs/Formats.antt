@@ -1,6 +1,6 @@
 -- A text format: what its texts say, and how an image is written in it. What a text comes to, and what reading and writing it give, follow
 -- from that in one way for every format (Placing.antt, Reading.antt, Writing.antt), and so do the promises (Claims.antt). Intel hex is one
--- (hex's specs/HexFormat.antt): document 01, 'Hex text'. Assumes nothing.
+-- (hex_format's specs/HexFormat.antt): document 01, 'Hex text'. Assumes nothing.
 use mathlib.Core.List.{List}
 use Prim.Native.Nat.{ℕ}
 use Rattle.sections.specs.Sections.{sectionsOf, sectionBytes}

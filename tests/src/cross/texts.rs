@@ -32,7 +32,7 @@ impl TextTally {
     }
 }
 
-/// Reads `rounds` texts with both cores: numbers, records and every byte of the buffer must agree.
+/// Reads `rounds` texts with both cores: numbers, headers and every byte of the buffer must agree.
 /// Some images, taken or not, are written and started by both.
 pub fn texts(core: &impl Core, seed: u64, rounds: usize) -> TextTally {
     let mut rng = Rng(seed);
@@ -79,7 +79,7 @@ fn damaged(rng: &mut Rng, text: &[u8]) -> Vec<u8> {
     text
 }
 
-/// Both writers on this record and image, at times with a field changed or too little room, and starting.
+/// Both writers on this header and image, at times with a field changed or too little room, and starting.
 fn written(
     core: &impl Core,
     rng: &mut Rng,
