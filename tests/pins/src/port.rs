@@ -2,7 +2,7 @@
 
 use reference::board::{Board, Lists};
 use reference::parts::TEST_MODE;
-use reference::wire::{parity, Answer, Request, SILENCE};
+use reference::wire::{parity, Answer, Packet, SILENCE};
 
 /// Half a clock at 4 MHz, in ns.
 const HALF_CLOCK: u64 = 125;
@@ -67,7 +67,7 @@ impl Port {
 
     pub fn xres(&mut self, level: bool) {
         if level && !self.xres {
-            self.board.answer(Request::Xres, &mut self.lists);
+            self.board.answer(Packet::Xres, &mut self.lists);
             (self.ready, self.in_test_mode) = (self.now + self.boot, false);
         }
         (self.xres, self.state, self.out) = (level, State::Lost, None);
@@ -125,11 +125,11 @@ impl Port {
     fn acknowledge(&mut self, byte: u8) -> (u32, u32, bool) {
         let read = byte >> 2 & 1 == 1;
         let answer = match read {
-            true => self.board.answer(Request::Read { byte }, &mut self.lists),
+            true => self.board.answer(Packet::Read { byte }, &mut self.lists),
             // A write's acknowledgement doesn't hang on its word: ask a copy, and the board itself later.
             false => {
                 let (mut board, mut lists) = (self.board.clone(), self.lists.clone());
-                let answer = board.answer(Request::Write { byte, word: 0, parity: false }, &mut lists);
+                let answer = board.answer(Packet::Write { byte, word: 0, parity: false }, &mut lists);
                 if !matches!(answer, Answer::Wire { ack: 1, .. }) {
                     self.lists = lists;
                 }
@@ -190,7 +190,7 @@ impl Port {
             assert!(self.in_test_mode || self.now <= self.ready + WINDOW, "the window of 400 us was missed");
             self.in_test_mode = true;
         }
-        self.board.answer(Request::Write { byte, word, parity: bit }, &mut self.lists);
+        self.board.answer(Packet::Write { byte, word, parity: bit }, &mut self.lists);
         assert_eq!(self.board.malformed, 0);
         State::Idle
     }
