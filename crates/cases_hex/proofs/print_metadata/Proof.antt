@@ -11,9 +11,6 @@ Inv-loop metadata i₀ i = Unit {0}
 abbrev μ-loop : tie.MeasureT-loop
 μ-loop metadata i₀ i = 12 - i
 
-array-read-print-pair : tie.Need-array-read-print-pair Inv-loop μ-loop
-array-read-print-pair c = search needs
-
 pub print-metadata-spec : {M : Type 1} → statement M
 print-metadata-spec =
     tie.close
@@ -22,7 +19,7 @@ print-metadata-spec =
     μ-loop
     (λ c κs. tt)
     (λ c. tt)
-    array-read-print-pair
+    (λ c. search needs)
     (λ c κs. tt)
     (λ c. omega arith)
     (λ c. omega arith)

@@ -16,27 +16,12 @@ Inv-loop number macros table i₀ i = (i ≤ 3) × (lookIn (drop i partTable) nu
 abbrev μ-loop : tie.MeasureT-loop
 μ-loop number macros table i₀ i = 3 - i
 
-loop-holds : tie.Need-loop-holds Inv-loop μ-loop
-loop-holds c = (lit≤ tt, refl)
-
-mul-p : tie.Need-mul-p Inv-loop μ-loop
-mul-p c = omega arith
-
-array-copy-out-p : tie.Need-array-copy-out-p Inv-loop μ-loop
-array-copy-out-p c = omega arith
-
 returns : tie.Need-returns Inv-loop μ-loop
 returns c =
     let l = c .before .before .before .before in
     let a = l .before .args in
     sym (look-hit partTable (l .loop .i) (a .number) (a .macros) _ (c .before .before .before .loop-test .taken) (sym (c .before .entry-offers .ensures) ∙ c .if1 .taken))
     ∙ l .loop .inv .1
-
-add-i : tie.Need-add-i Inv-loop μ-loop
-add-i c = omega arith
-
-loop-less : tie.Need-loop-less Inv-loop μ-loop
-loop-less c = omega arith
 
 loop-again : tie.Need-loop-again Inv-loop μ-loop
 loop-again c =
@@ -60,12 +45,12 @@ find-spec =
     (tie.spec
     Inv-loop
     μ-loop
-    loop-holds
-    mul-p
-    array-copy-out-p
+    (λ c. (lit≤ tt, refl))
+    (λ c. omega arith)
+    (λ c. omega arith)
     (λ c κs. search needs)
     returns
-    add-i
-    loop-less
+    (λ c. omega arith)
+    (λ c. omega arith)
     loop-again
     returns-2)
