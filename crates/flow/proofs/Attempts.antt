@@ -15,7 +15,7 @@ use Rattle.flow.specs.Plan.{counting}
 use Rattle.flow.specs.Run.{Run, advance}
 use Rattle.flow.specs.Sequence.{move}
 use Rattle.flow.specs.Session.{position, heardBy, stepOf, running}
-use Rattle.flow.specs.Target.{Target, Lists, idle, nextEvent, setReset}
+use Rattle.flow.specs.Target.{Target, Lists, idle, setReset}
 use Rattle.flow.specs.declared.Counters.{Counters}
 use Rattle.flow.specs.declared.Entry.{Entry}
 use Rattle.flow.specs.declared.Move.{Move}
@@ -25,7 +25,6 @@ use Rattle.flow.specs.declared.Purpose.the-variants.{Sent, Idcode}
 use Rattle.flow.specs.declared.Request.{Request}
 use Rattle.flow.specs.declared.Request.the-variants.{Xres, LineReset, ReadIdcode}
 use Rattle.flow.specs.declared.Silicon.{Silicon}
-use Rattle.flow.specs.declared.TransferOutcome.the-variants.{Clean}
 use Rattle.flow.proofs.Access.{barred-off}
 use Rattle.flow.proofs.Decoding.{attempt, meets}
 use Rattle.flow.proofs.Hearing.{listsAfter, Heard, heardOkay, heardWait, heardError, heardErrorDone, hears}

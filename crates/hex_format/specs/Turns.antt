@@ -11,7 +11,6 @@ use Rattle.hex_format.specs.declared.Turn.the-variants.{Stop, Done, Move
 use Rattle.hex_records.specs.Places.{locatedOf}
 use Rattle.hex_records.specs.declared.Found.{Found}
 use Rattle.hex_records.specs.declared.Found.the-variants.{Missing, Refused, Payload, Extended, Ended}
-use Rattle.hex_records.specs.declared.Located.{Located}
 use Rattle.pairs.specs.Lines.{linesOf}
 use Rattle.sections.specs.declared.Section.{Section}
 use Rattle.text.specs.Placing.{Content, Refusal, Stream, placing, prepend, dueAfter}

@@ -1,7 +1,7 @@
 -- What the code finds and leaves in the row is what the definitions say, by each way out. Assumes nothing.
 use mathlib.Core.Bool.{true, false}
 use mathlib.Core.List.{List}
-use mathlib.Core.Path.{_≡_, refl, sym, _∙_}
+use mathlib.Core.Path.{_≡_, refl, _∙_}
 use Prim.Native.Nat.{ℕ, _+_, _*_, _%_, _≤_, _<_}
 use borrow.Author.Tests.{eq-eqb, ne-eqb, le-leb, lt-leb}
 use lib.ListN.{length, getD}
@@ -12,7 +12,6 @@ use Rattle.hex_records.specs.declared.Frame.{Frame}
 use Rattle.hex_records.specs.declared.Frame.the-variants.{Broken, Framed}
 use Rattle.hex_records.specs.declared.Located.{Located}
 use Rattle.pairs.specs.Spelling.{pairRunOf, rowAfter, lineEnd}
-use Rattle.pairs.specs.declared.PairRun.{PairRun}
 
 module _ (s : List ℕ) (at : ℕ) (row : List ℕ) where
   abbrev pub Leaves : Frame → List ℕ → Type 0

@@ -14,7 +14,6 @@ use Rattle.hex_records.specs.declared.Located.{Located}
 use Rattle.lent.specs.Words.{total}
 use Rattle.pairs.specs.Lines.{Line, linesOf}
 use Rattle.pairs.specs.Spelling.{pairRunOf, rowAfter, lineEnd}
-use Rattle.pairs.specs.declared.PairRun.{PairRun}
 
 -- the first line at a position is such a record
 pub record LineAt (text : List ℕ) (at : ℕ) (r : Record) : Type 0 where

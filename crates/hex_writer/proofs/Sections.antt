@@ -1,10 +1,10 @@
 -- Laws of the pieces of a section, and of the sections. Assumes nothing.
 use mathlib.Core.List.{List, [], _++_}
-use mathlib.Core.Path.{_≡_, refl, sym, ap, _∙_}
+use mathlib.Core.Path.{_≡_, sym, ap, _∙_}
 use Prim.Native.Nat.{ℕ, min, zero, suc, _+_, _-_, _*_, _/_, _≤_, _<_}
 use native.Mathlib.Omega.{arith}
-use lib.ListN.{length, take, drop, length-drop, length-take, drop-of-length-le}
-use lib.Seq.{sets, take-all, drop-drop}
+use lib.ListN.{length, take, drop, length-drop, length-take}
+use lib.Seq.{sets, drop-drop}
 use Rattle.hex_format.specs.Written.{linesFrom}
 use Rattle.hex_writer.specs.Lines.{onePiece, positionAfter}
 use Rattle.text.specs.Sized.{Laid, piecesOf}
