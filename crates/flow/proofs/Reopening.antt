@@ -31,7 +31,7 @@ use Rattle.flow.proofs.Legs.{core}
 use Rattle.flow.proofs.Phases.{table-facts, callD}
 use Rattle.flow.proofs.Table.{place-sysreq, place-sysarg, Facts}
 use Rattle.flow.proofs.Polling.{idleAt}
-use Rattle.flow.proofs.Reaches.{Allowance, withMoves, Env, sync, RightIds, Frame, Lasting, OnPlanFor, at-place, split, Reaches, here, stop, step, tally, seen}
+use Rattle.flow.proofs.Reaches.{Allowance, withMoves, Env, sync, RightIds, Frame, Lasting, OnPlanFor, at-place, split, Leads, arrived, stopped, onward, Reaches, here, tally, seen}
 use Rattle.image.specs.Image.{Image, imageOf}
 use Rattle.image.specs.declared.Header.{Header}
 use Rattle.parts.specs.Sizes.{sysreqOf, sysargOf}
@@ -85,11 +85,11 @@ module _ (i : Image) (b : Target) (right : RightIds i (b .silicon)) where
   }
 
   -- the run passes a state where the call runs
-  passes : {z : Bool} (r : Run) → Reaches short z r → r .traffic .transfers ≤ allowed .room → record { n : ℕ; is : Reopens (b .memory) ((runAfter i n r) .target) }
+  passes : {z : Bool} (r : Run) → Leads short z r → r .traffic .transfers ≤ allowed .room → record { n : ℕ; is : Reopens (b .memory) ((runAfter i n r) .target) }
   unfolding short runAfter
-  passes r (here goal) few = record { n = 0; is = goal few }
-  passes r (stop never) few = absurd never
-  passes r (step w turn more) few =
+  passes r (arrived goal) few = record { n = 0; is = goal few }
+  passes r (stopped never) few = absurd never
+  passes r (onward w turn more) few =
       let z = passes (advance i r) more (rw (met-traffic i r (w .goes)) (w .most .transfers)) in
       record { n = suc (z .n); is = z .is }
 
@@ -168,6 +168,6 @@ comes-to-reopen g h bytes p b s two right =
     let i = imageOf g h bytes in
     let ids = right-ids i (b .silicon) right in
     passes i b ids (started b none)
-    (way i b ids (table-facts g h bytes p) two (record { high = s .high; low = s .low; revision = s .revision; family = s .family })
-    (record { silicon = refl; memory = refl; room = s .params; quiet = s .quiet }))
+    ((way i b ids (table-facts g h bytes p) two (record { high = s .high; low = s .low; revision = s .revision; family = s .family })
+    (record { silicon = refl; memory = refl; room = s .params; quiet = s .quiet })) .leads)
     (omega arith)

@@ -13,7 +13,7 @@ use Rattle.flow.specs.Target.{Target, Lists}
 use Rattle.flow.proofs.Demand.{stays, finished-ends, stopped-ends, not-zero, way}
 use Rattle.flow.proofs.Frames.{Held, Stopped, Finished, frame}
 use Rattle.flow.proofs.Phases.{valid, Level}
-use Rattle.flow.proofs.Reaches.{Frame, Lasting, at-rest, going, without, reopening, sealing, same-running, no-seal, seal-succeeds, Reaches, here, stop, step}
+use Rattle.flow.proofs.Reaches.{Frame, Lasting, at-rest, going, without, reopening, sealing, same-running, no-seal, seal-succeeds, Leads, arrived, stopped, onward}
 use Rattle.image.specs.Image.{Image, imageOf}
 
 module _ (i : Image) (lv : Level (i .header .level)) (b : Target) (l : Lists) where
@@ -39,24 +39,24 @@ module _ (i : Image) (lv : Level (i .header .level)) (b : Target) (l : Lists) wh
   held : {z : Bool} (b′ : Target) → Lasting (Held i z) b′ → z ≡ true → Lasting (HoldsImage i) b′
   held b′ s q = record { now = s .now .1 q; cut = λ r. (s .cut r) .1 q }
 
-  later : (k : ℕ) {z : Bool} (r : Run) → Reaches ours z r → z ≡ true → Lasting (HoldsImage i) ((runAfter i k r) .target)
+  later : (k : ℕ) {z : Bool} (r : Run) → Leads ours z r → z ≡ true → Lasting (HoldsImage i) ((runAfter i k r) .target)
   unfolding runAfter frame
-  later k r (here g) q = rw (stays i k r (finishes (g .1))) (at-rest (HoldsImage i) (r .target) (g .1 .quiet) (g .1 .holds-image))
-  later k r (stop s) q = rw (stays i k r (stops s)) (held (r .target) (s .sound) q)
-  later zero r (step w turn more) q = held (r .target) (w .safe) q
-  later (suc k) r (step w (without h) more) q = later k (advance i r) more q
-  later (suc k) r (step w (reopening h at) more) q = absurd (false≢true q)
-  later (suc k) r (step w (sealing h at) more) q = later k (advance i r) more refl
+  later k r (arrived g) q = rw (stays i k r (finishes (g .1))) (at-rest (HoldsImage i) (r .target) (g .1 .quiet) (g .1 .holds-image))
+  later k r (stopped s) q = rw (stays i k r (stops s)) (held (r .target) (s .sound) q)
+  later zero r (onward w turn more) q = held (r .target) (w .safe) q
+  later (suc k) r (onward w (without h) more) q = later k (advance i r) more q
+  later (suc k) r (onward w (reopening h at) more) q = absurd (false≢true q)
+  later (suc k) r (onward w (sealing h at) more) q = later k (advance i r) more refl
 
-  after-seal : (n k : ℕ) {z : Bool} (r : Run) → Reaches ours z r → seals ((runAfter i n r) .target) ((runAfter i (suc n) r) .target) ≡ true
+  after-seal : (n k : ℕ) {z : Bool} (r : Run) → Leads ours z r → seals ((runAfter i n r) .target) ((runAfter i (suc n) r) .target) ≡ true
       → Lasting (HoldsImage i) ((runAfter i (suc n + k) r) .target)
   unfolding runAfter frame
-  after-seal n k r (here g) h = absurd (none-seals n r (finishes (g .1)) h)
-  after-seal n k r (stop s) h = absurd (none-seals n r (stops s) h)
-  after-seal zero k r (step w (without q) more) h = absurd (false≢true (sym (no-seal (r .target) ((advance i r) .target) q) ∙ h))
-  after-seal zero k r (step w (reopening q at) more) h = absurd (false≢true (sym q ∙ h))
-  after-seal zero k r (step w (sealing q at) more) h = let e : suc 0 + k ≡ suc k = omega arith in rw e (later k (advance i r) more refl)
-  after-seal (suc n) k r (step w turn more) h =
+  after-seal n k r (arrived g) h = absurd (none-seals n r (finishes (g .1)) h)
+  after-seal n k r (stopped s) h = absurd (none-seals n r (stops s) h)
+  after-seal zero k r (onward w (without q) more) h = absurd (false≢true (sym (no-seal (r .target) ((advance i r) .target) q) ∙ h))
+  after-seal zero k r (onward w (reopening q at) more) h = absurd (false≢true (sym q ∙ h))
+  after-seal zero k r (onward w (sealing q at) more) h = let e : suc 0 + k ≡ suc k = omega arith in rw e (later k (advance i r) more refl)
+  after-seal (suc n) k r (onward w turn more) h =
       let e : suc (suc n) + k ≡ suc (suc n + k) = omega arith in
       rw e (after-seal n k (advance i r) more h)
 
@@ -71,25 +71,25 @@ module _ (i : Image) (lv : Level (i .header .level)) (b : Target) (l : Lists) wh
       same : (x y w : ℕ) → reported x y w ≡ reported 0 t h → x ≡ 0
       same x y w q = cc
 
-  on-the-way : (n : ℕ) {z : Bool} (r : Run) (t h : ℕ) → Reaches ours z r → z ≡ false → (runAfter i n r) .session ≡ reported 0 t h → SealedWithin i r n
+  on-the-way : (n : ℕ) {z : Bool} (r : Run) (t h : ℕ) → Leads ours z r → z ≡ false → (runAfter i n r) .session ≡ reported 0 t h → SealedWithin i r n
   unfolding runAfter frame
-  on-the-way n r t h (here g) q e = absurd (false≢true (sym q ∙ g .0))
-  on-the-way n r t h (stop s) q e = absurd (not-done r t h s (sym (ap (λ (x : Run). x .session) (stays i n r (stops s))) ∙ e))
-  on-the-way zero r t h (step w turn more) q e = absurd (false≢true (sym (ap going e) ∙ w .goes))
-  on-the-way (suc n) r t h (step w (without u) more) q e = sooner n r (on-the-way n (advance i r) t h more q e)
-  on-the-way (suc n) r t h (step w (reopening u at) more) q e = sooner n r (on-the-way n (advance i r) t h more refl e)
-  on-the-way (suc n) r t h (step w (sealing u at) more) q e = record { before = 0; within = omega arith; seals = u }
+  on-the-way n r t h (arrived g) q e = absurd (false≢true (sym q ∙ g .0))
+  on-the-way n r t h (stopped s) q e = absurd (not-done r t h s (sym (ap (λ (x : Run). x .session) (stays i n r (stops s))) ∙ e))
+  on-the-way zero r t h (onward w turn more) q e = absurd (false≢true (sym (ap going e) ∙ w .goes))
+  on-the-way (suc n) r t h (onward w (without u) more) q e = sooner n r (on-the-way n (advance i r) t h more q e)
+  on-the-way (suc n) r t h (onward w (reopening u at) more) q e = sooner n r (on-the-way n (advance i r) t h more refl e)
+  on-the-way (suc n) r t h (onward w (sealing u at) more) q e = record { before = 0; within = omega arith; seals = u }
 
   -- the step of a call for macro 0 that succeeds
-  step-of : (n : ℕ) {z : Bool} (r : Run) → Reaches ours z r → succeeds0 ((runAfter i n r) .target) ((runAfter i (suc n) r) .target) ≡ true
+  step-of : (n : ℕ) {z : Bool} (r : Run) → Leads ours z r → succeeds0 ((runAfter i n r) .target) ((runAfter i (suc n) r) .target) ≡ true
       → stepAt i ((runAfter i n r) .session) ≡ cond (seals ((runAfter i n r) .target) ((runAfter i (suc n) r) .target)) 7 3
   unfolding runAfter frame
-  step-of n r (here g) h = absurd (none-succeeds n r (finishes (g .1)) h)
-  step-of n r (stop s) h = absurd (none-succeeds n r (stops s) h)
-  step-of zero r (step w (without q) more) h = absurd (false≢true (sym q ∙ h))
-  step-of zero r (step w (reopening q at) more) h = at ∙ ap (λ (y : Bool). cond y 7 3) (sym q)
-  step-of zero r (step w (sealing q at) more) h = at ∙ ap (λ (y : Bool). cond y 7 3) (sym q)
-  step-of (suc n) r (step w turn more) h = step-of n (advance i r) more h
+  step-of n r (arrived g) h = absurd (none-succeeds n r (finishes (g .1)) h)
+  step-of n r (stopped s) h = absurd (none-succeeds n r (stops s) h)
+  step-of zero r (onward w (without q) more) h = absurd (false≢true (sym q ∙ h))
+  step-of zero r (onward w (reopening q at) more) h = at ∙ ap (λ (y : Bool). cond y 7 3) (sym q)
+  step-of zero r (onward w (sealing q at) more) h = at ∙ ap (λ (y : Bool). cond y 7 3) (sym q)
+  step-of (suc n) r (onward w turn more) h = step-of n (advance i r) more h
 
 -- what a cut leaves is what the failed call left
 through-cut : (i : Image) (b b′ : Target) → Lasting (HoldsImage i) b → CutTo b b′ → HoldsImage i (b′ .memory)
