@@ -11,7 +11,7 @@ use Rattle.flow.specs.Session.{position}
 use Rattle.flow.specs.Terms.{CalmCalls, callsEnd, calmCall}
 use Rattle.flow.specs.Exchange.{isCall}
 use Rattle.flow.specs.Judge.{judge}
-use Rattle.flow.specs.Monitor.{Watch, noticeRead}
+use Rattle.flow.specs.Monitor.{noticeRead}
 use Rattle.flow.specs.Sealing.{onMacro0, succeeds0, reopens}
 use Rattle.flow.specs.Sequence.{call, poll, read, write}
 use Rattle.flow.specs.Target.{Target, Residue, CallOutcome, idle, busy, nextOutcome}
@@ -20,7 +20,7 @@ use Rattle.flow.specs.declared.Entry.{Entry}
 use Rattle.flow.specs.declared.Move.{Move}
 use Rattle.flow.specs.declared.Place.the-variants.{AtSysreq, AtSysarg}
 use Rattle.flow.specs.declared.Purpose.the-variants.{Status}
-use Rattle.flow.proofs.Access.{aim, Answering, admits, write-reaches, call-reaches, read-still}
+use Rattle.flow.proofs.Access.{aim, facing, Answering, admits, write-reaches, call-reaches, read-still}
 use Rattle.flow.proofs.Legs.{core}
 use Rattle.flow.proofs.Table.{place-sysreq, place-sysarg, Facts}
 use Rattle.flow.proofs.Polling.{idleAt, during, looping, loopAt, poll-busy}
@@ -127,7 +127,7 @@ end-turn g {c = c} {b = b} (locking h k e) good r a v a′ v′ = sealing {b = a
 
 module _ {i : Image} (f : Frame i) (fx : Facts (i .geometry)) where
   -- from the poll on
-  call-tail : {z z′ : Bool} (s₀ : Bool) (r₀ : Residue) (q c s : ℕ) {y : Entry} {n : ℕ} {ms : List Move} {κ : Allowance} {e : Env} {k : ℕ} (b : Target) (x u : ℕ) {v : Bool}
+  call-tail : {z z′ : Bool} (s₀ : Bool) (r₀ : Residue) (q c s : ℕ) {y : Entry} {n : ℕ} {ms : List Move} {κ : Allowance} {e : Env} {k : ℕ} (b : Target) (x u : ℕ)
       → OnPlan f y n (poll (i .geometry) s ++ (read s (sysargOf (i .geometry)) Status ++ ms)) (looping 9999 (withTransfer (withTransfer (withTransfer κ)))) e
       → Answering (b .effect) → f .Safe z (b .memory) → ((r : Residue) → f .Safe z′ ((finish (i .geometry) true r c b) .memory)) → ((r : Residue) → f .Safe z ((finish (i .geometry) false r c b) .memory))
       → Ends s c b z z′
@@ -135,7 +135,7 @@ module _ {i : Image} (f : Frame i) (fx : Facts (i .geometry)) where
       → free (sysreqAfter c (b .silicon) (b .effect)) ≡ true → succeeded (sysargAfter c (b .silicon) (b .memory)) ≡ true
       → (next : (b′ : Target) → Returned (i .geometry) c (b .sysarg) b b′ → (n′ : ℕ) (e′ : Env) → OnPlan f y n′ ms κ e′
       → Reaches f z′ (sync (position y n′) (tally 0 0 k) b′ (idleAt (sysargOf (i .geometry))) e′))
-      → Reaches f z (sync (position y n) (tally 0 0 k) (aim x u (during (busy q s₀ r₀ c) b)) (loopAt x v true) e)
+      → Reaches f z (sync (position y n) (tally 0 0 k) (aim x u (during (busy q s₀ r₀ c) b)) (loopAt x true) e)
   unfolding finish judge noticeRead
   call-tail true r₀ q c s b x u st answering safe won lost ends idles wins ready good next =
       poll-busy f (place-sysreq (i .geometry) fx) s true r₀ c b (admits (b .effect) AtSysreq refl answering) safe lost (won r₀) ready (λ a v a′ v′. end-turn (i .geometry) ends good r₀ a v a′ v′) q 9999 0 x u refl st idles λ e₁ h₁ st₁.
@@ -161,14 +161,14 @@ module _ {i : Image} (f : Frame i) (fx : Facts (i .geometry)) where
   unfolding call write read withMoves
   call-allowance s c w ms κ st = less-room (17 + (17 + (17 + (17 + (51 * 10000 + (17 + (17 + (17 + κ .room)))))))) (omega arith) st
 
-  pub calling : {z z′ : Bool} (s c w : ℕ) {y : Entry} {n : ℕ} {ms : List Move} {κ : Allowance} {e : Env} {k : ℕ} {b : Target} {t : Watch}
+  pub calling : {z z′ : Bool} (s c w : ℕ) {y : Entry} {n : ℕ} {ms : List Move} {κ : Allowance} {e : Env} {k : ℕ} {b : Target} {x : ℕ} {po du : Bool}
       → Command c → OnPlanFor f (position y n) (call (i .geometry) s c w) ms κ e
       → Answering (b .effect) → b .running ≡ idle → f .Safe z (b .memory) → ((r : Residue) → f .Safe z′ ((finish (i .geometry) true r c (asked c w b)) .memory)) → ((r : Residue) → f .Safe z ((finish (i .geometry) false r c (asked c w b)) .memory))
       → Ends s c (asked c w b) z z′
       → free (sysreqAfter c (b .silicon) (b .effect)) ≡ true → succeeded (sysargAfter c (b .silicon) (b .memory)) ≡ true
       → (next : (b′ : Target) → Returned (i .geometry) c w b b′ → (n′ : ℕ) (e′ : Env) → OnPlan f y n′ ms κ e′
       → Reaches f z′ (sync (position y n′) (tally 0 0 k) b′ (idleAt (sysargOf (i .geometry))) e′))
-      → Reaches f z (sync (position y n) (tally 0 0 k) b t e)
+      → Reaches f z (sync (position y n) (tally 0 0 k) b (facing x po du) e)
   unfolding call write read withMoves
   calling {z = z} s c w {ms = ms} {κ = κ} {b = b} cmd st answering quiet safe won lost ends ready good next =
       write-reaches f s (sysargOf (i .geometry)) w (call-allowance s c w ms κ st) AtSysarg (place-sysarg (i .geometry) fx) (admits (b .effect) AtSysarg refl answering) (at-rest (f .Safe z) b quiet safe) (record { now = safe; cut = λ r. rw quiet safe }) refl λ e₁ h₁ st₁.
@@ -179,12 +179,12 @@ module _ {i : Image} (f : Frame i) (fx : Facts (i .geometry)) where
       λ b′ ret n′ e′ st′. next b′ (record { silicon = ret .silicon; effect = ret .effect; params = ret .params; memory = ret .memory; sysarg = ret .sysarg; sysreq = ret .sysreq; ended = ret .ended }) n′ e′ st′)
 
   -- a call that alters nothing
-  pub still-call : {z : Bool} (s : ℕ) {c : ℕ} (w : ℕ) {y : Entry} {n : ℕ} {ms : List Move} {κ : Allowance} {e : Env} {k : ℕ} {b : Target} {t : Watch}
+  pub still-call : {z : Bool} (s : ℕ) {c : ℕ} (w : ℕ) {y : Entry} {n : ℕ} {ms : List Move} {κ : Allowance} {e : Env} {k : ℕ} {b : Target} {x : ℕ} {po du : Bool}
       → Harmless c → OnPlanFor f (position y n) (call (i .geometry) s c w) ms κ e → Answering (b .effect) → b .running ≡ idle → f .Safe z (b .memory)
       → free (sysreqAfter c (b .silicon) (b .effect)) ≡ true → succeeded (sysargAfter c (b .silicon) (b .memory)) ≡ true
       → (next : (b′ : Target) → Returned (i .geometry) c w b b′ → core b′ ≡ core b → (n′ : ℕ) (e′ : Env) → OnPlan f y n′ ms κ e′
       → Reaches f z (sync (position y n′) (tally 0 0 k) b′ (idleAt (sysargOf (i .geometry))) e′))
-      → Reaches f z (sync (position y n) (tally 0 0 k) b t e)
+      → Reaches f z (sync (position y n) (tally 0 0 k) b (facing x po du) e)
   unfolding finish
   still-call {z} s {c} w {b = b} h st answering quiet safe ready good next =
       calling s c w (command c ((no-lock h) .low)) st answering quiet safe

@@ -93,19 +93,19 @@ fetch-ended g s r c a z o b = fetch-idle g a z o (finish g s r c b) (finish-idle
 -- ---- the loop
 
 -- a loop runs, TAR at a
-abbrev pub loopAt : (a : ℕ) (c d : Bool) → Watch
-loopAt a c d = record { tar = a; counts = c; polling = true; due = d }
+abbrev pub loopAt : (a : ℕ) (d : Bool) → Watch
+loopAt a d = record { tar = a; counts = false; polling = true; due = d }
 
 abbrev busied : Env → Env
 busied e = record { lists = e .lists; delays = oneBusy (e .delays); traffic = e .traffic }
 
 module _ {i : Image} (f : Frame i) (hp : place (i .geometry) (sysreqOf (i .geometry)) ≡ AtSysreq) where
   -- a poll that finds nothing under way
-  pub poll-idle : {z : Bool} (s : ℕ) {y : Entry} {n : ℕ} {ms : List Move} {κ : Allowance} {e : Env} {p a k : ℕ} (b : Target) {x : ℕ} {c d : Bool}
+  pub poll-idle : {z : Bool} (s : ℕ) {y : Entry} {n : ℕ} {ms : List Move} {κ : Allowance} {e : Env} {p a k : ℕ} (b : Target) {x : ℕ} {d : Bool}
       → OnPlan f y n (poll (i .geometry) s ++ ms) (withTransfer (withTransfer (withTransfer κ))) e → Admits (b .effect) AtSysreq → f .Safe z (b .memory) → b .running ≡ idle → free (b .sysreq) ≡ true
       → (next : (e′ : Env) → e′ .lists .calls ≡ e .lists .calls → OnPlan f y (suc (suc (suc n))) ms κ e′
       → Reaches f z (sync (position y (suc (suc (suc n)))) (tally 0 a k) (aim (sysreqOf (i .geometry)) (b .sysreq) b) (record { tar = sysreqOf (i .geometry); counts = false; polling = false; due = d }) e′))
-      → Reaches f z (sync (position y n) (tally p a k) b (loopAt x c d) e)
+      → Reaches f z (sync (position y n) (tally p a k) b (loopAt x d) e)
   unfolding judge noticeRead
   poll-idle {z = z} s b st ok safe rest ready next =
       read-still f s (sysreqOf (i .geometry)) Poll st AtSysreq hp ok (at-rest (f .Safe z) b rest safe) (λ o. b .sysreq) (λ o z. rw rest) λ o o′ e′ h st′.
@@ -138,11 +138,11 @@ module _ {i : Image} (f : Frame i) (hp : place (i .geometry) (sysreqOf (i .geome
     }
 
     -- q busy reads are left; after this poll m more are allowed
-    pub poll-busy : (q m : ℕ) {y : Entry} {n : ℕ} {ms : List Move} {κ : Allowance} {e : Env} {a k : ℕ} (p x v : ℕ) {c d : Bool}
+    pub poll-busy : (q m : ℕ) {y : Entry} {n : ℕ} {ms : List Move} {κ : Allowance} {e : Env} {a k : ℕ} (p x v : ℕ) {d : Bool}
         → p + suc m ≡ 10000 → OnPlan f y n (poll (i .geometry) s ++ ms) (looping m κ) e → (f .Still → q ≡ 0)
         → (next : (e′ : Env) → e′ .lists .calls ≡ e .lists .calls → OnPlan f y (suc (suc (suc n))) ms κ e′
         → Reaches f z′ (sync (position y (suc (suc (suc n)))) (tally 0 a k) (aim (sysreqOf (i .geometry)) (over .sysreq) over) (record { tar = sysreqOf (i .geometry); counts = false; polling = false; due = d }) e′))
-        → Reaches f z (sync (position y n) (tally p a k) (aim x v (during (busy q s₀ r₀ c₀) b)) (loopAt x c d) e)
+        → Reaches f z (sync (position y n) (tally p a k) (aim x v (during (busy q s₀ r₀ c₀) b)) (loopAt x d) e)
     unfolding judge noticeRead
     poll-busy zero m {κ = κ} p x v count st calm next =
         read-any f s (sysreqOf (i .geometry)) Poll (this-poll κ m st) AtSysreq hp ok going
