@@ -19,7 +19,7 @@ use Rattle.flow.proofs.Counting.{total, one-more}
 use Rattle.flow.proofs.Entering.{Goes, byOpen, byProtected, start-reaches}
 use Rattle.flow.proofs.Frames.{Sound, not-virgin, Held, Why, mishap, otherId, otherPart, Stopped, Finished, frame, start-on-plan}
 use Rattle.flow.proofs.Phases.{table-facts, valid, Level, isOpen, isProtected}
-use Rattle.flow.proofs.Reaches.{rightSilicon, RightIds, Frame, Lasting, at-rest, Bounded, going, Leads, arrived, stopped, onward}
+use Rattle.flow.proofs.Reaches.{rightSilicon, RightIds, Frame, Lasting, at-rest, Bounded, going, Course, arrived, stopped, onward}
 use Rattle.parts.proofs.Table.{both}
 use Rattle.image.specs.Checks.{metadataAt}
 use Rattle.image.specs.Image.{Image, imageOf}
@@ -77,7 +77,7 @@ module _ (i : Image) where
   stays zero r e = refl
   stays (suc n) r e = rw (advance-ended r e) (stays n r e)
 
--- ---- from Leads to every number of steps
+-- ---- from Course to every number of steps
 
 module _ (i : Image) (lv : Level (i .header .level)) (b : Target) (l : Lists) where
   abbrev ours : Frame i
@@ -99,21 +99,21 @@ module _ (i : Image) (lv : Level (i .header .level)) (b : Target) (l : Lists) wh
   pub stopped-ends : {z : Bool} {r : Run} → Stopped i (b .silicon) l z r → going (r .session) ≡ false
   stopped-ends s = ap going (s .is)
 
-  fair : (n : ℕ) {z : Bool} (r : Run) → Leads ours z r → Fair (runAfter i n r)
+  fair : (n : ℕ) {z : Bool} (r : Run) → Course ours z r → Fair (runAfter i n r)
   unfolding runAfter frame
   fair n r (arrived g) = rw (stays i n r (finished-ends (g .1))) (done (g .1))
   fair n r (stopped s) = rw (stays i n r (stopped-ends s)) (ended s)
   fair zero r (onward w turn more) = onWay (w .goes) (soundly (r .target) (w .safe)) (w .clear)
   fair (suc n) r (onward w turn more) = fair n (advance i r) more
 
-  bounded : (n : ℕ) {z : Bool} (r : Run) → Leads ours z r → (going (r .session) ≡ false → Bounded ours (r .traffic)) → Bounded ours (handedOut i (runAfter i n r))
+  bounded : (n : ℕ) {z : Bool} (r : Run) → Course ours z r → (going (r .session) ≡ false → Bounded ours (r .traffic)) → Bounded ours (handedOut i (runAfter i n r))
   unfolding runAfter frame
   bounded n r (arrived g) h = let e = finished-ends (g .1) in rw (stays i n r e, stands-none i (r .session) (r .traffic) e) (h e)
   bounded n r (stopped s) h = let e = stopped-ends s in rw (stays i n r e, stands-none i (r .session) (r .traffic) e) (h e)
   bounded zero r (onward w turn more) h = w .most
   bounded (suc n) r (onward w turn more) h = bounded n (advance i r) more (λ _. rw (met-traffic i r (w .goes)) (w .most))
 
-  comes : (n : ℕ) {z : Bool} (r : Run) → Leads ours z r → total (ours .most) ≤ n + total (r .traffic) → going ((runAfter i n r) .session) ≡ false
+  comes : (n : ℕ) {z : Bool} (r : Run) → Course ours z r → total (ours .most) ≤ n + total (r .traffic) → going ((runAfter i n r) .session) ≡ false
   unfolding runAfter frame
   comes n r (arrived g) h = rw (stays i n r (finished-ends (g .1))) (finished-ends (g .1))
   comes n r (stopped s) h = rw (stays i n r (stopped-ends s)) (stopped-ends s)
@@ -255,12 +255,12 @@ module _ (g : Geometry) (h : Header) (bytes : List ℕ) (p : Passes g h bytes) (
   abbrev lv : Level (h .level)
   lv = (valid g h bytes p) .level
 
-  pub way : Leads (frame i lv b l) false (started b l)
+  pub way : Course (frame i lv b l) false (started b l)
   unfolding frame
   way =
       (start-reaches (frame i lv b l) (table-facts g h bytes p) (valid g h bytes p) (record { high = s .high; low = s .low; revision = s .revision; family = s .family }) (b .memory)
       (record { flash = s .flash; locks = s .locks; latch = s .latch }) (level-sound b (s .level), (λ q. absurd (false≢true q))) (goes b (s .level))
-      (record { silicon = refl; memory = refl; room = s .params; quiet = s .quiet }) (start-on-plan i (table-facts g h bytes p) (frame i lv b l) b l refl refl (λ c. c))) .leads
+      (record { silicon = refl; memory = refl; room = s .params; quiet = s .quiet }) (start-on-plan i (table-facts g h bytes p) (frame i lv b l) b l refl refl (λ c. c))) .course
 
   fair-after : (n : ℕ) → Fair i lv b l (runAfter i n (started b l))
   fair-after n = fair i lv b l n (started b l) way

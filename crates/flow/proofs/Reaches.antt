@@ -239,21 +239,21 @@ pub record OnWay {i : Image} (f : Frame i) (z : Bool) (r : Run) : Type 0 where
   pub clear : NoError (r .monitor)
 
 -- the session comes to Goal, or stops for a reason
-pub data Leads {i : Image} (f : Frame i) : (sealed : Bool) → Run → Type 0 where
-  arrived : {z : Bool} {r : Run} → f .Goal z r → Leads f z r
-  stopped : {z : Bool} {r : Run} → f .Stop z r → Leads f z r
+pub data Course {i : Image} (f : Frame i) : (sealed : Bool) → Run → Type 0 where
+  arrived : {z : Bool} {r : Run} → f .Goal z r → Course f z r
+  stopped : {z : Bool} {r : Run} → f .Stop z r → Course f z r
   onward : {z z′ : Bool} {r : Run} → OnWay f z r → Turn (stepAt i (r .session)) z (r .target) ((advance i r) .target) z′
-      → Leads f z′ (advance i r) → Leads f z r
+      → Course f z′ (advance i r) → Course f z r
 
 -- what a stretch of the walk says of the run that it starts from
 pub record Reaches {i : Image} (f : Frame i) (z : Bool) (r : Run) : Type 0 where
-  pub leads : Leads f z r
+  pub course : Course f z r
 
 pub here : {i : Image} {f : Frame i} {z : Bool} {r : Run} → f .Goal z r → Reaches f z r
-here g = record { leads = arrived g }
+here g = record { course = arrived g }
 
 pub stop : {i : Image} {f : Frame i} {z : Bool} {r : Run} → f .Stop z r → Reaches f z r
-stop s = record { leads = stopped s }
+stop s = record { course = stopped s }
 
 pub clear : (x : Seen) → NoError (watching x)
 clear x n e = let no : _≡_ {A = ℕ} 0 1 = cc in omega arith
@@ -271,6 +271,6 @@ pub steps : {i : Image} (f : Frame i) {s : ℕ} {z : Bool} {q : Request} {u : Pu
 steps {i} f {s} {y = y} {n} {e = e} c x {b} st safe most is l =
     let at : stepAt i (running (position y n) c (e .traffic .transfers)) ≡ s = ap (λ (m : Move). m .step) (at-move st) in
     record {
-      leads = onward {z′ = l .sealed} {r = stood (position y n) c x b e} (record { goes = refl; safe = safe; most = rw (at-move st) most; clear = clear x })
-          (rw (at, is) (l .turn)) (rw is (l .reaches .leads));
+      course = onward {z′ = l .sealed} {r = stood (position y n) c x b e} (record { goes = refl; safe = safe; most = rw (at-move st) most; clear = clear x })
+          (rw (at, is) (l .turn)) (rw is (l .reaches .course));
     }

@@ -31,7 +31,7 @@ use Rattle.flow.proofs.Legs.{core}
 use Rattle.flow.proofs.Phases.{table-facts, callD}
 use Rattle.flow.proofs.Table.{place-sysreq, place-sysarg, Facts}
 use Rattle.flow.proofs.Polling.{idleAt}
-use Rattle.flow.proofs.Reaches.{Allowance, withMoves, Env, sync, RightIds, Frame, Lasting, OnPlanFor, at-place, split, Leads, arrived, stopped, onward, Reaches, here, tally, seen}
+use Rattle.flow.proofs.Reaches.{Allowance, withMoves, Env, sync, RightIds, Frame, Lasting, OnPlanFor, at-place, split, Course, arrived, stopped, onward, Reaches, here, tally, seen}
 use Rattle.image.specs.Image.{Image, imageOf}
 use Rattle.image.specs.declared.Header.{Header}
 use Rattle.parts.specs.Sizes.{sysreqOf, sysargOf}
@@ -85,7 +85,7 @@ module _ (i : Image) (b : Target) (right : RightIds i (b .silicon)) where
   }
 
   -- the run passes a state where the call runs
-  passes : {z : Bool} (r : Run) → Leads short z r → r .traffic .transfers ≤ allowed .room → record { n : ℕ; is : Reopens (b .memory) ((runAfter i n r) .target) }
+  passes : {z : Bool} (r : Run) → Course short z r → r .traffic .transfers ≤ allowed .room → record { n : ℕ; is : Reopens (b .memory) ((runAfter i n r) .target) }
   unfolding short runAfter
   passes r (arrived goal) few = record { n = 0; is = goal few }
   passes r (stopped never) few = absurd never
@@ -169,5 +169,5 @@ comes-to-reopen g h bytes p b s two right =
     let ids = right-ids i (b .silicon) right in
     passes i b ids (started b none)
     ((way i b ids (table-facts g h bytes p) two (record { high = s .high; low = s .low; revision = s .revision; family = s .family })
-    (record { silicon = refl; memory = refl; room = s .params; quiet = s .quiet })) .leads)
+    (record { silicon = refl; memory = refl; room = s .params; quiet = s .quiet })) .course)
     (omega arith)

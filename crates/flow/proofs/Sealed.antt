@@ -13,7 +13,7 @@ use Rattle.flow.specs.Target.{Target, Lists}
 use Rattle.flow.proofs.Demand.{stays, finished-ends, stopped-ends, not-zero, way}
 use Rattle.flow.proofs.Frames.{Held, Stopped, Finished, frame}
 use Rattle.flow.proofs.Phases.{valid, Level}
-use Rattle.flow.proofs.Reaches.{Frame, Lasting, at-rest, going, without, reopening, sealing, same-running, no-seal, seal-succeeds, Leads, arrived, stopped, onward}
+use Rattle.flow.proofs.Reaches.{Frame, Lasting, at-rest, going, without, reopening, sealing, same-running, no-seal, seal-succeeds, Course, arrived, stopped, onward}
 use Rattle.image.specs.Image.{Image, imageOf}
 
 module _ (i : Image) (lv : Level (i .header .level)) (b : Target) (l : Lists) where
@@ -39,7 +39,7 @@ module _ (i : Image) (lv : Level (i .header .level)) (b : Target) (l : Lists) wh
   held : {z : Bool} (b′ : Target) → Lasting (Held i z) b′ → z ≡ true → Lasting (HoldsImage i) b′
   held b′ s q = record { now = s .now .1 q; cut = λ r. (s .cut r) .1 q }
 
-  later : (k : ℕ) {z : Bool} (r : Run) → Leads ours z r → z ≡ true → Lasting (HoldsImage i) ((runAfter i k r) .target)
+  later : (k : ℕ) {z : Bool} (r : Run) → Course ours z r → z ≡ true → Lasting (HoldsImage i) ((runAfter i k r) .target)
   unfolding runAfter frame
   later k r (arrived g) q = rw (stays i k r (finishes (g .1))) (at-rest (HoldsImage i) (r .target) (g .1 .quiet) (g .1 .holds-image))
   later k r (stopped s) q = rw (stays i k r (stops s)) (held (r .target) (s .sound) q)
@@ -48,7 +48,7 @@ module _ (i : Image) (lv : Level (i .header .level)) (b : Target) (l : Lists) wh
   later (suc k) r (onward w (reopening h at) more) q = absurd (false≢true q)
   later (suc k) r (onward w (sealing h at) more) q = later k (advance i r) more refl
 
-  after-seal : (n k : ℕ) {z : Bool} (r : Run) → Leads ours z r → seals ((runAfter i n r) .target) ((runAfter i (suc n) r) .target) ≡ true
+  after-seal : (n k : ℕ) {z : Bool} (r : Run) → Course ours z r → seals ((runAfter i n r) .target) ((runAfter i (suc n) r) .target) ≡ true
       → Lasting (HoldsImage i) ((runAfter i (suc n + k) r) .target)
   unfolding runAfter frame
   after-seal n k r (arrived g) h = absurd (none-seals n r (finishes (g .1)) h)
@@ -71,7 +71,7 @@ module _ (i : Image) (lv : Level (i .header .level)) (b : Target) (l : Lists) wh
       same : (x y w : ℕ) → reported x y w ≡ reported 0 t h → x ≡ 0
       same x y w q = cc
 
-  on-the-way : (n : ℕ) {z : Bool} (r : Run) (t h : ℕ) → Leads ours z r → z ≡ false → (runAfter i n r) .session ≡ reported 0 t h → SealedWithin i r n
+  on-the-way : (n : ℕ) {z : Bool} (r : Run) (t h : ℕ) → Course ours z r → z ≡ false → (runAfter i n r) .session ≡ reported 0 t h → SealedWithin i r n
   unfolding runAfter frame
   on-the-way n r t h (arrived g) q e = absurd (false≢true (sym q ∙ g .0))
   on-the-way n r t h (stopped s) q e = absurd (not-done r t h s (sym (ap (λ (x : Run). x .session) (stays i n r (stops s))) ∙ e))
@@ -81,7 +81,7 @@ module _ (i : Image) (lv : Level (i .header .level)) (b : Target) (l : Lists) wh
   on-the-way (suc n) r t h (onward w (sealing u at) more) q e = record { before = 0; within = omega arith; seals = u }
 
   -- the step of a call for macro 0 that succeeds
-  step-of : (n : ℕ) {z : Bool} (r : Run) → Leads ours z r → succeeds0 ((runAfter i n r) .target) ((runAfter i (suc n) r) .target) ≡ true
+  step-of : (n : ℕ) {z : Bool} (r : Run) → Course ours z r → succeeds0 ((runAfter i n r) .target) ((runAfter i (suc n) r) .target) ≡ true
       → stepAt i ((runAfter i n r) .session) ≡ cond (seals ((runAfter i n r) .target) ((runAfter i (suc n) r) .target)) 7 3
   unfolding runAfter frame
   step-of n r (arrived g) h = absurd (none-succeeds n r (finishes (g .1)) h)

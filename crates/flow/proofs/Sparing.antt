@@ -11,7 +11,7 @@ use Rattle.flow.proofs.Demand.{right-part, stays, goes}
 use Rattle.flow.proofs.Entering.{start-reaches}
 use Rattle.flow.proofs.Frames.{start-on-plan}
 use Rattle.flow.proofs.Phases.{table-facts, valid}
-use Rattle.flow.proofs.Reaches.{RightIds, Frame, going, Leads, arrived, stopped, onward}
+use Rattle.flow.proofs.Reaches.{RightIds, Frame, going, Course, arrived, stopped, onward}
 use Rattle.image.specs.Image.{Image, imageOf}
 use Rattle.flow.specs.declared.Next.the-variants.{Stop}
 
@@ -41,7 +41,7 @@ module _ (i : Image) (b : Target) (wrong : RightIds i (b .silicon) → ⊥) wher
     wrongPart = λ s b l x t safe h. record { ended = refl; same = safe .now };
   }
 
-  spares : (n : ℕ) {z : Bool} (r : Run) → Leads sparing z r → (runAfter i n r) .target .memory ≡ b .memory
+  spares : (n : ℕ) {z : Bool} (r : Run) → Course sparing z r → (runAfter i n r) .target .memory ≡ b .memory
   unfolding runAfter sparing
   spares n r (arrived done) = absurd done
   spares n r (stopped left) = rw (stays i n r (left .ended)) (left .same)
@@ -57,4 +57,4 @@ other-part-spared g h bytes p b s l n wrong =
     spares i b (λ right. wrong (right-part i (b .silicon) right)) n (started b l)
     ((start-reaches f fx (valid g h bytes p) (record { high = s .high; low = s .low; revision = s .revision; family = s .family }) (b .memory)
     (record { flash = s .flash; locks = s .locks; latch = s .latch }) refl (goes b (s .level))
-    (record { silicon = refl; memory = refl; room = s .params; quiet = s .quiet }) (start-on-plan i fx f b l refl refl (λ still. absurd still))) .leads)
+    (record { silicon = refl; memory = refl; room = s .params; quiet = s .quiet }) (start-on-plan i fx f b l refl refl (λ still. absurd still))) .course)
