@@ -7,12 +7,8 @@ use lib.ListN.{length, getD, set, take, drop, replicate, length-set, length-appe
 use lib.Seq.{sets, getD-drop, take-all, length-take-le}
 use Rattle.flow.specs.Calls.{bytesIn}
 use Rattle.flow.specs.Target.{sized}
-use Rattle.lent.proofs.Lists.{sets-whole}
+use Rattle.lent.proofs.Lists.{sets-cons, sets-whole}
 use Rattle.lent.specs.Words.{lowFirst}
-
-sets-cons : (y : ℕ) (l : List ℕ) (o : ℕ) (x : List ℕ) → sets (y ∷ l) (suc o) x ≡ y ∷ sets l o x
-sets-cons y l o [] = refl
-sets-cons y l o (v ∷ x) = sets-cons y (set l o v) (suc o) x
 
 -- a store past the end does nothing
 sets-out : (l : List ℕ) (o : ℕ) (x : List ℕ) → length l ≤ o → sets l o x ≡ l

@@ -1,30 +1,29 @@
 -- A run of turns is a list of steps, and demand 3 says how it ends. Assumes nothing.
-use mathlib.Core.Bool.{true, false, false≢true, and-false}
-use mathlib.Core.List.{List, [], _∷_, _++_}
+use mathlib.Core.Bool.{true, false, false≢true}
+use mathlib.Core.List.{List}
 use mathlib.Core.Path.{_≡_, refl, sym, ap, subst, _∙_}
 use Prim.Native.Nat.{ℕ, suc, _+_, _≤_, _<_}
 use native.Mathlib.Omega.{arith}
-use lib.Dec.{eqb}
 use lib.ListN.{length}
 use Rattle.dry.specs.Playing.{noLists, Moment, moment, boardAt, meets, Turns, Started, reportIn, DoneAsPlanned}
 use Rattle.dry.proofs.Meets.{same-met}
-use Rattle.flow.specs.Terms.{Calm, calmEnd, callsEnd, entryOf, Used, entries}
+use Rattle.flow.proofs.Undisturbed.{calm-used}
+use Rattle.flow.specs.Terms.{entryOf}
 use Rattle.flow.specs.Examples.{partOne}
 use Rattle.flow.specs.Exchange.{Met, meet}
 use Rattle.flow.specs.Plan.{plan, lockPlan, loops, mostTraffic}
 use Rattle.flow.specs.Target.{Target, Lists}
 use Rattle.flow.specs.declared.Entry.the-variants.{FromOpen}
 use Rattle.flow.specs.declared.Packet.{Packet}
-use Rattle.flow.specs.declared.Packet.the-variants.{Xres}
-use Rattle.image.specs.Checks.{imageFault}
 use Rattle.image.specs.Image.{imageOf}
 use Rattle.image.specs.declared.Header.{Header}
 use Rattle.parts.specs.Sizes.{rowsOf, locksIn}
 use Rattle.parts.specs.declared.Geometry.{Geometry}
 use Rattle.session.proofs.Demand.{demand3}
+use Rattle.session.proofs.Possibility.{granted}
 use Rattle.session.specs.Calls.{State, Steps, none, answer, refusal, later, begun, answered, reaction, standing}
 use Rattle.session.specs.Claim.{most, Demand3}
-use Rattle.session.specs.Given.{startOf, startedOn, stepWith}
+use Rattle.session.specs.Given.{startOf, stepWith}
 use Rattle.session.specs.declared.Given.{Given}
 use Rattle.session.specs.declared.Outcome.{Outcome}
 use Rattle.session.specs.declared.Outcome.the-variants.{Refused, Ask, Reported}
@@ -50,25 +49,6 @@ stands-unrefused none h = h
 stands-unrefused {g} {bytes} {s = s} (answer q f steps) h = stands-unrefused steps (no-refusal (s .stands) ((stepWith (s .session) bytes ((reaction g q s) .answer)) .outcome) h)
 stands-unrefused {s = s} (refusal l a x f steps) h = stands-unrefused steps (no-refusal (s .stands) ((stepWith (s .session) l a) .outcome) h)
 stands-unrefused {bytes = bytes} {s = s} (later a r f steps) h = stands-unrefused steps (no-refusal (s .stands) ((stepWith (s .session) bytes a) .outcome) h)
-
--- what was used of empty lists is calm
-nothing-used : {A : Type 0} (a b : List A) → [] ≡ a ++ b → a ≡ []
-nothing-used [] b e = refl
-nothing-used (x ∷ a) b e = let t : false ≡ true = cc in absurd (false≢true t)
-
-calm-used : {left : Lists} (u : Used noLists left) → Calm (entries u)
-calm-used {left} u = record { line = rw (nothing-used (u .line) (left .line) (u .lineIs)) calmEnd; calls = rw (nothing-used (u .calls) (left .calls) (u .callsIs)) callsEnd }
-
--- the image passes, so the start is not refused
-start-taken : (h : Header) (bytes : List ℕ) → imageFault h bytes ≡ 0 → startOf h bytes true ≡ startedOn h
-unfolding startOf
-start-taken h bytes e = rw (e, and-false (eqb (h .level) 4)) refl
-
-unrefused : (h : Header) (bytes : List ℕ) → imageFault h bytes ≡ 0 → (n : ℕ) → ¬ ((startOf h bytes true) .outcome ≡ Refused n)
-unrefused h bytes e n f =
-    let z : Ask Xres ≡ Refused n = ap (λ (g : Given). g .outcome) (sym (start-taken h bytes e)) ∙ f in
-    let t : false ≡ true = cc z in
-    absurd (false≢true t)
 
 -- after n answers the session, what stands and the board are these, the lists at their end
 pub record PlayedTo (h : Header) (bytes : List ℕ) (b₀ : Target) (n : ℕ) (m : Moment) : Type 0 where
@@ -112,7 +92,7 @@ module _ (bytes : List ℕ) (m₀ : Moment) (w : Started bytes m₀) where
         }
 
     not-started : (x : ℕ) → ¬ ((startOf (w .header) bytes true) .outcome ≡ Refused x)
-    not-started = unrefused (w .header) bytes (w .passes .checked)
+    not-started = granted (w .header) bytes (w .passes .checked)
 
     claim : Demand3 (imageOf partOne (w .header) bytes) (boardAt m₀) noLists n (v .state)
     claim = demand3 partOne (w .header) bytes true (w .passes) not-started (boardAt m₀) (w .startable) noLists n 0 (v .state) (v .steps)

@@ -1,5 +1,5 @@
 -- A mishap has an entry that was used and was not calm: what lies behind the used entries makes no difference. Assumes nothing.
-use mathlib.Core.Bool.{Bool, true, false, _&&_, not, cond}
+use mathlib.Core.Bool.{Bool, true, false, false≢true, _&&_, not, cond}
 use mathlib.Core.List.{List, [], _∷_, _++_, append-assoc}
 use mathlib.Core.Logic.{_⊎_, inl, inr}
 use mathlib.Core.Path.{_≡_, refl, ap, sym, _∙_}
@@ -8,7 +8,7 @@ use native.Mathlib.Nat.{le-refl}
 use native.Mathlib.Omega.{arith}
 use lib.ListN.{length, length-append}
 use Rattle.flow.specs.Claim.{UndisturbedHolds}
-use Rattle.flow.specs.Terms.{Used}
+use Rattle.flow.specs.Terms.{Calm, calmEnd, callsEnd, Used, entries}
 use Rattle.flow.specs.Exchange.{decode, carry, store, begin, isCall, isSysreq, killed, barred, carriedOut, callsOn, silentReply, replyTo, gives, Met, met, transferred, meetOn, meet}
 use Rattle.flow.specs.Map.{place}
 use Rattle.flow.specs.Packets.{packetOf, isRead}
@@ -243,3 +243,11 @@ undisturbed-holds g h bytes p b s l n u calm =
     ap (runAfter i n) split ∙ prefix i n left (started b used) (sym (ap (λ (r : Run). (runAfter i n r) .lists) split)) in
     let d = run-demand3-holds g h bytes p b s used n in
     rw e (record { clean = d .provoked calm; done = λ right x t z is. d .calm calm right x t z is })
+
+-- what was used of empty lists is calm
+nothing-used : {A : Type 0} (a b : List A) → [] ≡ a ++ b → a ≡ []
+nothing-used [] b e = refl
+nothing-used (x ∷ a) b e = let t : false ≡ true = cc in absurd (false≢true t)
+
+pub calm-used : {left : Lists} (u : Used (record { line = []; calls = [] }) left) → Calm (entries u)
+calm-used {left} u = record { line = rw (nothing-used (u .line) (left .line) (u .lineIs)) calmEnd; calls = rw (nothing-used (u .calls) (left .calls) (u .callsIs)) callsEnd }

@@ -69,16 +69,28 @@ pub record Seen : Type 0 where
   pub watch : Watch
   pub delays : Delays
 
+abbrev pub waitsAre : Waits → Seen → Seen
+waitsAre w x = record { waits = w; polls = x .polls; attempts = x .attempts; watch = x .watch; delays = x .delays }
+
+abbrev pub pollsAre : ℕ → Seen → Seen
+pollsAre n x = record { waits = x .waits; polls = n; attempts = x .attempts; watch = x .watch; delays = x .delays }
+
+abbrev pub attemptsAre : ℕ → Seen → Seen
+attemptsAre n x = record { waits = x .waits; polls = x .polls; attempts = n; watch = x .watch; delays = x .delays }
+
 abbrev pub withWatch : Watch → Seen → Seen
 withWatch t x = record { waits = x .waits; polls = x .polls; attempts = x .attempts; watch = t; delays = x .delays }
 
+abbrev pub delaysAre : Delays → Seen → Seen
+delaysAre d x = record { waits = x .waits; polls = x .polls; attempts = x .attempts; watch = x .watch; delays = d }
+
 -- the run of WAITs is over
 abbrev pub noneWaits : Seen → Seen
-noneWaits x = record { waits = noWaits; polls = x .polls; attempts = x .attempts; watch = x .watch; delays = x .delays }
+noneWaits x = waitsAre noWaits x
 
 -- a poll loop begins or ends: its polls are counted afresh
 abbrev pub inLoop : (polling : Bool) → Seen → Seen
-inLoop p x = record { waits = x .waits; polls = 0; attempts = x .attempts; watch = withPolling p (x .watch); delays = x .delays }
+inLoop p x = pollsAre 0 (withWatch (withPolling p (x .watch)) x)
 
 abbrev pub dueIs : Bool → Seen → Seen
 dueIs u x = withWatch (withDue u (x .watch)) x
@@ -86,13 +98,13 @@ dueIs u x = withWatch (withDue u (x .watch)) x
 -- ---- what an answer adds
 
 abbrev pub busyPoll : Seen → Seen
-busyPoll x = record { waits = x .waits; polls = suc (x .polls); attempts = x .attempts; watch = x .watch; delays = oneBusy (x .delays) }
+busyPoll x = pollsAre (suc (x .polls)) (delaysAre (oneBusy (x .delays)) x)
 
 abbrev pub attemptMissed : Seen → Seen
-attemptMissed x = record { waits = noWaits; polls = x .polls; attempts = suc (x .attempts); watch = x .watch; delays = oneMissed (x .delays) }
+attemptMissed x = noneWaits (attemptsAre (suc (x .attempts)) (delaysAre (oneMissed (x .delays)) x))
 
 abbrev pub attemptOkay : Seen → Seen
-attemptOkay x = record { waits = x .waits; polls = x .polls; attempts = 0; watch = x .watch; delays = x .delays }
+attemptOkay x = attemptsAre 0 x
 
 -- the WAITs of a transfer so far: another request starts afresh
 abbrev pub waitsOf : Request → Waits → ℕ
@@ -100,13 +112,7 @@ waitsOf q noWaits = 0
 waitsOf q (waitsOn q′ n) = cond (sameRequest q q′) n 0
 
 abbrev pub waited : Request → Seen → Seen
-waited q x = record {
-  waits = waitsOn q (suc (waitsOf q (x .waits)));
-  polls = x .polls;
-  attempts = x .attempts;
-  watch = x .watch;
-  delays = oneWait (x .delays);
-}
+waited q x = waitsAre (waitsOn q (suc (waitsOf q (x .waits)))) (delaysAre (oneWait (x .delays)) x)
 
 -- ---- the first mishap
 

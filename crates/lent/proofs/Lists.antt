@@ -25,7 +25,7 @@ drop-min n l = go (leb n (length l)) refl
     go true q = let h = leb-true n (length l) q in let e : min n (length l) ≡ n = omega arith in rw e
     go false q = let h = leb-false n (length l) q in drop-of-length-le l {i = min n (length l)} (omega arith) ∙ sym (drop-of-length-le l {i = n} (omega arith))
 
-sets-cons : (y : ℕ) (l : List ℕ) (i : ℕ) (vs : List ℕ) → sets (y ∷ l) (suc i) vs ≡ y ∷ sets l i vs
+pub sets-cons : (y : ℕ) (l : List ℕ) (i : ℕ) (vs : List ℕ) → sets (y ∷ l) (suc i) vs ≡ y ∷ sets l i vs
 sets-cons y l i [] = refl
 sets-cons y l i (v ∷ vs) = sets-cons y (set l i v) (suc i) vs
 

@@ -79,7 +79,7 @@ row-found g ok bytes exact r l =
 pub lock-place : (g : Geometry) (ok : Handled g) (bytes : List ℕ) (exact : length bytes ≡ imageSize g) (m : ℕ) → m < macrosOf g → LockPlace g bytes m
 unfolding imageSize lockTotal
 lock-place g ok bytes exact m l =
-    let t : lockStart g m + locksIn g m ≤ rowsOf g / 8 = locks-end g m l in
+    let t : lockStart g m + locksIn g m ≤ lockTotal g = locks-end g m l in
     record {
       low = omega (arith, ok .macros);
       end = omega arith;

@@ -1,11 +1,11 @@
 -- A cut can fall into the reopening call, for every part and M, and the board is loaded after it. Assumes nothing.
 use mathlib.Core.Bool.{Bool, true, false}
-use mathlib.Core.List.{List, [], _∷_, _++_}
+use mathlib.Core.List.{[]}
 use mathlib.Core.Path.{_≡_, refl, sym, ap, subst, _∙_}
 use Prim.Native.Nat.{ℕ}
 use native.Mathlib.Omega.{arith}
-use lib.Dec.{eqb}
 use Rattle.flow.proofs.CutExamples.{cut-examples}
+use Rattle.flow.proofs.Undisturbed.{calm-used}
 use Rattle.flow.proofs.Reopening.{Reopens, comes-to-reopen}
 use Rattle.flow.proofs.Witness.{witness}
 use Rattle.flow.specs.BoardExamples.{none}
@@ -13,12 +13,9 @@ use Rattle.flow.specs.Calls.{afterFailure}
 use Rattle.flow.specs.Claim.{Achieved}
 use Rattle.flow.specs.CutExamples.{Reopening, poweredUp}
 use Rattle.flow.specs.Cuts.{cutMemory, CutTo}
-use Rattle.flow.specs.Target.{Memory, Residue, CallOutcome, Target, Lists}
-use Rattle.flow.specs.Terms.{Startable, RightPart, Calm, CalmLine, CalmCalls, calmEnd, callsEnd, Used, entries}
-use Rattle.flow.specs.declared.LineEvent.{LineEvent}
+use Rattle.flow.specs.Target.{Memory, Residue, Target}
+use Rattle.flow.specs.Terms.{Startable, RightPart}
 use Rattle.flow.specs.declared.Packet.the-variants as Packets
-use Rattle.image.specs.Checks.{imageFault}
-use Rattle.image.specs.declared.Header.{Header}
 use Rattle.parts.specs.Parts.{lookupOf}
 use Rattle.parts.specs.declared.Geometry.{Geometry}
 use Rattle.parts.specs.declared.Lookup.the-variants.{Found}
@@ -26,9 +23,8 @@ use Rattle.recovery.specs.Recovery.{Start, imageIn, Leads, Interrupted, 
 use Rattle.recovery.specs.Witness.{FreeCuts, Reloaded, ReopeningCut}
 use Rattle.recovery.proofs.Recovery.{recovery-holds}
 use Rattle.recovery.proofs.Walking.{walked}
+use Rattle.session.proofs.Possibility.{granted}
 use Rattle.session.specs.Calls.{State}
-use Rattle.session.specs.Given.{startOf}
-use Rattle.session.specs.declared.Outcome.the-variants.{Refused, Ask}
 
 pub free-cuts : FreeCuts
 free-cuts = record {
@@ -40,18 +36,6 @@ free-cuts = record {
     join : {g : Geometry} {b₀ b b′ : Target} → Interrupted g b₀ b → Interrupted g b b′ → Interrupted g b₀ b′
     join before never = before
     join before (cut after x l n k s leads c) = cut (join before after) x l n k s leads c
-
--- of no entries none can be used
-no-line : (a b : List LineEvent) → [] ≡ a ++ b → CalmLine a
-no-line [] b e = calmEnd
-no-line (x ∷ a) b e = let z : _≡_ {A = ℕ} 0 1 = cc in absurd (omega arith)
-
-no-calls : (a b : List CallOutcome) → [] ≡ a ++ b → CalmCalls a
-no-calls [] b e = callsEnd
-no-calls (x ∷ a) b e = let z : _≡_ {A = ℕ} 0 1 = cc in absurd (omega arith)
-
-all-calm : {left : Lists} (u : Used none left) → Calm (entries u)
-all-calm {left} u = record { line = no-line (u .line) (left .line) (u .lineIs); calls = no-calls (u .calls) (left .calls) (u .callsIs) }
 
 -- what a cut leaves: all flash and locks zero, and the level sent or not
 abbrev leaving : Bool → Residue
@@ -74,19 +58,10 @@ module _ {g : Geometry} (x : Start g) (b : Target) (may : Startable g b) (right 
         stored = is;
         interrupted = i;
         ended = e;
-        loaded = r .loaded (e .answers) 0 (e .state) (e .leads) (e .report) (e .stands) (d .provoked (all-calm (d .used)));
+        loaded = r .loaded (e .answers) 0 (e .state) (e .leads) (e .report) (e .stands) (d .provoked (calm-used (d .used)));
       }
 
 -- ---- from a PROTECTED board on which done can be reached
-
--- with leave no image that passes is refused
-pub granted : (h : Header) (bytes : List ℕ) → imageFault h bytes ≡ 0 → (n : ℕ) → ¬ ((startOf h bytes true) .outcome ≡ Refused n)
-unfolding startOf
-granted h bytes good n e = by (eqb (h .level) 4) refl
-  where
-    by : (t : Bool) → eqb (h .level) 4 ≡ t → ⊥
-    by true q = let no : Ask Packets.Xres ≡ Refused n = rw (good, q) at e in let z : _≡_ {A = ℕ} 0 1 = cc in omega arith
-    by false q = let no : Ask Packets.Xres ≡ Refused n = rw (good, q) at e in let z : _≡_ {A = ℕ} 0 1 = cc in omega arith
 
 -- the level that the cut leaves
 new-level : (b : Target) → Reopening b → (cutMemory b (leaving true)) .stored ≡ 1

@@ -1,21 +1,26 @@
 -- A possible session as facts; the session that starting gives and what a step makes of a possible one are possible. Assumes nothing.
-use mathlib.Core.Bool.{Bool, true, false, _&&_, cond}
+use mathlib.Core.Bool.{Bool, true, false, false≢true, _&&_, cond, and-false}
 use mathlib.Core.List.{List}
-use mathlib.Core.Path.{_≡_, refl}
+use mathlib.Core.Path.{_≡_, refl, sym, ap, _∙_}
 use Prim.Native.Nat.{ℕ, _≤_}
 use native.Mathlib.Omega.{arith}
 use borrow.Author.Tests.{lt-ltb, le-leb, ltb-true, leb-true}
-use lib.Dec.{leb, ltb}
+use lib.Dec.{eqb, leb, ltb}
 use Rattle.flow.specs.Session.{running, reported, stepOf}
 use Rattle.flow.specs.Session as Flow
 use Rattle.flow.specs.declared.Answer.{Answer}
+use Rattle.flow.specs.declared.Packet.the-variants.{Xres}
+use Rattle.image.specs.Checks.{imageFault}
 use Rattle.image.specs.Image.{imageOf}
 use Rattle.image.specs.declared.Header.{Header}
 use Rattle.flow.specs.Session.{moveCount}
 use Rattle.parts.proofs.Table.{both}
 use Rattle.parts.specs.declared.Geometry.{Geometry}
+use Rattle.session.specs.Given.{startOf, startedOn}
 use Rattle.session.specs.Possible.{headerFits, runningFits, reportFits, possibleIn}
 use Rattle.session.specs.Sessions.{standOf, mostOf, resumed}
+use Rattle.session.specs.declared.Given.{Given}
+use Rattle.session.specs.declared.Outcome.the-variants.{Refused, Ask}
 use Rattle.session.specs.declared.Session.{Session}
 use Rattle.session.proofs.Closed.{Within, Stands, step-stands}
 
@@ -73,3 +78,12 @@ step-possible g bytes s a h =
     let i = imageOf g (s .header) bytes in
     let p = parts g s h in
     whole g _ (resumed-parts g (s .header) bytes s (p .header) (stepOf i (standOf s) a) (step-stands i (standOf s) a (stands-of g (s .header) bytes s p)))
+
+-- with leave no image that passes is refused
+pub granted : (h : Header) (bytes : List ℕ) → imageFault h bytes ≡ 0 → (n : ℕ) → ¬ ((startOf h bytes true) .outcome ≡ Refused n)
+unfolding startOf
+granted h bytes e n f =
+    let taken : startOf h bytes true ≡ startedOn h = rw (e, and-false (eqb (h .level) 4)) refl in
+    let z : Ask Xres ≡ Refused n = ap (λ (g : Given). g .outcome) (sym taken) ∙ f in
+    let t : false ≡ true = cc z in
+    false≢true t

@@ -15,9 +15,5 @@ mul-result c =
     let b : g .part .«rows_per_macro» ≤ 65535 = omega arith in
     omega (arith, mul-le-mul a b)
 
-returns : tie.Need-returns
-unfolding rowsOf
-returns c = refl
-
 pub rows-spec : {M : Type 1} → statement M
-rows-spec = tie.close (tie.spec (λ c. search needs) (λ c. search needs) mul-result returns)
+rows-spec = tie.close (tie.spec (λ c. search needs) (λ c. search needs) mul-result (λ c. unfold rowsOf in refl))

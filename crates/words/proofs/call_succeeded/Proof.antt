@@ -4,9 +4,5 @@ use Rattle.flow.specs.Words.{succeeded}
 use Rattle.words.proofs.call_succeeded.Statement.{statement}
 use Rattle.words.proofs.call_succeeded.Tie as tie
 
-returns : tie.Need-returns
-unfolding succeeded
-returns c = refl
-
 pub call-succeeded-spec : {M : Type 1} → statement M
-call-succeeded-spec = tie.close (tie.spec returns)
+call-succeeded-spec = tie.close (tie.spec (λ c. unfold succeeded in refl))

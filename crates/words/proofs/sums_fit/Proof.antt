@@ -5,9 +5,5 @@ use borrow.Author.Needs.{needs}
 use Rattle.words.proofs.sums_fit.Statement.{statement}
 use Rattle.words.proofs.sums_fit.Tie as tie
 
-returns : tie.Need-returns
-unfolding sumsFit
-returns c = refl
-
 pub sums-fit-spec : {M : Type 1} → statement M
-sums-fit-spec = tie.close (tie.spec (λ c. search needs) (λ c. search needs) (λ c. search needs) returns)
+sums-fit-spec = tie.close (tie.spec (λ c. search needs) (λ c. search needs) (λ c. search needs) (λ c. unfold sumsFit in refl))
