@@ -3,7 +3,7 @@ use mathlib.Core.Bool.{Bool, true, false, _&&_, not, cond}
 use mathlib.Core.List.{[], _∷_}
 use mathlib.Core.Path.{_≡_, refl, sym, ap, _∙_}
 use lib.Dec.{eqb}
-use Rattle.bench_calls.specs.Board.{Buffers, Left, callOutcomeOf, targetOf}
+use Rattle.bench_calls.specs.Board.{Buffers, ResidueBytes, callOutcomeOf, targetOf}
 use Rattle.bench_calls.specs.Ends.{Resets}
 use Rattle.bench_board.specs.Meets.{keeping, Seen, seen, carried, Carries, Calls, Replies, Decides, metOf, listsOf}
 use Rattle.bench_calls.specs.declared.CallOutcome.{CallOutcome}
@@ -34,30 +34,30 @@ module _ (g : Geometry) (v : Seen) (q : Request) (e : LineEvent) (o : CallOutcom
   through = not (eqb (r .effect) 4) && not bars && carriedOut (e .outcome)
 
   -- by whether it is barred
-  abbrev metFor : (x : Left) (b : Buffers) → Bool → Flow.Met
+  abbrev metFor : (x : ResidueBytes) (b : Buffers) → Bool → Flow.Met
   metFor x b z =
       let t = targetOf x r b in
       met (not (killed t) && not z && carriedOut (e .outcome)) g q (listsOf x e o)
       (cond (killed t) (silentReply (e .filler)) (replyTo (e .outcome) z (isRead q) (gives q t) (e .filler))) t
 
-  barred-so : (x : Left) (b : Buffers) → barred g q (targetOf x r b) ≡ bars
+  barred-so : (x : ResidueBytes) (b : Buffers) → barred g q (targetOf x r b) ≡ bars
   unfolding barred
   barred-so x b = ap (λ (s : Place). eqb (r .effect) 2 && overDrw q && guarded s) (sym at) ∙ sym shut
 
-  met-so : (x : Left) (b : Buffers) → transferred g q (listsOf x e o) (targetOf x r b) ≡ metFor x b bars
+  met-so : (x : ResidueBytes) (b : Buffers) → transferred g q (listsOf x e o) (targetOf x r b) ≡ metFor x b bars
   unfolding transferred
   met-so x b = ap (λ (z : Bool). metFor x b z) (barred-so x b)
 
-  abbrev told : (x : Left) → Target → Reply → Bool → Flow.Met
+  abbrev told : (x : ResidueBytes) → Target → Reply → Bool → Flow.Met
   told x t y s = record { target = t; answer = Transferred y; lists = record { line = []; calls = cond s [] (callOutcomeOf x o ∷ []) } }
 
-  abbrev metThrough : (x : Left) (b : Buffers) → Bool → Flow.Met
+  abbrev metThrough : (x : ResidueBytes) (b : Buffers) → Bool → Flow.Met
   metThrough x b z =
       let t = targetOf x r b in
       met z g q (listsOf x e o)
       (cond (killed t) (silentReply (e .filler)) (replyTo (e .outcome) bars (isRead q) (gives q t) (e .filler))) t
 
-  abbrev saidBy : (x : Left) (b : Buffers) → Reply
+  abbrev saidBy : (x : ResidueBytes) (b : Buffers) → Reply
   saidBy x b =
       let t = targetOf x r b in cond (killed t) (silentReply (e .filler)) (replyTo (e .outcome) bars (isRead q) (gives q t) (e .filler))
 
@@ -96,7 +96,7 @@ meet-unknown g v p e o r a k h =
     (λ x b hf hk hp. rw h)
 
 -- once the act is performed
-pub performed : (g : Geometry) (x : Left) (e : LineEvent) (o : CallOutcome) (p : Packet) (r : Registers) (d : Decision) (b b′ : Buffers)
+pub performed : (g : Geometry) (x : ResidueBytes) (e : LineEvent) (o : CallOutcome) (p : Packet) (r : Registers) (d : Decision) (b b′ : Buffers)
     → Decides (seen (b .flash) (b .locks) (b .params)) r e o d (λ l t. meet g p l t) → b′ ≡ buffersAfter x (d .change .act) b
     → metOf x e o (record { registers = d .change .registers; answer = d .answer; «line_used» = d .«line_used»; «call_used» = d .«call_used» }) b′
     ≡ meet g p (listsOf x e o) (targetOf x r b)

@@ -4,7 +4,7 @@ use mathlib.Core.Path.{_≡_}
 use Prim.Native.Nat.{ℕ, _%_}
 use lib.ListN.{length, take, drop, replicate}
 use lib.Seq.{sets}
-use Rattle.bench_effects.specs.Lent.{Buffers, Left, memoryOf}
+use Rattle.bench_effects.specs.Lent.{Buffers, ResidueBytes, memoryOf}
 use Rattle.bench_effects.specs.declared.Act.{Act}
 use Rattle.bench_effects.specs.declared.Act.the-variants.{Keep, PutWord, PutResidue, Erase, FillLatch, ProgramRow, WriteLocks}
 use Rattle.bench_effects.specs.declared.Effect.{Effect}
@@ -13,7 +13,7 @@ use Rattle.flow.specs.Target.{sized}
 use Rattle.parts.specs.declared.Geometry.{Geometry}
 
 -- each act is one line of what calls do in flow's Calls, and PutWord a write of PARAMS
-abbrev pub buffersAfter : Left → Act → Buffers → Buffers
+abbrev pub buffersAfter : ResidueBytes → Act → Buffers → Buffers
 buffersAfter x Keep b = b
 buffersAfter x (PutWord k w) b = record { flash = b .flash; locks = b .locks; latch = b .latch; params = sets (b .params) k (w ∷ []) }
 buffersAfter x PutResidue b = record {
@@ -50,7 +50,7 @@ called l a s ps = record { effect = l; sysarg = a; stored = s; params = ps }
 -- a successful call's effect on the memory; PARAMS stay
 abbrev pub Effects : Geometry → Called → (c : ℕ) → Effect → Type 0
 Effects g v c e =
-    (x : Left) (b : Buffers) → b .params ≡ v .params
+    (x : ResidueBytes) (b : Buffers) → b .params ≡ v .params
     → (memoryOf (buffersAfter x (e .act) b) (e .stored % 16) ≡ effectOf g c (v .effect) (v .sysarg) (listAt (v .sysarg) (b .params)) (memoryOf b (v .stored % 16)))
     × ((buffersAfter x (e .act) b) .params ≡ b .params)
 

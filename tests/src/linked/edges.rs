@@ -75,7 +75,7 @@ fn meet(part: u8, macros: u8, lent: &mut [Vec<u8>; 5]) -> u32 {
     let (mut flash, mut locks, mut latch, mut params) = ([LEFT; 256], [LEFT; 64], [LEFT; 64], [0x5A5A; 18]);
     let bench =
         bench::Bench { board, flash: &mut flash, locks: &mut locks, latch: &mut latch, params: &mut params };
-    let outcomes = bench::Outcomes { event, call, left: [&[], &[], &[]] };
+    let outcomes = bench::Outcomes { event, call, residue: [&[], &[], &[]] };
     let number = bench::meet(part, macros, bench, outcomes, packet, answer);
     if number != 0 {
         assert!(flash.iter().chain(&locks).chain(&latch).all(|&byte| byte == LEFT) && params == [0x5A5A; 18]);
