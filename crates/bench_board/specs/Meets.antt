@@ -63,16 +63,16 @@ asking w p k r = record {
 -- ---- what inner functions promise: an act is performed later, so they speak of every memory that it may be performed on
 
 -- the lent buffers that a request reads
-pub record Seen : Type 0 where
+pub record BuffersRead : Type 0 where
   pub flash : List ℕ
   pub locks : List ℕ
   pub params : List ℕ
 
-abbrev pub seen : (flash locks params : List ℕ) → Seen
-seen f l p = record { flash = f; locks = l; params = p }
+abbrev pub buffersRead : (flash locks params : List ℕ) → BuffersRead
+buffersRead f l p = record { flash = f; locks = l; params = p }
 
 -- registers and memory after are the target that f makes of the one before, if flash, locks and PARAMS are these
-abbrev pub MakesIn : Seen → Registers → Change → (ResidueBytes → Target → Target) → Type 0
+abbrev pub MakesIn : BuffersRead → Registers → Change → (ResidueBytes → Target → Target) → Type 0
 MakesIn v r n f =
     (x : ResidueBytes) (b : Buffers) → b .flash ≡ v .flash → b .locks ≡ v .locks → b .params ≡ v .params
     → targetOf x (n .registers) (buffersAfter x (n .act) b) ≡ f x (targetOf x r b)
@@ -89,7 +89,7 @@ abbrev pub carried : Request → (other : ℕ) → CallOutcome → Carried
 carried q w o = record { request = q; other = w; call = o }
 
 -- a request carried out where TAR points
-abbrev pub Carries : Geometry → Seen → Carried → Place → Registers → Change → Type 0
+abbrev pub Carries : Geometry → BuffersRead → Carried → Place → Registers → Change → Type 0
 Carries g v k p r n = p ≡ place g (r .tar) → MakesIn v r n (λ x t. carry g (k .request) (k .other) (callOutcomeOf x (k .call)) t)
 
 -- the word that a read gives
@@ -116,6 +116,6 @@ metBy x e o d b =
     (buffersAfter x (d .change .act) b)
 
 -- a packet is met as f says, if flash, locks and PARAMS are these
-abbrev pub Decides : Seen → Registers → LineEvent → CallOutcome → Decision → (Lists → Target → Flow.Met) → Type 0
+abbrev pub Decides : BuffersRead → Registers → LineEvent → CallOutcome → Decision → (Lists → Target → Flow.Met) → Type 0
 Decides v r e o d f =
     (x : ResidueBytes) (b : Buffers) → b .flash ≡ v .flash → b .locks ≡ v .locks → b .params ≡ v .params → metBy x e o d b ≡ f (listsOf x e o) (targetOf x r b)

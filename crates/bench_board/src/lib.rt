@@ -1,7 +1,7 @@
 // The plain board of document 01 as code: registers by value, memory lent, one call for each request.
 ghost use mathlib.Core.Path.{_≡_};
 ghost use Rattle.bench_calls.specs.Board.{lent, residueBytes, targetOf};
-ghost use Rattle.bench_board.specs.Meets.{seen, Decides, listsOf, metOf};
+ghost use Rattle.bench_board.specs.Meets.{buffersRead, Decides, listsOf, metOf};
 ghost use Rattle.flow.specs.Exchange.{meetOn};
 ghost use Rattle.flow.specs.Exchange as Flow;
 ghost use Rattle.flow.specs.declared.Decoded.the-variants.{Known};
@@ -46,7 +46,7 @@ fn meet_request(
     e: LineEvent,
     o: CallOutcome,
 ) -> Decision
-    ensures { λ d. ⌜ Decides (seen (now (flash .entry)) (now (locks .entry)) (now (params .entry))) r e o d (λ l t. meetOn g (Known q) l t) ⌝ }
+    ensures { λ d. ⌜ Decides (buffersRead (now (flash .entry)) (now (locks .entry)) (now (params .entry))) r e o d (λ l t. meetOn g (Known q) l t) ⌝ }
 {
     match q {
         Request::Xres => Decision {
@@ -80,7 +80,7 @@ fn decide(
     e: LineEvent,
     o: CallOutcome,
 ) -> Decision
-    ensures { λ d. ⌜ Decides (seen (now (flash .entry)) (now (locks .entry)) (now (params .entry))) r e o d (λ l t. Flow.meet g p l t) ⌝ }
+    ensures { λ d. ⌜ Decides (buffersRead (now (flash .entry)) (now (locks .entry)) (now (params .entry))) r e o d (λ l t. Flow.meet g p l t) ⌝ }
 {
     let filler = e.filler;
     let d = bench_packets::request_in(p);

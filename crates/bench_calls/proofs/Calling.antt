@@ -14,7 +14,7 @@ use Rattle.bench_calls.specs.declared.Registers.{Registers}
 use Rattle.bench_calls.specs.declared.Running.{Running}
 use Rattle.bench_calls.specs.declared.Running.the-variants.{Idle, Busy}
 use Rattle.flow.specs.declared.Silicon.{Silicon}
-use Rattle.bench_effects.specs.Acts.{buffersAfter, called, Effects}
+use Rattle.bench_effects.specs.Acts.{buffersAfter, callInputs, Effects}
 use Rattle.bench_effects.specs.declared.Act.{Act}
 use Rattle.bench_effects.specs.declared.Act.the-variants.{Keep, PutResidue}
 use Rattle.bench_effects.specs.declared.Effect.{Effect}
@@ -67,7 +67,7 @@ endedWith r m ps a q = record {
   running = idle;
 }
 
-pub succeeding : (g : Geometry) (r : Registers) (fs ps : List ℕ) (c arg req : ℕ) (e : Effect) → Effects g (called (r .effect) (r .sysarg) (r .stored) ps) c e → Answers c (r .silicon) fs arg
+pub succeeding : (g : Geometry) (r : Registers) (fs ps : List ℕ) (c arg req : ℕ) (e : Effect) → Effects g (callInputs (r .effect) (r .sysarg) (r .stored) ps) c e → Answers c (r .silicon) fs arg
     → req ≡ sysreqAfter c (r .silicon) (r .effect)
     → Succeeds g fs ps c r (ended r (e .stored) arg req (e .act))
 unfolding finish
