@@ -1,4 +1,4 @@
-//! The proved bench board through its C ABI, beside ours: both meet each request with the same entries.
+//! The proved bench board through its C ABI, beside ours: both meet each packet with the same entries.
 
 use super::{abi_answer, outcome_bytes};
 use crate::board::{Board, CallOutcome, FreeLists, Line, LineEvent, Place};
@@ -29,7 +29,7 @@ pub fn is_of_other_register(packet: Packet) -> bool {
     }
 }
 
-/// Lists that remember what was taken from them for one request.
+/// Lists that remember what was taken from them for one packet.
 struct Taken<'a, F> {
     lists: &'a mut F,
     event: Option<LineEvent>,
@@ -151,7 +151,7 @@ impl Pair {
         }
     }
 
-    /// Both boards meet a request.
+    /// Both boards meet a packet.
     pub fn meet(&mut self, packet: Packet, lists: &mut impl FreeLists) -> Met {
         let free_bits = self.free_bits();
         let mut taken = Taken { lists, event: None, call: None };
@@ -208,7 +208,7 @@ impl Pair {
         self.flash == flash && self.locks == locks && self.board[12] == header.level
     }
 
-    /// Flash, locks, latch and PARAMS; the rest is compared at each request.
+    /// Flash, locks, latch and PARAMS; the rest is compared at each packet.
     pub fn assert_memory_alike(&self) {
         let Board { flash, locks, latch, params, .. } = &self.ours;
         assert!(self.flash == *flash, "flash");

@@ -65,10 +65,10 @@ fn parts() -> u64 {
     3 * 65_536
 }
 
-/// What the bench board is lent with fixed sizes: board, event, call, request, answer.
+/// What the bench board is lent with fixed sizes: board, event, call, packet, answer.
 const BENCH: [usize; 5] = [bench::BOARD, bench::EVENT, bench::CALL, raw::OUTCOME, bench::ANSWER];
 
-/// The bench board meets a request; refused, it writes nothing.
+/// The bench board meets a packet; refused, it writes nothing.
 fn meet(part: u8, macros: u8, lent: &mut [Vec<u8>; 5]) -> u32 {
     let before = lent.clone();
     let [board, event, call, packet, answer] = lent;
