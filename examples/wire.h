@@ -11,7 +11,7 @@ struct answer {
     uint8_t parity;     /* its parity bit as it stood on the wire */
 };
 
-/* The eight bytes of an outcome that is a request (kind 1 to 4). */
+/* The eight bytes of an outcome that is a packet (kind 1 to 4). */
 struct answer exchange(const uint8_t outcome[8]);
 
 #endif

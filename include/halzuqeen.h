@@ -87,10 +87,10 @@ uint32_t halzuqeen_read(uint8_t part, uint8_t macros, const uint8_t *text, size_
  * header, header_length: the image's header, at least HALZUQEEN_HEADER_SIZE bytes.
  * image, image_length: the image's bytes, exactly of its size.
  * text, text_length: at least as long as the text; bytes past the text stay, and with a refusal all of them do.
- * size, size_length: at least HALZUQEEN_LENGTH_SIZE bytes, which become the text's length, 0 with a refusal.
- * A header under size is 12, since no part can be read from it. Then checks 11; 12, of size, image and text; 6 to 10. */
+ * length, length_length: at least HALZUQEEN_LENGTH_SIZE bytes, which become the text's length, 0 with a refusal.
+ * A header under size is 12, since no part can be read from it. Then checks 11; 12, of length, image and text; 6 to 10. */
 uint32_t halzuqeen_write(const uint8_t *header, size_t header_length, const uint8_t *image, size_t image_length, uint8_t *text,
-    size_t text_length, uint8_t *size, size_t size_length);
+    size_t text_length, uint8_t *length, size_t length_length);
 
 /* Starts a session that programs an image; the first request is XRES.
  * header, header_length, image, image_length: as for writing.

@@ -65,8 +65,8 @@ extern "C" {
  * flash, locks, latch: the board's memory, each with its length in bytes; the locks are all macros', one after the other. A board of the
  *     part's own sizes has rows * row bytes, rows / 8 and row bytes; of other sizes, what is past an end reads as 0 and takes no write.
  * params, params_length: PARAMS as words, with its length in words: 2 + row bytes / 4.
- * left_flash, left_locks, left_latch: what a call that fails leaves in flash, locks and latch, cut or filled with 0 to their sizes; lent
- *     the same as long as a call is under way. All may be of length 0.
+ * residue_flash, residue_locks, residue_latch: the residue, what a failed call leaves in flash, locks and latch, cut or filled with 0
+ *     to their sizes; lent the same as long as a call is under way. All may be of length 0.
  * event, event_length: HALZUQEEN_BENCH_EVENT_SIZE bytes. call, call_length: HALZUQEEN_BENCH_CALL_SIZE bytes, looked at when the packet
  *     starts a call.
  * packet, packet_length: HALZUQEEN_OUTCOME_SIZE bytes, an outcome of kind 1 to 4 as starting or a step wrote it.
@@ -75,8 +75,8 @@ extern "C" {
  * succeeds or new level over 1, an outcome over 7, a kind that is not 1 to 4. */
 uint32_t halzuqeen_bench_meet(uint8_t part, uint8_t macros, uint8_t *board, size_t board_length, uint8_t *flash, size_t flash_length,
     uint8_t *locks, size_t locks_length, uint8_t *latch, size_t latch_length, uint32_t *params, size_t params_length,
-    const uint8_t *left_flash, size_t left_flash_length, const uint8_t *left_locks, size_t left_locks_length,
-    const uint8_t *left_latch, size_t left_latch_length, const uint8_t *event, size_t event_length, const uint8_t *call,
+    const uint8_t *residue_flash, size_t residue_flash_length, const uint8_t *residue_locks, size_t residue_locks_length,
+    const uint8_t *residue_latch, size_t residue_latch_length, const uint8_t *event, size_t event_length, const uint8_t *call,
     size_t call_length, const uint8_t *packet, size_t packet_length, uint8_t *answer, size_t answer_length);
 
 #ifdef __cplusplus

@@ -39,7 +39,7 @@ pub struct Board {
     /// The bits of the level word that aren't the level.
     pub level_rest: u32,
     pub running: Option<Running>,
-    /// Requests that no debug port would take: wrong request parity, data parity, fixed bits.
+    /// Packets that no debug port would take: wrong request parity, data parity, fixed bits.
     pub malformed: u32,
 }
 
@@ -128,7 +128,7 @@ impl Board {
         }
     }
 
-    /// The board meets a request and answers.
+    /// The board meets a packet and answers.
     pub fn answer(&mut self, packet: Packet, lists: &mut impl FreeLists) -> Answer {
         match packet {
             Packet::Xres => {
@@ -189,7 +189,7 @@ impl Board {
         }
     }
 
-    /// A request that no debug port takes is answered by silence and not carried out.
+    /// A packet that no debug port takes is answered by silence and not carried out.
     fn lost(&mut self, event: &LineEvent) -> Answer {
         self.malformed += 1;
         Self::free(SILENCE, event)

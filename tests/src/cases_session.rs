@@ -129,7 +129,7 @@ impl Bench<'_> {
     }
 }
 
-/// One request in so many, the first included, is followed by two steps that are refused.
+/// One packet in so many, the first included, is followed by two steps that are refused.
 const REFUSED_EVERY: u32 = 509;
 
 /// The line that the case's session gives.
@@ -140,11 +140,11 @@ pub fn outcome(case: &Case) -> String {
         assert_eq!((number, 0), case.expected, "{}", case.name);
         return format!("refused {number}");
     }
-    let (mut bench, mut sum, mut requests) = (Bench::new(case), Fnv::default(), 0u32);
+    let (mut bench, mut sum, mut packets) = (Bench::new(case), Fnv::default(), 0u32);
     while let Outcome::Ask(packet) = outcome {
         hash_packet(&mut sum, packet);
         let answer = bench.answer(packet);
-        if requests % REFUSED_EVERY == 0 {
+        if packets % REFUSED_EVERY == 0 {
             let wrong = match packet.is_transfer() {
                 true => Answer::ResetDone,
                 false => Answer::Wire { ack: 1, word: 0, parity: false },
@@ -156,7 +156,7 @@ pub fn outcome(case: &Case) -> String {
                 }
             }
         }
-        requests += 1;
+        packets += 1;
         outcome = session.step(&image, answer);
     }
     assert_eq!(session.step(&image, Answer::ResetDone), outcome);

@@ -1,4 +1,4 @@
-//! The image: its record (here `Header`, since hex text has records too), its bytes, checks 6 to 10.
+//! The image: its header, document 01's 'record' (here those are a text's lines), its bytes, checks 6 to 10.
 
 use crate::parts::{Sizes, KILL, OPEN, PROTECTED};
 

@@ -104,14 +104,14 @@ impl FreeLists for RandomLists {
 /// What a run came to.
 pub struct Played {
     pub report: Report,
-    /// FNV-1a over all requests, as `hash_request` feeds them.
-    pub requests: u64,
+    /// FNV-1a over all packets, as `hash_packet` feeds them.
+    pub packets: u64,
     pub sealed: bool,
     pub monitor: Monitor,
     pub board: Board,
 }
 
-/// A request's bytes in a checksum: kind (0 XRES, 1 line reset, 2 read, 3 write), request byte, and
+/// A packet's bytes in a checksum: kind (0 XRES, 1 line reset, 2 read, 3 write), request byte, and
 /// for a write the word, low byte first, and the parity bit.
 pub fn hash_packet(sum: &mut Fnv, packet: Packet) {
     match packet {
@@ -182,25 +182,25 @@ pub fn play(header: &Header, image: &[u8], board: &Board, lists: &RandomLists) -
     let mut claims = Claims::new(header, image, board);
     let (mut met, mut left) = (board.clone(), lists.clone());
     let mut rng = Rng(lists.rng.0 ^ 0x5EED);
-    let (report, requests) = step_through(header, image, Some((&mut rng, 5_000)), |packet| {
+    let (report, packets) = step_through(header, image, Some((&mut rng, 5_000)), |packet| {
         claims.handed_out(packet);
         let answer = met.answer(packet, &mut left);
         claims.answered(packet, answer, &met);
         answer
     });
     claims.reported(report, &met);
-    assert_same_as_flow(header, image, board, lists, report, requests);
-    Played { report, requests, sealed: claims.seal.sealed, monitor: claims.monitor, board: met }
+    assert_same_as_flow(header, image, board, lists, report, packets);
+    Played { report, packets, sealed: claims.seal.sealed, monitor: claims.monitor, board: met }
 }
 
-/// The waiting programme hands out the same requests and ends with the same report.
+/// The waiting programme hands out the same packets and ends with the same report.
 fn assert_same_as_flow(
     header: &Header,
     image: &[u8],
     board: &Board,
     lists: &RandomLists,
     report: Report,
-    requests: u64,
+    packets: u64,
 ) {
     let (mut board, mut left) = (board.clone(), lists.clone());
     let mut sum = Fnv::default();
@@ -208,5 +208,5 @@ fn assert_same_as_flow(
         hash_packet(&mut sum, packet);
         board.answer(packet, &mut left)
     });
-    assert_eq!((plain, sum.value()), (report, requests));
+    assert_eq!((plain, sum.value()), (report, packets));
 }

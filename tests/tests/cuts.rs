@@ -72,7 +72,7 @@ fn begun_while_a_call_runs() {
         let played = play(&header, &image, &dropped, &calm);
         let (mut met, mut lists) = (board.clone(), calm);
         let same = step_through(&header, &image, None, |packet| met.answer(packet, &mut lists));
-        assert_eq!(same, (played.report, played.requests));
+        assert_eq!(same, (played.report, played.packets));
         assert!(met.flash == played.board.flash && met.locks == played.board.locks);
         assert_eq!(played.report.number, if dropped.stored == KILL { 26 } else { 0 });
         let call = board.running.map(|call| call.command);

@@ -1,4 +1,4 @@
-//! Requests of whole sessions as numbers that nothing here computes.
+//! Packets of whole sessions as numbers that nothing here computes.
 
 use reference::board::{Board, Lists};
 use reference::flow::Report;

@@ -21,12 +21,12 @@ mod abi {
             latch_bytes: usize,
             params: *mut u32,
             params_words: usize,
-            left_flash: *const u8,
-            left_flash_bytes: usize,
-            left_locks: *const u8,
-            left_locks_bytes: usize,
-            left_latch: *const u8,
-            left_latch_bytes: usize,
+            residue_flash: *const u8,
+            residue_flash_bytes: usize,
+            residue_locks: *const u8,
+            residue_locks_bytes: usize,
+            residue_latch: *const u8,
+            residue_latch_bytes: usize,
             event: *const u8,
             event_bytes: usize,
             call: *const u8,
@@ -48,11 +48,11 @@ pub struct Bench<'a> {
     pub params: &'a mut [u32],
 }
 
-/// What becomes of a transfer and of a call, and what a failed call leaves in flash, locks and latch.
+/// What becomes of a transfer and of a call, and a failed call's residue: flash, locks and latch.
 pub struct Outcomes<'a> {
     pub event: &'a [u8],
     pub call: &'a [u8],
-    pub left: [&'a [u8]; 3],
+    pub residue: [&'a [u8]; 3],
 }
 
 /// The bench board meets a packet, an outcome's bytes.
@@ -60,7 +60,7 @@ pub fn meet(
     part: u8,
     macros: u8,
     bench: Bench,
-    Outcomes { event, call, left: [flash, locks, latch] }: Outcomes,
+    Outcomes { event, call, residue: [flash, locks, latch] }: Outcomes,
     packet: &[u8],
     answer: &mut [u8],
 ) -> u32 {

@@ -3,7 +3,7 @@ use mathlib.Core.Bool.{Bool, cond}
 use mathlib.Core.List.{List, [], _∷_}
 use mathlib.Core.Path.{_≡_}
 use Prim.Native.Nat.{ℕ}
-use Rattle.bench_calls.specs.Board.{Buffers, Left, callOutcomeOf, targetOf}
+use Rattle.bench_calls.specs.Board.{Buffers, ResidueBytes, callOutcomeOf, targetOf}
 use Rattle.bench_effects.specs.declared.Act.the-variants.{Keep}
 use Rattle.bench_calls.specs.declared.CallOutcome.{CallOutcome}
 use Rattle.bench_board.specs.declared.Decision.{Decision}
@@ -26,11 +26,11 @@ use Rattle.parts.specs.declared.Geometry.{Geometry}
 -- ---- what `meet` promises: result and buffers left are what flow's `meet` makes of `targetOf` (bench_calls' Board) with one event and one outcome
 
 -- the lists that a call of `meet` is given
-abbrev pub listsOf : Left → LineEvent → CallOutcome → Lists
+abbrev pub listsOf : ResidueBytes → LineEvent → CallOutcome → Lists
 listsOf x e o = record { line = e ∷ []; calls = callOutcomeOf x o ∷ [] }
 
 -- what a call of `meet` gave, with the buffers as it left them
-abbrev pub metOf : Left → LineEvent → CallOutcome → Met → Buffers → Flow.Met
+abbrev pub metOf : ResidueBytes → LineEvent → CallOutcome → Met → Buffers → Flow.Met
 metOf x e o m b = record {
   target = targetOf x (m .registers) b;
   answer = m .answer;
@@ -63,18 +63,18 @@ asking w p k r = record {
 -- ---- what inner functions promise: an act is performed later, so they speak of every memory that it may be performed on
 
 -- the lent buffers that a request reads
-pub record Seen : Type 0 where
+pub record BuffersRead : Type 0 where
   pub flash : List ℕ
   pub locks : List ℕ
   pub params : List ℕ
 
-abbrev pub seen : (flash locks params : List ℕ) → Seen
-seen f l p = record { flash = f; locks = l; params = p }
+abbrev pub buffersRead : (flash locks params : List ℕ) → BuffersRead
+buffersRead f l p = record { flash = f; locks = l; params = p }
 
 -- registers and memory after are the target that f makes of the one before, if flash, locks and PARAMS are these
-abbrev pub MakesIn : Seen → Registers → Change → (Left → Target → Target) → Type 0
+abbrev pub MakesIn : BuffersRead → Registers → Change → (ResidueBytes → Target → Target) → Type 0
 MakesIn v r n f =
-    (x : Left) (b : Buffers) → b .flash ≡ v .flash → b .locks ≡ v .locks → b .params ≡ v .params
+    (x : ResidueBytes) (b : Buffers) → b .flash ≡ v .flash → b .locks ≡ v .locks → b .params ≡ v .params
     → targetOf x (n .registers) (buffersAfter x (n .act) b) ≡ f x (targetOf x r b)
 
 -- ---- transfers
@@ -89,12 +89,12 @@ abbrev pub carried : Request → (other : ℕ) → CallOutcome → Carried
 carried q w o = record { request = q; other = w; call = o }
 
 -- a request carried out where TAR points
-abbrev pub Carries : Geometry → Seen → Carried → Place → Registers → Change → Type 0
+abbrev pub Carries : Geometry → BuffersRead → Carried → Place → Registers → Change → Type 0
 Carries g v k p r n = p ≡ place g (r .tar) → MakesIn v r n (λ x t. carry g (k .request) (k .other) (callOutcomeOf x (k .call)) t)
 
 -- the word that a read gives
 abbrev pub Gives : Request → Registers → (word : ℕ) → Type 0
-Gives q r w = (x : Left) (b : Buffers) → w ≡ gives q (targetOf x r b)
+Gives q r w = (x : ResidueBytes) (b : Buffers) → w ≡ gives q (targetOf x r b)
 
 -- whether a call takes its entry
 abbrev pub Calls : Request → Place → Bool → Type 0
@@ -103,19 +103,19 @@ Calls q p s = (g : Geometry) (t : Target) → p ≡ place g (t .tar) → s ≡ c
 -- the answer to a transfer, barred or not
 abbrev pub Replies : Request → LineEvent → (bars : Bool) → Registers → Reply → Type 0
 Replies q e bars r a =
-    (x : Left) (b : Buffers)
+    (x : ResidueBytes) (b : Buffers)
     → a ≡ cond (killed (targetOf x r b)) (silentReply (e .filler)) (replyTo (e .outcome) bars (isRead q) (gives q (targetOf x r b)) (e .filler))
 
 -- ---- packets
 
 -- what a decision comes to, once its act is performed
-abbrev pub metBy : Left → LineEvent → CallOutcome → Decision → Buffers → Flow.Met
+abbrev pub metBy : ResidueBytes → LineEvent → CallOutcome → Decision → Buffers → Flow.Met
 metBy x e o d b =
     metOf x e o
     (record { registers = d .change .registers; answer = d .answer; «line_used» = d .«line_used»; «call_used» = d .«call_used» })
     (buffersAfter x (d .change .act) b)
 
 -- a packet is met as f says, if flash, locks and PARAMS are these
-abbrev pub Decides : Seen → Registers → LineEvent → CallOutcome → Decision → (Lists → Target → Flow.Met) → Type 0
+abbrev pub Decides : BuffersRead → Registers → LineEvent → CallOutcome → Decision → (Lists → Target → Flow.Met) → Type 0
 Decides v r e o d f =
-    (x : Left) (b : Buffers) → b .flash ≡ v .flash → b .locks ≡ v .locks → b .params ≡ v .params → metBy x e o d b ≡ f (listsOf x e o) (targetOf x r b)
+    (x : ResidueBytes) (b : Buffers) → b .flash ≡ v .flash → b .locks ≡ v .locks → b .params ≡ v .params → metBy x e o d b ≡ f (listsOf x e o) (targetOf x r b)

@@ -1,7 +1,7 @@
 // The plain board of document 01 as code: registers by value, memory lent, one call for each request.
 ghost use mathlib.Core.Path.{_≡_};
-ghost use Rattle.bench_calls.specs.Board.{lent, left, targetOf};
-ghost use Rattle.bench_board.specs.Meets.{seen, Decides, listsOf, metOf};
+ghost use Rattle.bench_calls.specs.Board.{lent, residueBytes, targetOf};
+ghost use Rattle.bench_board.specs.Meets.{buffersRead, Decides, listsOf, metOf};
 ghost use Rattle.flow.specs.Exchange.{meetOn};
 ghost use Rattle.flow.specs.Exchange as Flow;
 ghost use Rattle.flow.specs.declared.Decoded.the-variants.{Known};
@@ -46,7 +46,7 @@ fn meet_request(
     e: LineEvent,
     o: CallOutcome,
 ) -> Decision
-    ensures { λ d. ⌜ Decides (seen (now (flash .entry)) (now (locks .entry)) (now (params .entry))) r e o d (λ l t. meetOn g (Known q) l t) ⌝ }
+    ensures { λ d. ⌜ Decides (buffersRead (now (flash .entry)) (now (locks .entry)) (now (params .entry))) r e o d (λ l t. meetOn g (Known q) l t) ⌝ }
 {
     match q {
         Request::Xres => Decision {
@@ -80,7 +80,7 @@ fn decide(
     e: LineEvent,
     o: CallOutcome,
 ) -> Decision
-    ensures { λ d. ⌜ Decides (seen (now (flash .entry)) (now (locks .entry)) (now (params .entry))) r e o d (λ l t. Flow.meet g p l t) ⌝ }
+    ensures { λ d. ⌜ Decides (buffersRead (now (flash .entry)) (now (locks .entry)) (now (params .entry))) r e o d (λ l t. Flow.meet g p l t) ⌝ }
 {
     let filler = e.filler;
     let d = bench_packets::request_in(p);
@@ -103,14 +103,14 @@ pub fn meet(
     locks: &mut [u8],
     latch: &mut [u8],
     params: &mut [u32],
-    left_flash: &[u8],
-    left_locks: &[u8],
-    left_latch: &[u8],
+    residue_flash: &[u8],
+    residue_locks: &[u8],
+    residue_latch: &[u8],
     p: Packet,
     e: LineEvent,
     o: CallOutcome,
 ) -> Met
-    ensures met { λ m. ⌜ metOf (left (now («left_flash» .entry)) (now («left_locks» .entry)) (now («left_latch» .entry))) e o m (lent (now (flash .exit)) (now (locks .exit)) (now (latch .exit)) (now (params .exit))) ≡ Flow.meet g p (listsOf (left (now («left_flash» .entry)) (now («left_locks» .entry)) (now («left_latch» .entry))) e o) (targetOf (left (now («left_flash» .entry)) (now («left_locks» .entry)) (now («left_latch» .entry))) r (lent (now (flash .entry)) (now (locks .entry)) (now (latch .entry)) (now (params .entry)))) ⌝ }
+    ensures met { λ m. ⌜ metOf (residueBytes (now («residue_flash» .entry)) (now («residue_locks» .entry)) (now («residue_latch» .entry))) e o m (lent (now (flash .exit)) (now (locks .exit)) (now (latch .exit)) (now (params .exit))) ≡ Flow.meet g p (listsOf (residueBytes (now («residue_flash» .entry)) (now («residue_locks» .entry)) (now («residue_latch» .entry))) e o) (targetOf (residueBytes (now («residue_flash» .entry)) (now («residue_locks» .entry)) (now («residue_latch» .entry))) r (lent (now (flash .entry)) (now (locks .entry)) (now (latch .entry)) (now (params .entry)))) ⌝ }
 {
     let d = decide(g, r, flash, locks, params, p, e, o);
     let n = d.change;
@@ -123,9 +123,9 @@ pub fn meet(
         locks,
         latch,
         params,
-        left_flash,
-        left_locks,
-        left_latch,
+        residue_flash,
+        residue_locks,
+        residue_latch,
     );
     Met {
         registers: registers,

@@ -3,7 +3,7 @@ ghost use mathlib.Core.Bool.{_&&_, not};
 ghost use mathlib.Core.Path.{_≡_};
 ghost use lib.Dec.{eqb};
 ghost use Rattle.bench_calls.specs.Ends.{Makes};
-ghost use Rattle.bench_board.specs.Meets.{seen, carried, Decides, Carries, Gives, Calls, Replies};
+ghost use Rattle.bench_board.specs.Meets.{buffersRead, carried, Decides, Carries, Gives, Calls, Replies};
 ghost use Rattle.flow.specs.Exchange.{carriedOut, transferred};
 ghost use Rattle.flow.specs.Target.{setTar};
 use crate::Decision;
@@ -39,7 +39,7 @@ fn carry_out(
     o: CallOutcome,
     at: Place,
 ) -> Change
-    ensures { λ n. ⌜ Carries g (seen (now (flash .entry)) (now (locks .entry)) (now (params .entry))) (carried q other o) at r n ⌝ }
+    ensures { λ n. ⌜ Carries g (buffersRead (now (flash .entry)) (now (locks .entry)) (now (params .entry))) (carried q other o) at r n ⌝ }
 {
     match q {
         Request::Xres => words::keep(r),
@@ -125,7 +125,7 @@ pub(crate) fn transfer(
     e: LineEvent,
     o: CallOutcome,
 ) -> Decision
-    ensures { λ d. ⌜ Decides (seen (now (flash .entry)) (now (locks .entry)) (now (params .entry))) r e o d (λ l t. transferred g q l t) ⌝ }
+    ensures { λ d. ⌜ Decides (buffersRead (now (flash .entry)) (now (locks .entry)) (now (params .entry))) r e o d (λ l t. transferred g q l t) ⌝ }
 {
     let at = bench_map::place_of(g, r.tar);
     let barred = bench_map::bars(r.effect, q, at);

@@ -5,7 +5,7 @@ ghost use Prim.Native.Nat.{_%_, _-_, _<_};
 ghost use lib.Dec.{eqb};
 ghost use Rattle.bench_calls.specs.Board.{callOutcomeOf, runningOf};
 ghost use Rattle.bench_calls.specs.Ends.{Makes, MakesOf, Alters};
-ghost use Rattle.bench_board.specs.Meets.{keeping, asking, seen, MakesIn};
+ghost use Rattle.bench_board.specs.Meets.{keeping, asking, buffersRead, MakesIn};
 ghost use Rattle.flow.specs.Exchange.{levelWord, tick, fetch, isCall, begin, store};
 ghost use Rattle.flow.specs.Target.{setPosted, setSysarg, setTestMode};
 use bench_calls::CallOutcome;
@@ -144,7 +144,7 @@ pub(crate) fn read_word(
     other: u32,
     at: Place,
 ) -> Change
-    ensures { λ n. ⌜ MakesIn (seen (now (flash .entry)) (now (locks .entry)) (now (params .entry))) r n (λ x t. fetch g other at t) ⌝ }
+    ensures { λ n. ⌜ MakesIn (buffersRead (now (flash .entry)) (now (locks .entry)) (now (params .entry))) r n (λ x t. fetch g other at t) ⌝ }
 {
     match at {
         Place::InFlash(a) => post(r, lent::word_at(flash, a)),

@@ -4,7 +4,7 @@ use mathlib.Core.Path.{_≡_, refl}
 use Prim.Native.Nat.{ℕ, _%_, _<_}
 use native.Mathlib.Omega.{arith}
 use lib.Dec.{leb}
-use Rattle.bench_calls.specs.Board.{Buffers, Left, targetOf}
+use Rattle.bench_calls.specs.Board.{Buffers, ResidueBytes, targetOf}
 use Rattle.bench_calls.specs.declared.Registers.{Registers}
 use Rattle.bench_calls.specs.declared.Running.{Running}
 use Rattle.bench_calls.specs.declared.Running.the-variants.{Idle, Busy}
@@ -34,7 +34,7 @@ running r k = record {
 }
 
 -- each word's low 32 bits are the word, the level's low four the level
-module _ (r : Registers) (w : RegistersInWords r) (x : Left) (b : Buffers) where
+module _ (r : Registers) (w : RegistersInWords r) (x : ResidueBytes) (b : Buffers) where
   call-back : (k : Running) → r .running ≡ k → runningIn (boardBytes (targetOf x (running r k) b)) ≡ k
   unfolding boardBytes wordAt
   call-back Idle e = refl

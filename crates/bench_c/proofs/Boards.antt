@@ -8,7 +8,7 @@ use borrow.Author.Tests.{eqb-true, not-true, not-false}
 use lib.Dec.{eqb}
 use lib.ListN.{length, set, length-set, length-append}
 use lib.Seq.{sets, length-sets}
-use Rattle.bench_calls.specs.Board.{Left, targetOf, runningOf}
+use Rattle.bench_calls.specs.Board.{ResidueBytes, targetOf, runningOf}
 use Rattle.bench_board.specs.Meets.{listsOf, metOf}
 use Rattle.bench_calls.specs.declared.CallOutcome.{CallOutcome}
 use Rattle.bench_board.specs.declared.Met.{Met}
@@ -39,7 +39,7 @@ use Rattle.parts.specs.declared.Geometry.{Geometry}
 use Rattle.parts.specs.declared.Lookup.{Lookup}
 use Rattle.parts.specs.declared.Lookup.the-variants.{Found, Refused}
 
-abbrev pub answeredFor : Asked → Left → Bench → Benched
+abbrev pub answeredFor : Asked → ResidueBytes → Bench → Benched
 answeredFor (Returned n) x b = benched n b
 answeredFor (Meets g r p e o) x b = benched 0 (benchAfter (Flow.meet g p (listsOf x e o) (targetOf x r (buffersOf b))))
 
@@ -122,7 +122,7 @@ board-length t =
 module _ (b b₁ b₂ b₃ b₄ : List ℕ) (r : Registers) where
   pub board-put : length b ≡ 46 → b₁ ≡ sets b 0 (siliconBytes (r .silicon)) → b₂ ≡ sets b₁ 12 (r .stored % 16 ∷ r .effect ∷ [])
       → b₃ ≡ sets b₂ 14 (wordsBytes (r .sysarg) (r .sysreq) (r .«test_mode») (r .tar) (r .posted))
-      → ((x : Left) → b₄ ≡ sets b₃ 34 (runningBytes (runningOf x (r .running))))
+      → ((x : ResidueBytes) → b₄ ≡ sets b₃ 34 (runningBytes (runningOf x (r .running))))
       → BoardPut r b₄
   unfolding boardBytes
   board-put n e₁ e₂ e₃ e₄ x d =
@@ -159,7 +159,7 @@ used-same false true a b = refl
 used-same false false a b = refl
 
 -- m is what flow's board gives, met
-module _ (x : Left) (e : LineEvent) (o : CallOutcome) (b′ : Bench) (m : Met) (met : Flow.Met) where
+module _ (x : ResidueBytes) (e : LineEvent) (o : CallOutcome) (b′ : Bench) (m : Met) (met : Flow.Met) where
   pub met-bench : metOf x e o m (buffersOf b′) ≡ met → BoardPut (m .registers) (b′ .board)
       → b′ .answer ≡ answerBytes (m .answer) (usedOf (m .«line_used») (m .«call_used»))
       → b′ ≡ benchAfter met
@@ -219,7 +219,7 @@ meets-sized part macros b h a y is k = sized b h a (by (sizesFit b h a) (sym k �
     by true k = refl
     by false k = absurd (false≢true (sym k))
 
-module _ (h : Handed) (x : Left) (b : Bench) where
+module _ (h : Handed) (x : ResidueBytes) (b : Bench) where
   answered-test : (k : Bool) (y : Asked) → cond k (answeredFor y x b) (benched 13 b) ≡ answeredFor (cond k y (Returned 13)) x b
   answered-test true y = refl
   answered-test false y = refl

@@ -6,7 +6,7 @@ use Prim.Native.Nat.{ℕ, _+_, _*_}
 use lib.Dec.{eqb, leb}
 use lib.ListN.{getD}
 use lib.Seq.{sets}
-use Rattle.bench_calls.specs.Board.{Buffers, Left, runningOf, targetOf}
+use Rattle.bench_calls.specs.Board.{Buffers, ResidueBytes, runningOf, targetOf}
 use Rattle.bench_calls.specs.declared.CallOutcome.{CallOutcome}
 use Rattle.flow.specs.declared.LineEvent.{LineEvent}
 use Rattle.flow.specs.declared.TransferOutcome.{TransferOutcome}
@@ -138,7 +138,7 @@ usedIn l = usedOf (emptied (l .line)) (emptied (l .calls))
 
 -- registers put, whatever is lent beside them
 abbrev pub RunningPut : (before : List ℕ) → Running → (after : List ℕ) → Type 0
-RunningPut l r m = (x : Left) → m ≡ sets l 34 (runningBytes (runningOf x r))
+RunningPut l r m = (x : ResidueBytes) → m ≡ sets l 34 (runningBytes (runningOf x r))
 
 abbrev pub BoardPut : Registers → (after : List ℕ) → Type 0
-BoardPut r m = (x : Left) (b : Buffers) → m ≡ boardBytes (targetOf x r b)
+BoardPut r m = (x : ResidueBytes) (b : Buffers) → m ≡ boardBytes (targetOf x r b)

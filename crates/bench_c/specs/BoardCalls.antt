@@ -4,7 +4,7 @@ use mathlib.Core.List.{List}
 use Prim.Native.Nat.{ℕ}
 use lib.Dec.{eqb}
 use lib.ListN.{length}
-use Rattle.bench_calls.specs.Board.{Buffers, Left, targetOf}
+use Rattle.bench_calls.specs.Board.{Buffers, ResidueBytes, targetOf}
 use Rattle.bench_board.specs.Meets.{listsOf}
 use Rattle.bench_calls.specs.declared.CallOutcome.{CallOutcome}
 use Rattle.flow.specs.declared.LineEvent.{LineEvent}
@@ -55,7 +55,7 @@ benchAfter m =
     (answerBytes (m .answer) (usedIn (m .lists)))
 
 -- a packet met, as flow's board meets it
-abbrev pub meetInto : Geometry → Packet → LineEvent → CallOutcome → Left → Bench → Bench
+abbrev pub meetInto : Geometry → Packet → LineEvent → CallOutcome → ResidueBytes → Bench → Bench
 meetInto g p e o x b = benchAfter (Flow.meet g p (listsOf x e o) (targetOf x (registersIn (b .board)) (buffersOf b)))
 
 -- bytes that a board, an event, a call and a packet have
@@ -69,10 +69,10 @@ sizesFit b h a =
     && (eqb (length (h .event)) 11 && (eqb (length (h .call)) 10 && (eqb (length (h .packet)) 8 && eqb (length a) 8)))
 
 -- 11 for what is not in the table, then 13: nothing is written
-abbrev pub meetFor : Lookup → Handed → Left → Bench → Benched
+abbrev pub meetFor : Lookup → Handed → ResidueBytes → Bench → Benched
 meetFor (Refused n) h x b = benched n b
 meetFor (Found g) h x b =
     cond (isBench (b .board) h) (benched 0 (meetInto g (packetIn (h .packet)) (eventIn (h .event)) (callOutcomeAt (h .call) 0) x b)) (benched 13 b)
 
-unfoldable pub meetCall : (part macros : ℕ) → Handed → Left → Bench → Benched
+unfoldable pub meetCall : (part macros : ℕ) → Handed → ResidueBytes → Bench → Benched
 meetCall part macros h x b = cond (sizesFit (b .board) h (b .answer)) (meetFor (lookupOf part macros) h x b) (benched 12 b)

@@ -2,7 +2,7 @@
 use mathlib.Core.Bool.{true}
 use mathlib.Core.Path.{_≡_}
 use Prim.Native.Nat.{ℕ, _<_}
-use Rattle.bench_calls.specs.Board.{Buffers, Left, targetOf}
+use Rattle.bench_calls.specs.Board.{Buffers, ResidueBytes, targetOf}
 use Rattle.bench_calls.specs.declared.CallOutcome.{CallOutcome}
 use Rattle.bench_calls.specs.declared.Registers.{Registers}
 use Rattle.bench_calls.specs.declared.Running.the-variants.{Busy}
@@ -24,6 +24,6 @@ pub record RegistersInWords (r : Registers) : Type 0 where
 
 pub record BoardClaims : Type 0 where
   -- the next call finds the registers that this one put
-  pub back : (r : Registers) → RegistersInWords r → (x : Left) (b : Buffers) → registersIn (boardBytes (targetOf x r b)) ≡ r
+  pub back : (r : Registers) → RegistersInWords r → (x : ResidueBytes) (b : Buffers) → registersIn (boardBytes (targetOf x r b)) ≡ r
   -- and doesn't refuse them
   pub written : (t : Target) → isBoard (boardBytes t) ≡ true

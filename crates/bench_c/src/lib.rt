@@ -1,7 +1,7 @@
 // The bench board as a call, for tests of hosts: registers, events and answers stand in the caller's bytes (include/halzuqeen_bench.h).
 ghost use mathlib.Core.Path.{_≡_};
 ghost use lib.ListN.{length};
-ghost use Rattle.bench_calls.specs.Board.{left};
+ghost use Rattle.bench_calls.specs.Board.{residueBytes};
 ghost use Rattle.bench_c.specs.BoardAsked.{askedFor, askedOf, numberOf};
 ghost use Rattle.bench_c.specs.BoardBytes.{answerBytes, usedOf, BoardPut};
 ghost use Rattle.bench_c.specs.BoardCalls.{benchOf, handed, benched, isBench, sizesFit, meetCall};
@@ -136,15 +136,15 @@ pub extern "C" fn halzuqeen_bench_meet(
     locks: &mut [u8],
     latch: &mut [u8],
     params: &mut [u32],
-    left_flash: &[u8],
-    left_locks: &[u8],
-    left_latch: &[u8],
+    residue_flash: &[u8],
+    residue_locks: &[u8],
+    residue_latch: &[u8],
     event: &[u8],
     call: &[u8],
     packet: &[u8],
     answer: &mut [u8],
 ) -> u32
-    ensures met { λ r. ⌜ benched r (benchOf (now (board .exit)) (now (flash .exit)) (now (locks .exit)) (now (latch .exit)) (now (params .exit)) (now (answer .exit))) ≡ meetCall part macros (handed (now (event .entry)) (now (call .entry)) (now (packet .entry))) (left (now («left_flash» .entry)) (now («left_locks» .entry)) (now («left_latch» .entry))) (benchOf (now (board .entry)) (now (flash .entry)) (now (locks .entry)) (now (latch .entry)) (now (params .entry)) (now (answer .entry))) ⌝ }
+    ensures met { λ r. ⌜ benched r (benchOf (now (board .exit)) (now (flash .exit)) (now (locks .exit)) (now (latch .exit)) (now (params .exit)) (now (answer .exit))) ≡ meetCall part macros (handed (now (event .entry)) (now (call .entry)) (now (packet .entry))) (residueBytes (now («residue_flash» .entry)) (now («residue_locks» .entry)) (now («residue_latch» .entry))) (benchOf (now (board .entry)) (now (flash .entry)) (now (locks .entry)) (now (latch .entry)) (now (params .entry)) (now (answer .entry))) ⌝ }
 {
     let asked = asked_of(part, macros, board, event, call, packet, answer);
     let Asked::Meets(g, r, p, e, o) = asked else {
@@ -157,9 +157,9 @@ pub extern "C" fn halzuqeen_bench_meet(
         locks,
         latch,
         params,
-        left_flash,
-        left_locks,
-        left_latch,
+        residue_flash,
+        residue_locks,
+        residue_latch,
         p,
         e,
         o,

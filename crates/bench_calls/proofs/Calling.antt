@@ -6,7 +6,7 @@ use Prim.Native.Nat.{ℕ, _+_, _*_, _%_, _<_}
 use native.Mathlib.Omega.{arith}
 use borrow.Author.Tests.{ne-eqb}
 use lib.Dec.{eqb}
-use Rattle.bench_calls.specs.Board.{Buffers, Left, runningOf, memoryOf, targetOf}
+use Rattle.bench_calls.specs.Board.{Buffers, ResidueBytes, runningOf, memoryOf, targetOf}
 use Rattle.bench_calls.specs.Ends.{ended, Fails, Succeeds, Answers, Resets, Alters}
 use Rattle.bench_calls.specs.declared.CallOutcome.{CallOutcome}
 use Rattle.bench_calls.specs.declared.Change.{Change}
@@ -14,7 +14,7 @@ use Rattle.bench_calls.specs.declared.Registers.{Registers}
 use Rattle.bench_calls.specs.declared.Running.{Running}
 use Rattle.bench_calls.specs.declared.Running.the-variants.{Idle, Busy}
 use Rattle.flow.specs.declared.Silicon.{Silicon}
-use Rattle.bench_effects.specs.Acts.{buffersAfter, called, Effects}
+use Rattle.bench_effects.specs.Acts.{buffersAfter, callInputs, Effects}
 use Rattle.bench_effects.specs.declared.Act.{Act}
 use Rattle.bench_effects.specs.declared.Act.the-variants.{Keep, PutResidue}
 use Rattle.bench_effects.specs.declared.Effect.{Effect}
@@ -32,10 +32,10 @@ module _ (r : Registers) (o : CallOutcome) (c arg : ℕ) (a : arg ≡ failedArg 
   unfolding finish afterFailure
   failed-quiet q g x b = rw (q, a)
 
-  pub failed-left : quiet c ≡ false → (l : ℕ) → l ≡ cond (o .«new_level» && eqb c 0x0D && eqb (macroSent (r .sysarg)) 0) (levelSent (r .sysarg)) (r .stored % 16)
+  pub failed-residue : quiet c ≡ false → (l : ℕ) → l ≡ cond (o .«new_level» && eqb c 0x0D && eqb (macroSent (r .sysarg)) 0) (levelSent (r .sysarg)) (r .stored % 16)
       → l < 16 → Fails o c r (ended r l arg 0 PutResidue)
   unfolding finish afterFailure
-  failed-left q l e h g x b = let f : l % 16 ≡ l = omega arith in rw (q, a, f, e)
+  failed-residue q l e h g x b = let f : l % 16 ≡ l = omega arith in rw (q, a, f, e)
 
 -- SYSARG after a success
 module _ (c : ℕ) (s : Silicon) (fs : List ℕ) where
@@ -67,7 +67,7 @@ endedWith r m ps a q = record {
   running = idle;
 }
 
-pub succeeding : (g : Geometry) (r : Registers) (fs ps : List ℕ) (c arg req : ℕ) (e : Effect) → Effects g (called (r .effect) (r .sysarg) (r .stored) ps) c e → Answers c (r .silicon) fs arg
+pub succeeding : (g : Geometry) (r : Registers) (fs ps : List ℕ) (c arg req : ℕ) (e : Effect) → Effects g (callInputs (r .effect) (r .sysarg) (r .stored) ps) c e → Answers c (r .silicon) fs arg
     → req ≡ sysreqAfter c (r .silicon) (r .effect)
     → Succeeds g fs ps c r (ended r (e .stored) arg req (e .act))
 unfolding finish
@@ -78,7 +78,7 @@ succeeding g r fs ps c arg req e f a q o x b h k =
     ∙ rw (a (memoryOf b (r .stored % 16)) h, q)
 
 -- XRES
-abbrev droppedFor : Geometry → Left → Registers → Buffers → Running → Target
+abbrev droppedFor : Geometry → ResidueBytes → Registers → Buffers → Running → Target
 droppedFor g x r b k = setReset (dropped g (runningOf x k) (targetOf x r b))
 
 pub reset-idle : (r : Registers) (m : Change) → r .running ≡ Idle → Alters (record { registers = r; act = Keep }) m setReset → Resets r m

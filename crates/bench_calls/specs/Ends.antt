@@ -4,7 +4,7 @@ use mathlib.Core.Bool.{true, false}
 use mathlib.Core.List.{List}
 use mathlib.Core.Path.{_≡_}
 use Prim.Native.Nat.{ℕ}
-use Rattle.bench_calls.specs.Board.{Buffers, Left, residueOf, targetOf}
+use Rattle.bench_calls.specs.Board.{Buffers, ResidueBytes, residueOf, targetOf}
 use Rattle.bench_calls.specs.declared.CallOutcome.{CallOutcome}
 use Rattle.bench_calls.specs.declared.Change.{Change}
 use Rattle.bench_calls.specs.declared.Registers.{Registers}
@@ -34,17 +34,17 @@ ended r l a q t = record {
 }
 
 -- registers and memory after are the target that f makes of the one before, whatever is lent
-abbrev pub Makes : Registers → Change → (Left → Target → Target) → Type 0
-Makes r n f = (x : Left) (b : Buffers) → targetOf x (n .registers) (buffersAfter x (n .act) b) ≡ f x (targetOf x r b)
+abbrev pub Makes : Registers → Change → (ResidueBytes → Target → Target) → Type 0
+Makes r n f = (x : ResidueBytes) (b : Buffers) → targetOf x (n .registers) (buffersAfter x (n .act) b) ≡ f x (targetOf x r b)
 
 -- the same, if flash and PARAMS are these
-abbrev pub MakesOf : (flash params : List ℕ) → Registers → Change → (Left → Target → Target) → Type 0
+abbrev pub MakesOf : (flash params : List ℕ) → Registers → Change → (ResidueBytes → Target → Target) → Type 0
 MakesOf fs ps r n f =
-    (x : Left) (b : Buffers) → b .flash ≡ fs → b .params ≡ ps → targetOf x (n .registers) (buffersAfter x (n .act) b) ≡ f x (targetOf x r b)
+    (x : ResidueBytes) (b : Buffers) → b .flash ≡ fs → b .params ≡ ps → targetOf x (n .registers) (buffersAfter x (n .act) b) ≡ f x (targetOf x r b)
 
 -- the registers alone alter, as f alters the target
 abbrev pub Alters : Change → Change → (Target → Target) → Type 0
-Alters n m f = (m .act ≡ n .act) × ((x : Left) (b : Buffers) → targetOf x (m .registers) b ≡ f (targetOf x (n .registers) b))
+Alters n m f = (m .act ≡ n .act) × ((x : ResidueBytes) (b : Buffers) → targetOf x (m .registers) b ≡ f (targetOf x (n .registers) b))
 
 -- ---- calls
 

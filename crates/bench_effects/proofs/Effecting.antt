@@ -7,7 +7,7 @@ use native.Mathlib.Omega.{arith}
 use borrow.Author.Tests.{ne-eqb}
 use lib.Dec.{eqb}
 use lib.ListN.{getD, take, drop}
-use Rattle.bench_effects.specs.Acts.{called, Effects, Protects}
+use Rattle.bench_effects.specs.Acts.{callInputs, Effects, Protects}
 use Rattle.bench_effects.specs.declared.Act.the-variants.{Keep, Erase, FillLatch, ProgramRow, WriteLocks}
 use Rattle.bench_effects.specs.declared.Effect.{Effect}
 use Rattle.flow.specs.Calls.{bytesIn, levelSent, macroSent, listAt, effectOf}
@@ -40,24 +40,24 @@ module _ (g : Geometry) (v a st : ℕ) (ps : List ℕ) (c : ℕ) where
   twice : st % 16 % 16 ≡ st % 16
   twice = omega arith
 
-  pub erasing : c ≡ 0x0A → Effects g (called v a st ps) c (record { act = Erase; stored = st % 16 })
+  pub erasing : c ≡ 0x0A → Effects g (callInputs v a st ps) c (record { act = Erase; stored = st % 16 })
   unfolding effectOf
   erasing e x b p = (rw (e, twice), refl)
 
   pub filling : c ≡ 4 → (n : ℕ)
       → take n (bytesIn (drop 2 ps)) ≡ take (getD (listAt a ps) 1 0 + 1) (bytesIn (drop 2 (listAt a ps)))
-      → Effects g (called v a st ps) c (record { act = FillLatch n; stored = st % 16 })
+      → Effects g (callInputs v a st ps) c (record { act = FillLatch n; stored = st % 16 })
   unfolding effectOf
   filling e n f x b p = (rw (e, p, f, twice), refl)
 
   pub programming : c ≡ 6 → (w : ℕ) → w ≡ getD (listAt a ps) 0 0
-      → Effects g (called v a st ps) c (record { act = ProgramRow (w / 0x10000 * rowBytes g); stored = st % 16 })
+      → Effects g (callInputs v a st ps) c (record { act = ProgramRow (w / 0x10000 * rowBytes g); stored = st % 16 })
   unfolding effectOf
   programming e w f x b p = (rw (e, p, f, twice), refl)
 
-  pub protecting : c ≡ 0x0D → (t : Effect) → Protects g v a st t → Effects g (called v a st ps) c t
+  pub protecting : c ≡ 0x0D → (t : Effect) → Protects g v a st t → Effects g (callInputs v a st ps) c t
   protecting e t f x b p = rw e (f ps x b p)
 
-  pub idling : ¬ (c ≡ 0x0A) → ¬ (c ≡ 4) → ¬ (c ≡ 6) → ¬ (c ≡ 0x0D) → Effects g (called v a st ps) c (record { act = Keep; stored = st % 16 })
+  pub idling : ¬ (c ≡ 0x0A) → ¬ (c ≡ 4) → ¬ (c ≡ 6) → ¬ (c ≡ 0x0D) → Effects g (callInputs v a st ps) c (record { act = Keep; stored = st % 16 })
   unfolding effectOf
   idling n1 n2 n3 n4 x b p = (rw (ne-eqb _ _ n1, ne-eqb _ _ n2, ne-eqb _ _ n3, ne-eqb _ _ n4, twice), refl)

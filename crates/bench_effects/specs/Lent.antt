@@ -1,4 +1,4 @@
--- The lent buffers, and what a failed call leaves in them. Assumes nothing.
+-- The lent buffers, and the residue that a failed call leaves in them. Assumes nothing.
 use mathlib.Core.List.{List}
 use Prim.Native.Nat.{ℕ}
 use Rattle.flow.specs.Target.{Memory}
@@ -10,8 +10,8 @@ pub record Buffers : Type 0 where
   pub latch : List ℕ
   pub params : List ℕ
 
--- what a failed call leaves in flash, locks and latch, lent beside them
-pub record Left : Type 0 where
+-- a residue's flash, locks and latch, what a failed call leaves there, lent beside the buffers
+pub record ResidueBytes : Type 0 where
   pub flash : List ℕ
   pub locks : List ℕ
   pub latch : List ℕ
@@ -22,5 +22,5 @@ memoryOf b l = record { flash = b .flash; locks = b .locks; latch = b .latch; st
 abbrev pub lent : (flash locks latch params : List ℕ) → Buffers
 lent f l t p = record { flash = f; locks = l; latch = t; params = p }
 
-abbrev pub left : (flash locks latch : List ℕ) → Left
-left f l t = record { flash = f; locks = l; latch = t }
+abbrev pub residueBytes : (flash locks latch : List ℕ) → ResidueBytes
+residueBytes f l t = record { flash = f; locks = l; latch = t }

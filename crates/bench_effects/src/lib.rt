@@ -4,7 +4,7 @@ ghost use mathlib.Core.Path.{_≡_};
 ghost use Prim.Native.Nat.{_+_, _%_, _<_};
 ghost use lib.Dec.{eqb};
 ghost use lib.ListN.{getD, take, drop};
-ghost use Rattle.bench_effects.specs.Acts.{called, Effects, Protects};
+ghost use Rattle.bench_effects.specs.Acts.{callInputs, Effects, Protects};
 ghost use Rattle.flow.specs.Calls.{levelSent, macroSent, listAt, bytesIn};
 use parts::Geometry;
 use parts::PARAMS;
@@ -130,7 +130,7 @@ fn protect(g: Geometry, effect: u8, sysarg: u32, stored: u8) -> Effect
 
 // What a successful call does to the memory.
 pub fn effect_of(g: Geometry, effect: u8, sysarg: u32, stored: u8, params: &[u32], c: u8) -> Effect
-    ensures effects { λ e. ⌜ Effects g (called effect sysarg stored (now (params .entry))) c e ⌝ }
+    ensures effects { λ e. ⌜ Effects g (callInputs effect sysarg stored (now (params .entry))) c e ⌝ }
     ensures bounded { λ e. ⌜ e .stored < 16 ⌝ }
 {
     let p = g.part;

@@ -5,7 +5,7 @@ ghost use Prim.Native.Nat.{_-_, _*_, min};
 ghost use lib.ListN.{getD, take, drop};
 ghost use lib.Seq.{sets};
 ghost use Rattle.bench_effects.specs.Acts.{buffersAfter};
-ghost use Rattle.bench_effects.specs.Lent.{lent, left};
+ghost use Rattle.bench_effects.specs.Lent.{lent, residueBytes};
 ghost use Rattle.flow.specs.Calls.{bytesIn};
 ghost use Rattle.flow.specs.Target.{sized};
 ghost use Rattle.lent.specs.Words.{lowFirst};
@@ -101,23 +101,23 @@ pub fn perform(
     locks: &mut [u8],
     latch: &mut [u8],
     params: &mut [u32],
-    left_flash: &[u8],
-    left_locks: &[u8],
-    left_latch: &[u8],
+    residue_flash: &[u8],
+    residue_locks: &[u8],
+    residue_latch: &[u8],
 )
-    ensures buffers { λ _. ⌜ lent (now (flash .exit)) (now (locks .exit)) (now (latch .exit)) (now (params .exit)) ≡ buffersAfter (left (now («left_flash» .entry)) (now («left_locks» .entry)) (now («left_latch» .entry))) act (lent (now (flash .entry)) (now (locks .entry)) (now (latch .entry)) (now (params .entry))) ⌝ }
+    ensures buffers { λ _. ⌜ lent (now (flash .exit)) (now (locks .exit)) (now (latch .exit)) (now (params .exit)) ≡ buffersAfter (residueBytes (now («residue_flash» .entry)) (now («residue_locks» .entry)) (now («residue_latch» .entry))) act (lent (now (flash .entry)) (now (locks .entry)) (now (latch .entry)) (now (params .entry))) ⌝ }
 {
     match act {
         Act::Keep => {}
         Act::PutWord(k, w) => put_word(params, k, w),
         Act::PutResidue => {
-            fit(flash, left_flash);
-            fit(locks, left_locks);
-            fit(latch, left_latch);
+            fit(flash, residue_flash);
+            fit(locks, residue_locks);
+            fit(latch, residue_latch);
         }
         Act::Erase => {
-            fit(flash, &left_flash[..0]);
-            fit(locks, &left_locks[..0]);
+            fit(flash, &residue_flash[..0]);
+            fit(locks, &residue_locks[..0]);
         }
         Act::FillLatch(n) => fill_latch(latch, params, n),
         Act::ProgramRow(start) => overlay(flash, start, latch, latch.len()),

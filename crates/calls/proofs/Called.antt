@@ -85,40 +85,40 @@ module _ (part macros : ℕ) (text image header : List ℕ) where
 
 -- ---- writing
 
-module _ (header image text size : List ℕ) where
-  pub write-partless : length header < 17 → writeCall header image text size ≡ callResult 12 text (putInto size (lowFirst 8 0))
+module _ (header image text lengthBytes : List ℕ) where
+  pub write-partless : length header < 17 → writeCall header image text lengthBytes ≡ callResult 12 text (putInto lengthBytes (lowFirst 8 0))
   unfolding writeCall firstRefusal
   write-partless h = rw (lt-leb 17 (length header) h)
 
   module _ (h : 17 ≤ length header) where
-    pub write-under : length size < 8 → writeCall header image text size ≡ callResult (elevenOr12 (headerIn header .part) (headerIn header .macros)) text size
+    pub write-under : length lengthBytes < 8 → writeCall header image text lengthBytes ≡ callResult (elevenOr12 (headerIn header .part) (headerIn header .macros)) text lengthBytes
     unfolding writeCall firstRefusal
-    write-under n = rw (le-leb 17 (length header) h, lt-leb 8 (length size) n) (by (inTable (headerIn header .part) (headerIn header .macros)))
+    write-under n = rw (le-leb 17 (length header) h, lt-leb 8 (length lengthBytes) n) (by (inTable (headerIn header .part) (headerIn header .macros)))
       where
         by : (t : Bool)
-            → writeInto (refusedOr (cond t 12 11) Unwritten (writing (headerIn header) image (length text))) text size ≡ callResult (cond t 12 11) text size
-        by true = rw (← put-under size (lowFirst 8 0) n)
-        by false = rw (← put-under size (lowFirst 8 0) n)
+            → writeInto (refusedOr (cond t 12 11) Unwritten (writing (headerIn header) image (length text))) text lengthBytes ≡ callResult (cond t 12 11) text lengthBytes
+        by true = rw (← put-under lengthBytes (lowFirst 8 0) n)
+        by false = rw (← put-under lengthBytes (lowFirst 8 0) n)
 
-    pub write-room : 8 ≤ length size → writeCall header image text size ≡ writeInto (writing (headerIn header) image (length text)) text size
+    pub write-room : 8 ≤ length lengthBytes → writeCall header image text lengthBytes ≡ writeInto (writing (headerIn header) image (length text)) text lengthBytes
     unfolding writeCall firstRefusal
-    write-room n = rw (le-leb 17 (length header) h, le-leb 8 (length size) n) (by (lookupOf (headerIn header .part) (headerIn header .macros)) refl)
+    write-room n = rw (le-leb 17 (length header) h, le-leb 8 (length lengthBytes) n) (by (lookupOf (headerIn header .part) (headerIn header .macros)) refl)
       where
         by : (l : Lookup) → lookupOf (headerIn header .part) (headerIn header .macros) ≡ l
-            → writeInto (refusedOr (cond (isFound l) 0 11) Unwritten (writeFor hexFormat l (headerIn header) image (length text))) text size
-            ≡ writeInto (writeFor hexFormat l (headerIn header) image (length text)) text size
+            → writeInto (refusedOr (cond (isFound l) 0 11) Unwritten (writeFor hexFormat l (headerIn header) image (length text))) text lengthBytes
+            ≡ writeInto (writeFor hexFormat l (headerIn header) image (length text)) text lengthBytes
         by (NotFound k) e = rw (refused-eleven (headerIn header .part) (headerIn header .macros) k e)
         by (Found g) e = refl
 
     -- the writer's answer, and its length put
-    pub write-done : (h : Header) (answer : WriteAnswer) (text′ size′ : List ℕ) → 8 ≤ length size → h ≡ headerIn header → answer ≡ writeOf h image text
+    pub write-done : (h : Header) (answer : WriteAnswer) (text′ lengthBytes′ : List ℕ) → 8 ≤ length lengthBytes → h ≡ headerIn header → answer ≡ writeOf h image text
         → text′ ≡ textAfter h image text
-        → size′ ≡ putInto size (lowFirst 8 (answer .length))
-        → Leaves (writeCall header image text size) (answer .number) text′ size′
-    write-done h answer text′ size′ n q e f g =
+        → lengthBytes′ ≡ putInto lengthBytes (lowFirst 8 (answer .length))
+        → Leaves (writeCall header image text lengthBytes) (answer .number) text′ lengthBytes′
+    write-done h answer text′ lengthBytes′ n q e f g =
         let e′ : answer ≡ writeOf (headerIn header) image text = e ∙ ap (λ (x : Header). writeOf x image text) q in
-        leaves-as _ (writeInto (writing (headerIn header) image (length text)) text size) _ _ _ (write-room n)
-        (ap (λ (x : WriteAnswer). x .number) e′, (f ∙ ap (λ (x : Header). textAfter x image text) q, g ∙ ap (λ (x : WriteAnswer). putInto size (lowFirst 8 (x .length))) e′))
+        leaves-as _ (writeInto (writing (headerIn header) image (length text)) text lengthBytes) _ _ _ (write-room n)
+        (ap (λ (x : WriteAnswer). x .number) e′, (f ∙ ap (λ (x : Header). textAfter x image text) q, g ∙ ap (λ (x : WriteAnswer). putInto lengthBytes (lowFirst 8 (x .length))) e′))
 
 -- ---- starting
 

@@ -123,8 +123,8 @@ module _ (part macros : ℕ) (text image header : List ℕ) where
 
 -- ---- writing
 
-module _ (header image text size : List ℕ) where
-  write-eleven : 17 ≤ length header → inTable (getD header 0 0) (getD header 1 0) ≡ false → writeCall header image text size .number ≡ 11
+module _ (header image text lengthBytes : List ℕ) where
+  write-eleven : 17 ≤ length header → inTable (getD header 0 0) (getD header 1 0) ≡ false → writeCall header image text lengthBytes .number ≡ 11
   unfolding writeCall firstRefusal headerIn
   write-eleven n e = rw (le-leb 17 (length header) n, e)
 
@@ -141,46 +141,46 @@ module _ (header image text size : List ℕ) where
       by false e = rw e
 
   write-lacks : (g : Geometry) → 17 ≤ length header → lookupOf (getD header 0 0) (getD header 1 0) ≡ Found g
-      → ¬ ((8 ≤ length size) × (length image ≡ imageSize g) × (textLength g ≤ length text))
-      → writeCall header image text size .number ≡ 12
+      → ¬ ((8 ≤ length lengthBytes) × (length image ≡ imageSize g) × (textLength g ≤ length text))
+      → writeCall header image text lengthBytes .number ≡ 12
   unfolding headerIn
-  write-lacks g n e lacks = by (leb 8 (length size)) refl
+  write-lacks g n e lacks = by (leb 8 (length lengthBytes)) refl
     where
-      by : (t : Bool) → leb 8 (length size) ≡ t → writeCall header image text size .number ≡ 12
+      by : (t : Bool) → leb 8 (length lengthBytes) ≡ t → writeCall header image text lengthBytes .number ≡ 12
       by true f =
-          let room = leb-true 8 (length size) f in
-          ap (λ (x : CallResult). x .number) (write-room header image text size n room)
+          let room = leb-true 8 (length lengthBytes) f in
+          ap (λ (x : CallResult). x .number) (write-room header image text lengthBytes n room)
           ∙ ap (λ (l : Lookup). answerTo (writeFor hexFormat l (headerIn header) image (length text)) .number) e
           ∙ other-sizes g (headerIn header) (λ k. lacks (room, k .0, k .1))
-      by false f = ap (λ (x : CallResult). x .number) (write-under header image text size n (leb-false 8 (length size) f)) ∙ ap (λ (l : Lookup). cond (isFound l) 12 11) e
+      by false f = ap (λ (x : CallResult). x .number) (write-under header image text lengthBytes n (leb-false 8 (length lengthBytes) f)) ∙ ap (λ (l : Lookup). cond (isFound l) 12 11) e
 
   -- a refused writing leaves the text and gives the length 0
   left-alone : (w : Writing) → ¬ (answerTo w .number ≡ 0) → (leftBy w text ≡ text) × (lowFirst 8 (answerTo w .length) ≡ replicate 8 0)
   left-alone (Unwritten n) z = (refl, refl)
   left-alone (Written t) z = absurd (z refl)
 
-  unwritten : ¬ (writeCall header image text size .number ≡ 0) → writeCall header image text size .first ≡ text
+  unwritten : ¬ (writeCall header image text lengthBytes .number ≡ 0) → writeCall header image text lengthBytes .first ≡ text
   unfolding writeCall
-  unwritten z = left-alone (refusedOr (writeRefusal header size) Unwritten (writing (headerIn header) image (length text))) z .0
+  unwritten z = left-alone (refusedOr (writeRefusal header lengthBytes) Unwritten (writing (headerIn header) image (length text))) z .0
 
-  write-zeroed : Zeroed (writeCall header image text size .number) 8 size (writeCall header image text size .second)
+  write-zeroed : Zeroed (writeCall header image text lengthBytes .number) 8 lengthBytes (writeCall header image text lengthBytes .second)
   unfolding writeCall
   write-zeroed z n =
-      let w = refusedOr (writeRefusal header size) Unwritten (writing (headerIn header) image (length text)) in
-      put-found 8 size (lowFirst 8 (answerTo w .length)) refl n ∙ left-alone w z .1
+      let w = refusedOr (writeRefusal header lengthBytes) Unwritten (writing (headerIn header) image (length text)) in
+      put-found 8 lengthBytes (lowFirst 8 (answerTo w .length)) refl n ∙ left-alone w z .1
 
-  write-kept : Kept 8 size (writeCall header image text size .second)
+  write-kept : Kept 8 lengthBytes (writeCall header image text lengthBytes .second)
   unfolding writeCall
-  write-kept = put-kept 8 size _ refl
+  write-kept = put-kept 8 lengthBytes _ refl
 
-  pub write-claims : WriteClaims header image text size (writeCall header image text size)
+  pub write-claims : WriteClaims header image text lengthBytes (writeCall header image text lengthBytes)
   write-claims = record {
-    partless = λ n. ap (λ (x : CallResult). x .number) (write-partless header image text size n);
+    partless = λ n. ap (λ (x : CallResult). x .number) (write-partless header image text lengthBytes n);
     eleven = write-eleven;
     twelve = write-lacks;
     unwritten = unwritten;
     zeroed = write-zeroed;
     kept = write-kept;
-    core = λ n m. let e = write-room header image text size n m in
-        (ap (λ (x : CallResult). x .number) e, ap (λ (x : CallResult). x .first) e, ap (λ (x : CallResult). take 8 (x .second)) e ∙ put-found 8 size _ refl m);
+    core = λ n m. let e = write-room header image text lengthBytes n m in
+        (ap (λ (x : CallResult). x .number) e, ap (λ (x : CallResult). x .first) e, ap (λ (x : CallResult). take 8 (x .second)) e ∙ put-found 8 lengthBytes _ refl m);
   }

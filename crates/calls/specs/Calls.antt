@@ -52,9 +52,9 @@ abbrev pub readRefusal : (part macros : ℕ) (header : List ℕ) → ℕ
 readRefusal part macros header = firstRefusal (11 unless inTable part macros ∷ 12 unless holds 17 header ∷ [])
 
 -- 'Writing and starting check 11, 12, ..'; a header under size is 12 before 11, since no part can be read from it
-abbrev pub writeRefusal : (header size : List ℕ) → ℕ
-writeRefusal header size =
-    firstRefusal (12 unless holds 17 header ∷ 11 unless inTable (headerIn header .part) (headerIn header .macros) ∷ 12 unless holds 8 size ∷ [])
+abbrev pub writeRefusal : (header lengthBytes : List ℕ) → ℕ
+writeRefusal header lengthBytes =
+    firstRefusal (12 unless holds 17 header ∷ 11 unless inTable (headerIn header .part) (headerIn header .macros) ∷ 12 unless holds 8 lengthBytes ∷ [])
 
 abbrev pub startRefusal : (header session outcome : List ℕ) → ℕ
 startRefusal header session outcome =
@@ -84,12 +84,12 @@ readCall part macros text image header =
 
 -- ---- writing: the text's bytes, the eight bytes of its length
 
-abbrev pub writeInto : Writing → (text size : List ℕ) → CallResult
-writeInto w text size = callResult (answerTo w .number) (leftBy w text) (putInto size (lowFirst 8 (answerTo w .length)))
+abbrev pub writeInto : Writing → (text lengthBytes : List ℕ) → CallResult
+writeInto w text lengthBytes = callResult (answerTo w .number) (leftBy w text) (putInto lengthBytes (lowFirst 8 (answerTo w .length)))
 
-unfoldable pub writeCall : (header image text size : List ℕ) → CallResult
-writeCall header image text size =
-    writeInto (refusedOr (writeRefusal header size) Unwritten (writing (headerIn header) image (length text))) text size
+unfoldable pub writeCall : (header image text lengthBytes : List ℕ) → CallResult
+writeCall header image text lengthBytes =
+    writeInto (refusedOr (writeRefusal header lengthBytes) Unwritten (writing (headerIn header) image (length text))) text lengthBytes
 
 -- ---- starting and stepping: the session's bytes, the outcome's bytes
 

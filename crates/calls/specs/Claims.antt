@@ -56,20 +56,20 @@ pub record ReadClaims (part macros : ℕ) (text image header : List ℕ) (r : Ca
       × (r .first ≡ bufferAfter (hexReading part macros text (length image)) image)
       × (take 17 (r .second) ≡ headerBytes (answerOf (hexReading part macros text (length image)) .header))
 
-pub record WriteClaims (header image text size : List ℕ) (r : CallResult) : Type 0 where
+pub record WriteClaims (header image text lengthBytes : List ℕ) (r : CallResult) : Type 0 where
   -- no part can be read from a header under size
   pub partless : length header < 17 → r .number ≡ 12
   -- 'Writing and starting check 11, 12, 6 to 10'
   pub eleven : 17 ≤ length header → inTable (getD header 0 0) (getD header 1 0) ≡ false → r .number ≡ 11
   pub twelve : (g : Geometry) → 17 ≤ length header → lookupOf (getD header 0 0) (getD header 1 0) ≡ Found g
-      → ¬ ((8 ≤ length size) × (length image ≡ imageSize g) × (textLength g ≤ length text))
+      → ¬ ((8 ≤ length lengthBytes) × (length image ≡ imageSize g) × (textLength g ≤ length text))
       → r .number ≡ 12
   -- 'Other refusals write nothing'
   pub unwritten : ¬ (r .number ≡ 0) → r .first ≡ text
-  pub zeroed : Zeroed (r .number) 8 size (r .second)
-  pub kept : Kept 8 size (r .second)
+  pub zeroed : Zeroed (r .number) 8 lengthBytes (r .second)
+  pub kept : Kept 8 lengthBytes (r .second)
   -- with a header and room for the length it is the core's writing
-  pub core : 17 ≤ length header → 8 ≤ length size → (r .number ≡ writeOf (headerIn header) image text .number)
+  pub core : 17 ≤ length header → 8 ≤ length lengthBytes → (r .number ≡ writeOf (headerIn header) image text .number)
       × (r .first ≡ textAfter (headerIn header) image text)
       × (take 8 (r .second) ≡ lowFirst 8 (writeOf (headerIn header) image text .length))
 
@@ -121,7 +121,7 @@ pub record ByteClaims : Type 0 where
   pub sessionFront : (bs more : List ℕ) → length bs ≡ 45 → (sessionIn (bs ++ more) ≡ sessionIn bs) × (isSession (bs ++ more) ≡ isSession bs)
   -- the four calls
   pub read : (part macros : ℕ) (text image header : List ℕ) → ReadClaims part macros text image header (readCall part macros text image header)
-  pub write : (header image text size : List ℕ) → WriteClaims header image text size (writeCall header image text size)
+  pub write : (header image text lengthBytes : List ℕ) → WriteClaims header image text lengthBytes (writeCall header image text lengthBytes)
   pub start : (header image : List ℕ) (leave : ℕ) (session outcome : List ℕ)
       → StartClaims header image leave session outcome (startCall header image leave session outcome)
   pub step : (session image : List ℕ) (a : Answer) (outcome : List ℕ) → StepClaims session image a outcome (stepCall session image a outcome)

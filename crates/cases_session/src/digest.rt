@@ -1,4 +1,4 @@
-// The digest of all requests, with the steps that must be refused among them.
+// The digest of all packets, with the steps that must be refused among them.
 use flow::Answer;
 use flow::Packet;
 use flow::Reply;
@@ -22,7 +22,7 @@ fn mixed_word(h: u64, w: u32) -> u64 {
     cases::mixed(three, (w / 0x1000000) as u8)
 }
 
-// The digest after a request more.
+// The digest after a packet more.
 fn mixed_packet(h: u64, packet: Packet) -> u64 {
     match packet {
         Packet::Xres => cases::mixed(h, 0),

@@ -88,7 +88,7 @@ fn played(
     locks: &mut [u8],
     latch: &mut [u8],
     params: &mut [u32],
-    left: &[u8],
+    residue: &[u8],
 ) -> Bench {
     let mut bench = first;
     let mut turn: u32 = 0;
@@ -104,9 +104,9 @@ fn played(
             locks,
             latch,
             params,
-            left,
-            left,
-            left,
+            residue,
+            residue,
+            residue,
             packet,
             e,
             o,

@@ -88,21 +88,21 @@ pub extern "C" fn halzuqeen_write(
     header: &[u8],
     image: &[u8],
     text: &mut [u8],
-    size: &mut [u8],
+    length: &mut [u8],
 ) -> u32
-    ensures number { λ r. ⌜ r ≡ writeCall (now (header .entry)) (now (image .entry)) (now (text .entry)) (now (size .entry)) .number ⌝ }
-    ensures text { λ _. ⌜ now (text .exit) ≡ writeCall (now (header .entry)) (now (image .entry)) (now (text .entry)) (now (size .entry)) .first ⌝ }
-    ensures size { λ _. ⌜ now (size .exit) ≡ writeCall (now (header .entry)) (now (image .entry)) (now (text .entry)) (now (size .entry)) .second ⌝ }
+    ensures number { λ r. ⌜ r ≡ writeCall (now (header .entry)) (now (image .entry)) (now (text .entry)) (now (length .entry)) .number ⌝ }
+    ensures text { λ _. ⌜ now (text .exit) ≡ writeCall (now (header .entry)) (now (image .entry)) (now (text .entry)) (now (length .entry)) .first ⌝ }
+    ensures length { λ _. ⌜ now (length .exit) ≡ writeCall (now (header .entry)) (now (image .entry)) (now (text .entry)) (now (length .entry)) .second ⌝ }
 {
     if header.len() < 17 {
-        put_length(size, 0);
+        put_length(length, 0);
         return 12;
     }
     let h = header_in(header);
-    if size.len() < 8 {
+    if length.len() < 8 {
         return under_size(h.part, h.macros) as u32;
     }
     let answer = hex_writer::write(h, image, text);
-    put_length(size, answer.length);
+    put_length(length, answer.length);
     answer.number as u32
 }

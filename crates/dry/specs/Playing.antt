@@ -4,7 +4,7 @@ use mathlib.Core.Bool.{true, false}
 use mathlib.Core.List.{List, []}
 use mathlib.Core.Path.{_≡_}
 use Prim.Native.Nat.{ℕ, _<_}
-use Rattle.bench_calls.specs.Board.{Buffers, Left, left, targetOf}
+use Rattle.bench_calls.specs.Board.{Buffers, ResidueBytes, residueBytes, targetOf}
 use Rattle.bench_calls.specs.declared.CallOutcome.{CallOutcome}
 use Rattle.flow.specs.declared.LineEvent.{LineEvent}
 use Rattle.flow.specs.declared.TransferOutcome.the-variants.{Clean}
@@ -33,8 +33,8 @@ abbrev pub noLists : Lists
 noLists = record { line = []; calls = [] }
 
 -- no call fails, so none leaves anything
-abbrev pub nothing : Left
-nothing = left [] [] []
+abbrev pub nothing : ResidueBytes
+nothing = residueBytes [] [] []
 
 -- past a list's end: 'it is OK, and success without busy reads'
 abbrev pub calmEvent : LineEvent

@@ -9,7 +9,7 @@ use lib.Dec.{ltb}
 use lib.ListN.{length, getD, length-reverse, List·getD-append}
 use lib.Seq.{getD-append-add}
 use Rattle.flow.specs.Machine as Machines
-use Rattle.flow.specs.Machine.{Cursor, standingMove, back, along, Machine, machineAfter, answerOn, machineStep, Placed, StandsFor, placed, finished, sessionMove, machineMove, Agrees}
+use Rattle.flow.specs.Machine.{Cursor, standingMove, back, along, Machine, machineAfter, answerOn, machineStep, Placed, Matches, placed, finished, sessionMove, machineMove, Agrees}
 use Rattle.flow.specs.Sequence.{sequence, opening, afterwards, endMove}
 use Rattle.flow.specs.Session.{SessionState, position, moveAt, standAfter, counted, act, stepOf}
 use Rattle.flow.specs.declared.Answer.{Answer}
@@ -109,7 +109,7 @@ module _ (i : Image) (y : Entry) where
 -- ---- answers
 
 module _ (i : Image) (y : Entry) (n : ℕ) (t : Cursor) (at : Placed i t (position y n)) (m : Move) (fits : Proper (suc n ≡ length (opening i)) 1 m) where
-  settles : {x : Next} → Leads m x → (s h : ℕ) → StandsFor i (standAfter x (position y n) s h) (machineAfter i x t s h)
+  settles : {x : Next} → Leads m x → (s h : ℕ) → Matches i (standAfter x (position y n) s h) (machineAfter i x t s h)
   settles onward s h = placed (onward-placed i y t n at)
   settles stays s h = placed at
   settles (retries e) s h = placed (back-placed i y t n at)
@@ -119,16 +119,16 @@ module _ (i : Image) (y : Entry) (n : ℕ) (t : Cursor) (at : Placed i t (positi
 
 -- ---- the machine and the session
 
-answered : (i : Image) (s : SessionState) (m : Machine) (r : Answer) → StandsFor i s m → StandsFor i (stepOf i s r) (machineStep i m r)
+answered : (i : Image) (s : SessionState) (m : Machine) (r : Answer) → Matches i s m → Matches i (stepOf i s r) (machineStep i m r)
 unfolding stepOf machineStep
 answered i s m r (placed {t = t} {p = p} {c = c} {h = h} at) =
     let x = standingMove t in
     let e = standingMove-at i (p .entry) t (p .at) at in
-    subst (λ (z : Move). StandsFor i (act i z r p c h) (answerOn i x r t c h)) (sym e)
+    subst (λ (z : Move). Matches i (act i z r p c h) (answerOn i x r t c h)) (sym e)
     (settles i (p .entry) (p .at) t at x (subst (Proper (suc (p .at) ≡ length (opening i)) 1) e (proper-at i (p .entry) (p .at))) (leads i x r c) (x .step) (counted (x .request) h))
 answered i s m r finished = finished
 
-same-move : (i : Image) (s : SessionState) (m : Machine) → StandsFor i s m → sessionMove i s ≡ machineMove m
+same-move : (i : Image) (s : SessionState) (m : Machine) → Matches i s m → sessionMove i s ≡ machineMove m
 same-move i s m (placed {t = t} {p = p} at) = standingMove-at i (p .entry) t (p .at) at
 same-move i s m finished = refl
 

@@ -66,16 +66,16 @@ machineStep i (ended x s h) r = ended x s h
 abbrev pub firstMachine : Image → Machine
 firstMachine i = underWay (record { passed = []; rest = sequence i FromOpen }) noCounts 0
 
--- ---- the index session that stands for it
+-- ---- the index session that matches it
 
 -- the passed moves are so many, and with the rest they are the sequence; past its end only the end move stands
 pub record Placed (i : Image) (t : Cursor) (p : Position) : Type 0 where
   pub count : length (t .passed) ≡ p .at
   pub moves : (j : ℕ) → getD (reverse (t .passed) ++ t .rest) j endMove ≡ getD (sequence i (p .entry)) j endMove
 
-pub data StandsFor (i : Image) : SessionState → Machine → Type 0 where
-  placed : {t : Cursor} {p : Position} {c : Counters} {h : ℕ} → Placed i t p → StandsFor i (running p c h) (underWay t c h)
-  finished : {x s h : ℕ} → StandsFor i (reported x s h) (ended x s h)
+pub data Matches (i : Image) : SessionState → Machine → Type 0 where
+  placed : {t : Cursor} {p : Position} {c : Counters} {h : ℕ} → Placed i t p → Matches i (running p c h) (underWay t c h)
+  finished : {x s h : ℕ} → Matches i (reported x s h) (ended x s h)
 
 -- the move that stands, if one does
 abbrev pub sessionMove : Image → SessionState → Move
@@ -88,6 +88,6 @@ machineMove (ended x s h) = endMove
 
 -- the two agree step by step
 pub record Agrees (i : Image) : Type 0 where
-  pub first : StandsFor i firstSession (firstMachine i)
-  pub move : (s : SessionState) (m : Machine) → StandsFor i s m → sessionMove i s ≡ machineMove m
-  pub answer : (s : SessionState) (m : Machine) (r : Answer) → StandsFor i s m → StandsFor i (stepOf i s r) (machineStep i m r)
+  pub first : Matches i firstSession (firstMachine i)
+  pub move : (s : SessionState) (m : Machine) → Matches i s m → sessionMove i s ≡ machineMove m
+  pub answer : (s : SessionState) (m : Machine) (r : Answer) → Matches i s m → Matches i (stepOf i s r) (machineStep i m r)

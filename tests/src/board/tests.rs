@@ -202,7 +202,7 @@ fn sysreq_written_while_a_call_runs() {
 
 /// Neither a request byte nor a word of wrong parity is carried out; both take an entry of the line's list.
 #[test]
-fn malformed_requests_are_lost() {
+fn malformed_packets_are_lost() {
     let (mut b, mut lists) = board(OPEN);
     let (tar, word) = (b.tar, b.tar ^ 4);
     let wrong = Packet::Write { byte: 0x8B, word, parity: !parity(word) };

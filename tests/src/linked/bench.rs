@@ -1,4 +1,4 @@
-//! The proved bench board through its C ABI, beside ours: both meet each request with the same entries.
+//! The proved bench board through its C ABI, beside ours: both meet each packet with the same entries.
 
 use super::{abi_answer, outcome_bytes};
 use crate::board::{Board, CallOutcome, FreeLists, Line, LineEvent, Place};
@@ -29,7 +29,7 @@ pub fn is_of_other_register(packet: Packet) -> bool {
     }
 }
 
-/// Lists that remember what was taken from them for one request.
+/// Lists that remember what was taken from them for one packet.
 struct Taken<'a, F> {
     lists: &'a mut F,
     event: Option<LineEvent>,
@@ -115,30 +115,30 @@ pub struct Pair {
     locks: Vec<u8>,
     latch: Vec<u8>,
     params: Vec<u32>,
-    /// What the running call leaves in flash, locks and latch if it fails.
-    left: [Vec<u8>; 3],
+    /// The running call's residue if it fails: flash, locks and latch.
+    residue: [Vec<u8>; 3],
 }
 
 impl Pair {
     pub fn of(header: &Header, ours: Board) -> Pair {
         let (part, macros) = (header.part as u8, header.macros as u8);
         let (flash, locks, latch) = (ours.flash.clone(), ours.locks.clone(), ours.latch.clone());
-        let (board, params, left) = (board_bytes(&ours), ours.params.clone(), [vec![], vec![], vec![]]);
-        let mut pair = Pair { ours, part, macros, board, flash, locks, latch, params, left };
+        let (board, params, residue) = (board_bytes(&ours), ours.params.clone(), [vec![], vec![], vec![]]);
+        let mut pair = Pair { ours, part, macros, board, flash, locks, latch, params, residue };
         if let Some(call) = pair.ours.running {
-            pair.leave(&call.outcome);
+            pair.set_residue(&call.outcome);
         }
         pair
     }
 
     /// A call keeps flash, locks and latch if it fails, or scrambles them as ours does.
-    fn leave(&mut self, call: &CallOutcome) {
-        for (left, now) in self.left.iter_mut().zip([&self.flash, &self.locks, &self.latch]) {
-            left.clone_from(now);
+    fn set_residue(&mut self, call: &CallOutcome) {
+        for (residue, now) in self.residue.iter_mut().zip([&self.flash, &self.locks, &self.latch]) {
+            residue.clone_from(now);
         }
         if let Some(seed) = call.scramble {
             let mut rng = Rng(seed);
-            self.left.iter_mut().for_each(|left| rng.fill(left));
+            self.residue.iter_mut().for_each(|residue| rng.fill(residue));
         }
     }
 
@@ -151,13 +151,13 @@ impl Pair {
         }
     }
 
-    /// Both boards meet a request.
+    /// Both boards meet a packet.
     pub fn meet(&mut self, packet: Packet, lists: &mut impl FreeLists) -> Met {
         let free_bits = self.free_bits();
         let mut taken = Taken { lists, event: None, call: None };
         let answer = self.ours.answer(packet, &mut taken);
         if let Some(call) = &taken.call {
-            self.leave(call);
+            self.set_residue(call);
         }
         // What isn't taken must not matter.
         let event = taken.event.unwrap_or(LineEvent { noise: 1, ..LineEvent::of(Line::SilentCarriedOut) });
@@ -183,7 +183,8 @@ impl Pair {
             latch: &mut self.latch,
             params: &mut self.params,
         };
-        let entries = bench::Outcomes { event, call, left: [&self.left[0], &self.left[1], &self.left[2]] };
+        let residue = self.residue.each_ref().map(Vec::as_slice);
+        let entries = bench::Outcomes { event, call, residue };
         let packet = outcome_bytes(Outcome::Ask(packet));
         assert_eq!(bench::meet(self.part, self.macros, bench, entries, &packet, &mut answer), 0);
         answer
@@ -207,7 +208,7 @@ impl Pair {
         self.flash == flash && self.locks == locks && self.board[12] == header.level
     }
 
-    /// Flash, locks, latch and PARAMS; the rest is compared at each request.
+    /// Flash, locks, latch and PARAMS; the rest is compared at each packet.
     pub fn assert_memory_alike(&self) {
         let Board { flash, locks, latch, params, .. } = &self.ours;
         assert!(self.flash == *flash, "flash");

@@ -65,17 +65,17 @@ fn parts() -> u64 {
     3 * 65_536
 }
 
-/// What the bench board is lent with fixed sizes: board, event, call, request, answer.
+/// What the bench board is lent with fixed sizes: board, event, call, packet, answer.
 const BENCH: [usize; 5] = [bench::BOARD, bench::EVENT, bench::CALL, raw::OUTCOME, bench::ANSWER];
 
-/// The bench board meets a request; refused, it writes nothing.
+/// The bench board meets a packet; refused, it writes nothing.
 fn meet(part: u8, macros: u8, lent: &mut [Vec<u8>; 5]) -> u32 {
     let before = lent.clone();
     let [board, event, call, packet, answer] = lent;
     let (mut flash, mut locks, mut latch, mut params) = ([LEFT; 256], [LEFT; 64], [LEFT; 64], [0x5A5A; 18]);
     let bench =
         bench::Bench { board, flash: &mut flash, locks: &mut locks, latch: &mut latch, params: &mut params };
-    let outcomes = bench::Outcomes { event, call, left: [&[], &[], &[]] };
+    let outcomes = bench::Outcomes { event, call, residue: [&[], &[], &[]] };
     let number = bench::meet(part, macros, bench, outcomes, packet, answer);
     if number != 0 {
         assert!(flash.iter().chain(&locks).chain(&latch).all(|&byte| byte == LEFT) && params == [0x5A5A; 18]);

@@ -1,7 +1,7 @@
 -- What was decided, once its act is performed. Assumes nothing.
 use borrow.Author.Needs.{needs}
 use Rattle.bench_board.proofs.Meeting.{performed}
-use Rattle.bench_calls.specs.Board.{lent, left}
+use Rattle.bench_calls.specs.Board.{lent, residueBytes}
 use Rattle.bench_board.proofs.meet.Statement.{statement}
 use Rattle.bench_board.proofs.meet.Tie as tie
 
@@ -12,7 +12,7 @@ returns c =
     let at-decide-arg2 = d .before .before in let at-shared-slice-known = at-decide-arg2 .before .before .before .before in
     let at-slice-known = at-shared-slice-known .before .before .before .before in let at-start = at-slice-known .before in
     let a = at-start .args in
-    performed (a .g) (left (a .left-flash .now) (a .left-locks .now) (a .left-latch .now)) (a .e) (a .o) (a .p) (a .r) (d .decide .result)
+    performed (a .g) (residueBytes (a .residue-flash .now) (a .residue-locks .now) (a .residue-latch .now)) (a .e) (a .o) (a .p) (a .r) (d .decide .result)
     (lent (a .flash .now) (a .locks .now) (a .latch .now) (a .params .now)) _ (d .decide .ensures) (q .perform .ensures)
 
 pub meet-spec : {M : Type 1} → statement M

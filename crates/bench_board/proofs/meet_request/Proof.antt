@@ -1,7 +1,7 @@
 -- Resets by their own laws, each other request as a transfer. Assumes nothing.
 use mathlib.Core.Path.{_∙_}
 use borrow.Author.Needs.{needs}
-use Rattle.bench_board.specs.Meets.{seen}
+use Rattle.bench_board.specs.Meets.{buffersRead}
 use Rattle.bench_board.proofs.Meeting.{meet-xres}
 use Rattle.bench_board.proofs.meet_request.Statement.{statement}
 use Rattle.bench_board.proofs.meet_request.Tie as tie
@@ -10,7 +10,7 @@ returns : tie.Need-returns
 returns c =
     let at-match = c .before .before in let at-start = at-match .before .before .before .before in
     let a = at-start .args in
-    meet-xres (a .g) (seen (a .flash .now) (a .locks .now) (a .params .now)) (a .q) (a .e) (a .o) (a .r) (c .xres .result) (c .before .enum-told .given .1) (c .xres .ensures)
+    meet-xres (a .g) (buffersRead (a .flash .now) (a .locks .now) (a .params .now)) (a .q) (a .e) (a .o) (a .r) (c .xres .result) (c .before .enum-told .given .1) (c .xres .ensures)
 
 pub meet-request-spec : {M : Type 1} → statement M
 meet-request-spec =

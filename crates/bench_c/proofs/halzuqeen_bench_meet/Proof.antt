@@ -1,7 +1,7 @@
 -- A number at once, or the packet met. Assumes nothing.
 use mathlib.Core.Path.{ap, _∙_}
 use Prim.Native.Nat.{ℕ}
-use Rattle.bench_calls.specs.Board.{left}
+use Rattle.bench_calls.specs.Board.{residueBytes}
 use Rattle.bench_c.specs.BoardAsked.{numberOf}
 use Rattle.bench_c.specs.BoardCalls.{benchOf, handed, benched}
 use Rattle.bench_c.proofs.Boards.{meets, meets-sized, met-bench, call-answered}
@@ -17,7 +17,7 @@ returns c =
     let a = at-start .args in
     let b = benchOf (a .board .now) (a .flash .now) (a .locks .now) (a .latch .now) (a .params .now) (a .answer .now) in
     ap (λ (n : ℕ). benched n b) (c .number-of .ensures ∙ ap numberOf (c .before .enum-told .given .1))
-    ∙ call-answered (handed (a .event .now) (a .call .now) (a .packet .now)) (left (a .left-flash .now) (a .left-locks .now) (a .left-latch .now)) b (a .part) (a .macros) _ _ (p .asked-of .ensures)
+    ∙ call-answered (handed (a .event .now) (a .call .now) (a .packet .now)) (residueBytes (a .residue-flash .now) (a .residue-locks .now) (a .residue-latch .now)) b (a .part) (a .macros) _ _ (p .asked-of .ensures)
     (c .before .enum-told .given .1)
 
 put-met-requires : tie.Need-put-met-requires
@@ -42,7 +42,7 @@ returns-2 c =
     let at-slice-known3 = at-shared-slice-known2 .before .before .before .before in let at-start = at-slice-known3 .before .before .before in
     let a = at-start .args in
     let f = q .asked .given .0 in
-    let x = left (a .left-flash .now) (a .left-locks .now) (a .left-latch .now) in
+    let x = residueBytes (a .residue-flash .now) (a .residue-locks .now) (a .residue-latch .now) in
     let put = at-put-met .put-met .ensures in
     ap (benched 0) (met-bench x (f .1 .1 .1 .0) (f .1 .1 .1 .1 .0) _ (m .meet .result) _ (m .meet .ensures) (put .0) (put .1))
     ∙ call-answered (handed (a .event .now) (a .call .now) (a .packet .now)) x (benchOf (a .board .now) (a .flash .now) (a .locks .now) (a .latch .now) (a .params .now) (a .answer .now)) (a .part) (a .macros) _ _ (p .asked-of .ensures)

@@ -17,7 +17,7 @@ halzuqeen-write-spec =
     let tested = c .before .before .before .before in let at-shared-slice-known = tested .before .before .before .before in
     let at-start = at-shared-slice-known .before in
     let a = at-start .args in
-    leaves-as _ _ _ _ _ (write-partless (a .header .now) (a .image .now) (a .text .now) (a .size .now) (tested .if1 .taken))
+    leaves-as _ _ _ _ _ (write-partless (a .header .now) (a .image .now) (a .text .now) (a .length .now) (tested .if1 .taken))
     (refl, (refl, c .before .before .put-length .ensures)))
     (λ c κs. search needs)
     (λ c κs. search needs)
@@ -26,7 +26,7 @@ halzuqeen-write-spec =
     let tested = c .before .before .before in let at-shared-slice-known = tested .before .before .before .before in
     let at-start = at-shared-slice-known .before in
     let a = at-start .args in
-    leaves-as _ _ _ _ _ (write-under (a .header .now) (a .image .now) (a .text .now) (a .size .now) (tested .if1 .left) (c .before .if2 .taken))
+    leaves-as _ _ _ _ _ (write-under (a .header .now) (a .image .now) (a .text .now) (a .length .now) (tested .if1 .left) (c .before .if2 .taken))
     (c .under-size .ensures ∙ ap (λ (h : Header). elevenOr12 (h .part) (h .macros)) (c .before .before .header-in .ensures ∙ header-found (a .header .now) (tested .if1 .left)), (refl, refl)))
     (λ c κs. search needs)
     (λ c κs. search needs)
@@ -39,4 +39,4 @@ halzuqeen-write-spec =
     let at-start = at-shared-slice-known .before in
     let a = at-start .args in
     let w = writing .write .ensures in
-    write-done (a .header .now) (a .image .now) (a .text .now) (a .size .now) (tested .if1 .left) _ _ _ _ (writing .before .before .if2 .left) (writing .before .before .before .header-in .ensures ∙ header-found (a .header .now) (tested .if1 .left)) (w .0) (w .1) (c .before .before .before .put-length2 .ensures)))
+    write-done (a .header .now) (a .image .now) (a .text .now) (a .length .now) (tested .if1 .left) _ _ _ _ (writing .before .before .if2 .left) (writing .before .before .before .header-in .ensures ∙ header-found (a .header .now) (tested .if1 .left)) (w .0) (w .1) (c .before .before .before .put-length2 .ensures)))

@@ -8,11 +8,11 @@ use Rattle.cases_session.proofs.play.played.Statement.{statement}
 use Rattle.cases_session.proofs.play.played.Tie as tie
 
 abbrev Inv-loop : tie.InvT-loop
-Inv-loop g overrides image flash₀ locks₀ latch₀ params₀ left bench₀ turn₀ flash locks latch params bench turn =
+Inv-loop g overrides image flash₀ locks₀ latch₀ params₀ residue bench₀ turn₀ flash locks latch params bench turn =
     (length flash ≡ length flash₀) × (length locks ≡ length locks₀) × (length latch ≡ length latch₀) × (length params ≡ length params₀)
 
 abbrev μ-loop : tie.MeasureT-loop
-μ-loop g overrides image flash₀ locks₀ latch₀ params₀ left bench₀ turn₀ flash locks latch params bench turn = 4000000000 - turn
+μ-loop g overrides image flash₀ locks₀ latch₀ params₀ residue bench₀ turn₀ flash locks latch params bench turn = 4000000000 - turn
 
 loop-again : tie.Need-loop-again Inv-loop μ-loop
 loop-again c =
