@@ -139,9 +139,9 @@ fn put_sections(
 // The length of a section's lines.
 fn lines_length(size: usize) -> usize
     requires { ⌜ size ≤ 33554432 ⌝ }
-    ensures { λ r. ⌜ r ≡ 17 * ((size + 65535) / 0x10000) + 13 * ((size + 63) / 64) + 2 * size ⌝ ∗ ⌜ r ≤ 100000000 ⌝ }
+    ensures { λ r. ⌜ r ≡ 17 * ((size + 0xFFFF) / 0x10000) + 13 * ((size + 63) / 64) + 2 * size ⌝ ∗ ⌜ r ≤ 100000000 ⌝ }
 {
-    17 * ((size + 65535) / 0x10000) + 13 * ((size + 63) / 64) + 2 * size
+    17 * ((size + 0xFFFF) / 0x10000) + 13 * ((size + 63) / 64) + 2 * size
 }
 
 // The length of an image's text.
