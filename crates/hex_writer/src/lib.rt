@@ -41,7 +41,7 @@ fn put_upper(text: &mut [u8], position: Position, upper: u32) -> usize
 
 // Puts the lines of one piece.
 fn put_piece(text: &mut [u8], position: Position, address: u32, payload: &[u8]) -> Position
-    requires { ⌜ (length (now payload) ≤ 64) × (positionAfter position (onePiece address (now payload)) .at ≤ length (now text)) ⌝ }
+    requires { ⌜ (length (now payload) ≤ 64) × (1 ≤ length (now payload)) × (positionAfter position (onePiece address (now payload)) .at ≤ length (now text)) ⌝ }
     ensures { λ r. ⌜ r ≡ positionAfter position (onePiece address (now (payload .entry))) ⌝ }
     ensures { λ _. ⌜ now (text .exit) ≡ sets (now (text .entry)) (position .at) (linesFrom (position .upper) (onePiece address (now (payload .entry)))) ⌝ }
 {
