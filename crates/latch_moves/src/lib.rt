@@ -68,7 +68,7 @@ fn latchable(size: usize) -> bool
     size <= 1024
 }
 
-// A row of step 5.
+// A row of step 5: of 1 to 1024 bytes, or the end move.
 pub fn row_move(row: &[u8], sysreq: u32, r: u16, m: u8, j: u32) -> Move
     ensures found { λ t. ⌜ MoveAt sysreq (λ g. latched (now (row .entry)) (listed g 5 4 (latchList m (length (now (row .entry))) (now (row .entry)) 0) ++ listed g 5 6 ((key 6 + r * 0x10000) ∷ []))) j t ⌝ }
 {
@@ -82,7 +82,7 @@ pub fn row_move(row: &[u8], sysreq: u32, r: u16, m: u8, j: u32) -> Move
     one_move(sysreq, 5, 6, key_of(6) + (r as u32) * 0x10000, j - n)
 }
 
-// A macro of step 7.
+// A macro of step 7: likewise of 1 to 1024 bytes.
 pub fn lock_move(locks: &[u8], sysreq: u32, m: u8, level: u8, j: u32) -> Move
     ensures found { λ t. ⌜ MoveAt sysreq (λ g. latched (now (locks .entry)) (listed g 7 4 (latchList m (length (now (locks .entry))) (now (locks .entry)) 0) ++ call g 7 0x0D (key 0x0D + level * 0x10000 + m * 0x1000000))) j t ⌝ }
 {
