@@ -1,1 +1,2 @@
 pub mod MoveAt
+pub mod Examples

@@ -3,6 +3,7 @@
 ghost use mathlib.Core.List.{[], _∷_, _++_};
 ghost use mathlib.Core.Path.{_≡_};
 ghost use Prim.Native.Nat.{_+_, _*_, _<_, _≤_};
+ghost use lib.Dec.{leb};
 ghost use lib.ListN.{getD};
 ghost use Rattle.flow.specs.Sequence.{move, key, write, read, call, listed, imoCall, acquire, silicon, privileged, endMove};
 ghost use Rattle.call_moves.specs.MoveAt.{MoveAt, inReach, ReachedAt, Acquired, Attach, ImoCount, openingCount};
@@ -84,6 +85,13 @@ pub fn read_move(step: u8, a: u32, p: Purpose, j: u32) -> Move
     }
 }
 
+// Whether SYSARG has room behind SYSREQ.
+fn reaches(sysreq: u32) -> bool
+    ensures { λ r. ⌜ r ≡ leb sysreq 0x7FFFFFFF ⌝ }
+{
+    sysreq <= 0x7FFFFFFF
+}
+
 // A call, where SYSARG has room behind SYSREQ.
 fn called(sysreq: u32, step: u8, c: u8, w: u32, j: u32) -> Move
     requires { ⌜ sysreq ≤ 0x7FFFFFFF ⌝ }
@@ -104,7 +112,7 @@ fn called(sysreq: u32, step: u8, c: u8, w: u32, j: u32) -> Move
 pub fn call_move(sysreq: u32, step: u8, c: u8, w: u32, j: u32) -> Move
     ensures found { λ r. ⌜ MoveAt sysreq (λ g. call g step c w) j r ⌝ }
 {
-    if 0x7FFFFFFF < sysreq {
+    if !reaches(sysreq) {
         return end_move();
     }
     called(sysreq, step, c, w, j)
@@ -114,7 +122,7 @@ pub fn call_move(sysreq: u32, step: u8, c: u8, w: u32, j: u32) -> Move
 pub fn one_move(sysreq: u32, step: u8, c: u8, w: u32, j: u32) -> Move
     ensures found { λ r. ⌜ MoveAt sysreq (λ g. listed g step c (w ∷ [])) j r ⌝ }
 {
-    if 0x7FFFFFFF < sysreq {
+    if !reaches(sysreq) {
         return end_move();
     }
     if j < 2 {
@@ -127,7 +135,7 @@ pub fn one_move(sysreq: u32, step: u8, c: u8, w: u32, j: u32) -> Move
 pub fn privileged_move(sysreq: u32, step: u8, p: Purpose, j: u32) -> Move
     ensures found { λ r. ⌜ MoveAt sysreq (λ g. privileged g step p) j r ⌝ }
 {
-    if 0x7FFFFFFF < sysreq {
+    if !reaches(sysreq) {
         return end_move();
     }
     if j < 10 {
@@ -227,7 +235,7 @@ pub fn identify_move(g: Geometry, p: Purpose, j: u32) -> Move
     ensures found { λ r. ⌜ r ≡ inReach (sysreqOf g) (getD (acquire g ++ silicon g p) j endMove) ⌝ }
 {
     let part = g.part;
-    if 0x7FFFFFFF < part.sysreq {
+    if !reaches(part.sysreq) {
         return end_move();
     }
     let n = 14 + imo_moves(part.imo);

@@ -54,7 +54,7 @@ pub fn header_in(bytes: &[u8]) -> Header
     }
 }
 
-// Whether bytes are ones that a session has.
+// Whether bytes 17 and 18 are ones that a session has; it looks at no other, so it holds of no bytes too.
 pub fn is_session(bytes: &[u8]) -> bool
     ensures session { λ r. ⌜ r ≡ isSession (now (bytes .entry)) ⌝ }
 {

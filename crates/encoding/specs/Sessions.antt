@@ -56,6 +56,6 @@ sessionIn bs = sessionOf (headerIn bs) bs
 abbrev pub sessionFound : List ℕ → Session
 sessionFound bs = sessionOf (headerFound bs) bs
 
--- whether bytes are ones that a session has
+-- whether bytes 17 and 18, entry and finished, are ones that a session has; it looks at no other, so it holds of no bytes too
 abbrev pub isSession : List ℕ → Bool
 isSession bs = leb (getD bs 17 0) 1 && leb (getD bs 18 0) 1

@@ -53,7 +53,7 @@ writtenText ps = extendedLine 0 ++ (linesFrom 0 ps ++ endLine)
 
 -- the text's length: 17 bytes for each upper half, 13 for each data record and the end record, 2 for each byte of data
 abbrev pub uppersIn : Section → ℕ
-uppersIn s = (s .size + 65535) / 0x10000
+uppersIn s = (s .size + 0xFFFF) / 0x10000
 
 unfoldable pub writtenLength : List Section → ℕ
 writtenLength ss = 17 * overall uppersIn ss + 13 * (overall piecesIn ss + 1) + 2 * overall (λ s. s .size) ss

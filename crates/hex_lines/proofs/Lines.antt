@@ -40,10 +40,14 @@ module _ (text : List ℕ) (at low : ℕ) (payload : List ℕ) where
   unfolding dataPut
   data-many h = rw (lt-leb (length payload) 255 h)
 
-  module _ (few : length payload ≤ 255) where
+  pub data-none : length payload ≡ 0 → text ≡ dataPut text at low payload
+  unfolding dataPut
+  data-none e = rw e
+
+  module _ (few : length payload ≤ 255) (some : 1 ≤ length payload) where
     is-put : linePut text at (dataLine low payload) ≡ dataPut text at low payload
     unfolding dataPut
-    is-put = rw (le-leb (length payload) 255 few)
+    is-put = rw (le-leb (length payload) 255 few, le-leb 1 (length payload) some)
 
     pub data-short : length text < at + 13 + 2 * length payload → text ≡ dataPut text at low payload
     data-short h = no-room text at (dataLine low payload) (omega (arith, data-length low payload)) ∙ is-put

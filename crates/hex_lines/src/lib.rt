@@ -62,11 +62,14 @@ fn put_line(text: &mut [u8], at: usize, head: [u8; 4], payload: &[u8])
     text[end + 3] = b'\n';
 }
 
-// Puts a data record of at most 255 bytes, where the text has room for it; the callers have a byte or more.
+// Puts a data record of 1 to 255 bytes, where the text has room for it.
 pub fn put_data(text: &mut [u8], at: usize, low: u16, payload: &[u8])
     ensures text { λ _. ⌜ now (text .exit) ≡ dataPut (now (text .entry)) at low (now (payload .entry)) ⌝ }
 {
     let n = payload.len();
+    if n == 0 {
+        return;
+    }
     if 255 < n {
         return;
     }

@@ -40,7 +40,7 @@ abbrev pub FrameAt : (text : List ℕ) (at : ℕ) → Frame → (row : List ℕ)
 FrameAt text at Broken row = LineAt text at (BadRecord 1)
 FrameAt text at (Framed count sum next) row = LineTo text at next (recordOf (take (count + 5) row)) × Spelled row count sum
 
--- ---- what is found, and the row that is left, by the tests one after the other
+-- ---- what is found, and the row that is left: this follows the code, position by position; `FoundAt` adds what `linesOf` and `lineRecord` say there
 
 -- the frame of a line whose count is in the row: as many pairs as it says, then a line end
 unfoldable pub frameOn : (text : List ℕ) (at : ℕ) (row : List ℕ) → Frame

@@ -20,7 +20,7 @@ pub enum Found {
     Ended,
 }
 
-// A record and where the next line begins.
+// A record and where the next line begins: 0 where there is no record, for want of a line or by 1 or 2.
 pub struct Located {
     pub found: Found,
     pub next: usize,

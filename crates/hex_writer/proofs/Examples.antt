@@ -7,4 +7,4 @@ use Rattle.pairs.specs.Digits.{capital, pairsOf}
 
 pub line-examples : LineExamples
 unfolding lineText total capital pairsOf
-line-examples = record { end-line = refl; first-line = refl; upper-line = refl }
+line-examples = record { end-line = refl; first-line = refl; upper-line = refl; data-line = refl }

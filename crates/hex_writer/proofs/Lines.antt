@@ -81,12 +81,12 @@ module _ (text : List ℕ) (w : Position) (a : ℕ) (bs : List ℕ) where
   pub one-room : positionAfter w (onePiece a bs) .at ≤ length text → w .at + length (newUpper (w .upper) (upperOf a)) + 13 + 2 * length bs ≤ length text
   one-room h = omega (arith, ap (λ (p : Position). p .at) (one-after w a bs))
 
-  pub one-put : (at : ℕ) (text₁ text₂ : List ℕ) → length bs ≤ 64 → at + 13 + 2 * length bs ≤ length text₁ → Past text w (upperOf a) at text₁
+  pub one-put : (at : ℕ) (text₁ text₂ : List ℕ) → length bs ≤ 64 → 1 ≤ length bs → at + 13 + 2 * length bs ≤ length text₁ → Past text w (upperOf a) at text₁
       → text₂ ≡ dataPut text₁ at (lowOf a) bs
       → (position (at + 13 + 2 * length bs) (upperOf a) ≡ positionAfter w (onePiece a bs)) × (text₂ ≡ sets text (w .at) (linesFrom (w .upper) (onePiece a bs)))
-  one-put at text₁ text₂ few h p e = (
+  one-put at text₁ text₂ few some h p e = (
     rw (p .0) (sym (one-after w a bs)),
-    e ∙ sym (data-room text₁ at (lowOf a) bs (omega arith) h) ∙ rw (p .1, p .0) (sym (ap (sets text (w .at)) (one-lines (w .upper) a bs) ∙ sets-append text (w .at) (newUpper (w .upper) (upperOf a)) (dataLine (lowOf a) bs))),
+    e ∙ sym (data-room text₁ at (lowOf a) bs (omega arith) some h) ∙ rw (p .1, p .0) (sym (ap (sets text (w .at)) (one-lines (w .upper) a bs) ∙ sets-append text (w .at) (newUpper (w .upper) (upperOf a)) (dataLine (lowOf a) bs))),
   )
 
 -- how far the text has come: the pieces that are left put the rest

@@ -72,8 +72,10 @@ module _ {text₀ : List ℕ} {w₀ : Position} {address : ℕ} {bytes text : Li
     splits : cut left a (drop from bytes) ≡ onePiece a (take (end - from) (drop from bytes)) ++ cut (left - 1) (a + 64) (drop end bytes)
     splits = rw (part, rest) (cut-turn left a (drop from bytes) some)
 
-    pub piece-fits : (length (take (end - from) (drop from bytes)) ≤ 64) × (positionAfter w (onePiece a (take (end - from) (drop from bytes))) .at ≤ length text)
-    piece-fits = (rw part (omega (arith, length-take 64 (drop from bytes))), lines.fits (v .going) _ _ splits)
+    pub piece-fits : (length (take (end - from) (drop from bytes)) ≤ 64) × (1 ≤ length (take (end - from) (drop from bytes))) × (positionAfter w (onePiece a (take (end - from) (drop from bytes))) .at ≤ length text)
+    piece-fits =
+        let n = length-take 64 (drop from bytes) in
+        (rw part (omega (arith, n)), rw part (omega (arith, n, length-drop from bytes, v .count, some)), lines.fits (v .going) _ _ splits)
 
     pub turn : (text′ : List ℕ) (w′ : Position)
         → w′ ≡ positionAfter w (onePiece a (take (end - from) (drop from bytes)))

@@ -41,7 +41,7 @@ fn put_upper(text: &mut [u8], position: Position, upper: u32) -> usize
 
 // Puts the lines of one piece.
 fn put_piece(text: &mut [u8], position: Position, address: u32, payload: &[u8]) -> Position
-    requires { ⌜ (length (now payload) ≤ 64) × (positionAfter position (onePiece address (now payload)) .at ≤ length (now text)) ⌝ }
+    requires { ⌜ (length (now payload) ≤ 64) × (1 ≤ length (now payload)) × (positionAfter position (onePiece address (now payload)) .at ≤ length (now text)) ⌝ }
     ensures { λ r. ⌜ r ≡ positionAfter position (onePiece address (now (payload .entry))) ⌝ }
     ensures { λ _. ⌜ now (text .exit) ≡ sets (now (text .entry)) (position .at) (linesFrom (position .upper) (onePiece address (now (payload .entry)))) ⌝ }
 {
@@ -139,9 +139,9 @@ fn put_sections(
 // The length of a section's lines.
 fn lines_length(size: usize) -> usize
     requires { ⌜ size ≤ 33554432 ⌝ }
-    ensures { λ r. ⌜ r ≡ 17 * ((size + 65535) / 0x10000) + 13 * ((size + 63) / 64) + 2 * size ⌝ ∗ ⌜ r ≤ 100000000 ⌝ }
+    ensures { λ r. ⌜ r ≡ 17 * ((size + 0xFFFF) / 0x10000) + 13 * ((size + 63) / 64) + 2 * size ⌝ ∗ ⌜ r ≤ 100000000 ⌝ }
 {
-    17 * ((size + 65535) / 0x10000) + 13 * ((size + 63) / 64) + 2 * size
+    17 * ((size + 0xFFFF) / 0x10000) + 13 * ((size + 63) / 64) + 2 * size
 }
 
 // The length of an image's text.

@@ -4,15 +4,17 @@ use mathlib.Core.Path.{_≡_, refl, sym, ap, _∙_}
 use Prim.Native.Nat.{ℕ, zero, suc, _+_, _-_, _*_, _/_, _%_, _<_, _≤_}
 use native.Mathlib.Nat.{not-suc-le-zero, le-of-suc-le-suc}
 use native.Mathlib.Omega.{arith}
+use borrow.Author.Tests.{le-leb}
 use lib.ListN.{length, getD, take, drop, length-take, length-drop}
 use lib.Seq.{getD-take, getD-drop, ext-getD}
 use Rattle.flow.proofs.Counting.{length-words}
 use Rattle.flow.specs.Sequence.{write, call, writes, listed, latchList, endMove}
 use Rattle.lent.proofs.Words.{word-same}
-use Rattle.latch_moves.specs.Latched.{told}
+use Rattle.latch_moves.specs.Latched.{latched}
 use Rattle.lent.specs.Words.{wordAt, wordsAt}
 use Rattle.call_moves.proofs.Lengths.{length-writes}
 use Rattle.call_moves.proofs.Joined.{at-first, at-second}
+use Rattle.flow.specs.declared.Move.{Move}
 use Rattle.parts.specs.Sizes.{PARAMS}
 use Rattle.parts.specs.declared.Geometry.{Geometry}
 
@@ -33,12 +35,15 @@ words-same xs ys o p n h =
     words-at xs o n i b ∙ h i b ∙ sym (words-at ys p n i b))
 
 -- bs is the part of n bytes from s on
-module _ (bytes bs : List ℕ) (s n : ℕ) (is : bs ≡ take (s + n - s) (drop s bytes)) (fits : s + n ≤ length bytes) (few : n ≤ 1024) where
+module _ (bytes bs : List ℕ) (s n : ℕ) (is : bs ≡ take (s + n - s) (drop s bytes)) (fits : s + n ≤ length bytes) where
   part : bs ≡ take n (drop s bytes)
   part = let e : s + n - s ≡ n = omega arith in is ∙ ap (λ (x : ℕ). take x (drop s bytes)) e
 
-  part-told : told bs ≡ n
-  part-told = let e : length bs ≡ n = ap length part ∙ simp (length-take, length-drop) (omega arith) in omega arith
+  part-length : length bs ≡ n
+  part-length = ap length part ∙ simp (length-take, length-drop) (omega arith)
+
+  pub part-latched : (ms : List Move) → 1 ≤ n → n ≤ 1024 → latched bs ms ≡ ms
+  part-latched ms some few = rw (part-length, le-leb 1 n some, le-leb n 1024 few)
 
   part-at : (i : ℕ) → i < n → getD bs i 0 ≡ getD bytes (s + i) 0
   part-at i h = ap (λ (l : List ℕ). getD l i 0) part ∙ getD-take n (drop s bytes) i 0 h ∙ getD-drop s bytes i 0
@@ -59,15 +64,15 @@ module _ (bytes bs : List ℕ) (s n : ℕ) (is : bs ≡ take (s + n - s) (drop s
         let t : s + (o + k) ≡ size + (p + k) = omega arith in
         part-at (o + k) (omega arith) ∙ ap (λ (x : ℕ). getD bytes x 0) t ∙ sym (getD-drop size bytes (p + k) 0))
 
-    pub front-latch : (m : ℕ) → s + n ≤ size → latchList m (told bs) bs 0 ≡ latchList m n (take size bytes) s
+    pub front-latch : (m : ℕ) → s + n ≤ size → latchList m (length bs) bs 0 ≡ latchList m n (take size bytes) s
     front-latch m l =
         let e : wordsAt bs 0 (n / 4) ≡ wordsAt (take size bytes) s (n / 4) = words-same bs (take size bytes) 0 s (n / 4) (λ k b. front-word (0 + 4 * k) (s + 4 * k) (omega arith) (omega arith) l) in
-        rw (part-told, e)
+        rw (part-length, e)
 
-    pub back-latch : (m p : ℕ) → s ≡ size + p → latchList m (told bs) bs 0 ≡ latchList m n (drop size bytes) p
+    pub back-latch : (m p : ℕ) → s ≡ size + p → latchList m (length bs) bs 0 ≡ latchList m n (drop size bytes) p
     back-latch m p t =
         let e : wordsAt bs 0 (n / 4) ≡ wordsAt (drop size bytes) p (n / 4) = words-same bs (drop size bytes) 0 p (n / 4) (λ k b. back-word (0 + 4 * k) (p + 4 * k) (omega arith) (omega arith)) in
-        rw (part-told, e)
+        rw (part-length, e)
 
 -- ---- the list of a latch call
 

@@ -1,8 +1,11 @@
--- How many bytes a latch call is for. Assumes nothing.
-use mathlib.Core.List.{List}
-use Prim.Native.Nat.{ℕ, _%_}
+-- How many bytes a latch call can be for. Assumes nothing.
+use mathlib.Core.Bool.{_&&_, cond}
+use mathlib.Core.List.{List, []}
+use Prim.Native.Nat.{ℕ}
+use lib.Dec.{leb}
 use lib.ListN.{length}
+use Rattle.flow.specs.declared.Move.{Move}
 
--- their number, wrapped to 16 bits: a row and a macro's locks have at most 1024
-abbrev pub told : List ℕ → ℕ
-told bytes = length bytes % 65536
+-- the moves for 1 to 1024 bytes, as every row and every macro's locks have; none for others, so that the end move is at every index
+abbrev pub latched : (bytes : List ℕ) → List Move → List Move
+latched bytes ms = cond (leb 1 (length bytes) && leb (length bytes) 1024) ms []

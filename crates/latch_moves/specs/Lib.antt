@@ -1,1 +1,2 @@
 pub mod Latched
+pub mod Examples

@@ -16,10 +16,10 @@ use Rattle.call_moves.proofs.Joined.{at-first, at-second, at-piece, div-low, pa
 use Rattle.call_moves.proofs.Lengths.{length-read}
 use Rattle.call_moves.proofs.Reach.{in-reach}
 use Rattle.call_moves.specs.MoveAt.{inReach}
-use Rattle.latch_moves.proofs.Words.{front-latch, back-latch}
-use Rattle.latch_moves.specs.Latched.{told}
+use Rattle.latch_moves.proofs.Words.{part-latched, front-latch, back-latch}
+use Rattle.latch_moves.specs.Latched.{latched}
 use Rattle.moves.specs.Handled.{Handled}
-use Rattle.parts.proofs.Locks.{locks-most, locks-alike, locks-end}
+use Rattle.parts.proofs.Locks.{locks-most, locks-some, locks-alike, locks-end}
 use Rattle.parts.specs.Sizes.{rowBytes, macrosOf, rowsPerMacro, rowsOf, flashSize, locksIn, lockStart, lockTotal, imageSize, locksAt, sysreqOf}
 use Rattle.parts.specs.declared.Geometry.{Geometry}
 
@@ -89,10 +89,10 @@ lock-place g ok bytes exact m l =
 
 -- what is sent of a row in step 5, of a macro's locks in step 7
 abbrev rowSent : Geometry → (row : ℕ) → List ℕ → List Move
-rowSent g r bs = listed g 5 4 (latchList (r / rowsPerMacro g) (told bs) bs 0) ++ listed g 5 6 ((key 6 + r * 0x10000) ∷ [])
+rowSent g r bs = listed g 5 4 (latchList (r / rowsPerMacro g) (length bs) bs 0) ++ listed g 5 6 ((key 6 + r * 0x10000) ∷ [])
 
 abbrev locksSent : Geometry → (m level : ℕ) → List ℕ → List Move
-locksSent g m level bs = listed g 7 4 (latchList m (told bs) bs 0) ++ call g 7 0x0D (key 0x0D + level * 0x10000 + m * 0x1000000)
+locksSent g m level bs = listed g 7 4 (latchList m (length bs) bs 0) ++ call g 7 0x0D (key 0x0D + level * 0x10000 + m * 0x1000000)
 
 -- ---- step 5
 
@@ -112,12 +112,13 @@ module _ (g : Geometry) (ok : Handled g) (h : Header) (bytes : List ℕ) (exact 
     row-place = row-found g ok bytes exact (j / b) row-low
 
     pub rows-at : (bs : List ℕ) → bs ≡ take (j / b * rowBytes g + rowBytes g - j / b * rowBytes g) (drop (j / b * rowBytes g) bytes)
-        → {t : Move} → t ≡ inReach (sysreqOf g) (getD (rowSent g (j / b) bs) (j % b) endMove) → t ≡ getD (inTurn (programRow i) 0 (rowsOf g)) j endMove
+        → {t : Move} → t ≡ inReach (sysreqOf g) (getD (latched bs (rowSent g (j / b) bs)) (j % b) endMove) → t ≡ getD (inTurn (programRow i) 0 (rowsOf g)) j endMove
     unfolding programRow
     rows-at bs is has =
         has
-        ∙ in-reach (sysreqOf g) (getD (rowSent g (j / b) bs) (j % b) endMove) (ok .sysreq)
-        ∙ rw (front-latch bytes bs (j / b * rowBytes g) (rowBytes g) is (row-place .end) (ok .rowHigh) (flashSize g) (j / b / rowsPerMacro g) row-fits)
+        ∙ in-reach (sysreqOf g) (getD (latched bs (rowSent g (j / b) bs)) (j % b) endMove) (ok .sysreq)
+        ∙ ap (λ (l : List Move). getD l (j % b) endMove) (part-latched bytes bs (j / b * rowBytes g) (rowBytes g) is (row-place .end) (rowSent g (j / b) bs) (omega (arith, ok .rowLow)) (ok .rowHigh))
+        ∙ rw (front-latch bytes bs (j / b * rowBytes g) (rowBytes g) is (row-place .end) (flashSize g) (j / b / rowsPerMacro g) row-fits)
         (sym (at-piece (programRow i) b (λ r. length-row i r ∙ sym e) endMove (rowsOf g) j (omega arith) (rw e low)))
 
   -- ---- steps 7 and 8 of a macro
@@ -126,14 +127,16 @@ module _ (g : Geometry) (ok : Handled g) (h : Header) (bytes : List ℕ) (exact 
     pub lock-at : (start size : ℕ) → start ≡ flashSize g + lockStart g m → size ≡ locksIn g m → m < macrosOf g → (bs : List ℕ)
         → bs ≡ take (start + size - start) (drop start bytes)
         → j < n
-        → {t : Move} → t ≡ inReach (sysreqOf g) (getD (locksSent g m (h .level) bs) j endMove) → t ≡ getD (lockAndVerify i m) j endMove
+        → {t : Move} → t ≡ inReach (sysreqOf g) (getD (latched bs (locksSent g m (h .level) bs)) j endMove) → t ≡ getD (lockAndVerify i m) j endMove
     unfolding lockMacro
     lock-at start size s z room bs is low has =
         let p = lock-place g ok bytes exact m room in
         let fits : start + size ≤ length bytes = rw (s, z) (p .end) in
+        let some : 1 ≤ size = omega (arith, z, locks-some g m room (omega (arith, ok .macroLow))) in
         has
-        ∙ in-reach (sysreqOf g) (getD (locksSent g m (h .level) bs) j endMove) (ok .sysreq)
-        ∙ rw (back-latch bytes bs start size is fits (omega (arith, z, p .most)) (flashSize g) m (lockStart g m) s, z)
+        ∙ in-reach (sysreqOf g) (getD (latched bs (locksSent g m (h .level) bs)) j endMove) (ok .sysreq)
+        ∙ ap (λ (l : List Move). getD l j endMove) (part-latched bytes bs start size is fits (locksSent g m (h .level) bs) some (omega (arith, z, p .most)))
+        ∙ rw (back-latch bytes bs start size is fits (flashSize g) m (lockStart g m) s, z)
         (sym (at-first (lockMacro i m) (verifyMacro g m) endMove n j (length-lock i m ∙ sym e) low))
 
     pub check-at : n ≤ j → getD (verifyMacro g m) (j - n) endMove ≡ getD (lockAndVerify i m) j endMove

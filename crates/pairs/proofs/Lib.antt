@@ -3,3 +3,4 @@ pub mod Ends
 pub mod Lines
 pub mod Positions
 pub mod Capitals
+pub mod Examples

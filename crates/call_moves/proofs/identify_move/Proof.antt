@@ -4,8 +4,9 @@ use native.Mathlib.Omega.{arith}
 use borrow.Author.Needs.{needs}
 use Rattle.call_moves.proofs.Joined.{at-first, at-second}
 use Rattle.call_moves.proofs.Lengths.{length-acquire}
-use Rattle.call_moves.proofs.Reach.{in-reach, out-of-reach}
+use Rattle.call_moves.proofs.Reach.{in-reach, out-of-reach, reached, past-reach}
 use Rattle.flow.specs.Sequence.{acquire, silicon, endMove}
+use Rattle.parts.specs.Sizes.{sysreqOf}
 use Rattle.call_moves.proofs.identify_move.Statement.{statement}
 use Rattle.call_moves.proofs.identify_move.Tie as tie
 
@@ -14,18 +15,19 @@ identify-move-spec =
     tie.close
     (tie.spec
     (λ c κs. search needs)
-    (λ c. c .end-move .ensures ∙ sym (out-of-reach _ _ (c .before .if1 .taken)))
+    (λ c κs. search needs)
+    (λ c. let q = sysreqOf (c .before .before .before .before .args .g) in c .end-move .ensures ∙ sym (out-of-reach q _ (past-reach q _ (c .before .before .reaches .ensures) (c .before .if1 .taken))))
     (λ c κs. search needs)
     (λ c. search needs)
-    (λ c κs. search needs)
+    (λ c κs. reached _ _ (c .before .before .before .reaches .ensures) (c .before .before .if1 .left))
     (λ c.
     let at-if1 = c .before .before .before in let at-start = at-if1 .before .before .before in
     let g = at-start .args .g in
     c .acquire-move .ensures g refl refl
-    ∙ sym (in-reach _ _ (at-if1 .if1 .left) ∙ at-first (acquire g) (silicon g _) endMove _ _ (omega (arith, length-acquire g, c .before .before .imo-moves .ensures .0 g)) (c .before .if2 .taken)))
-    (λ c κs. search needs)
+    ∙ sym (in-reach (sysreqOf g) _ (reached (sysreqOf g) _ (at-if1 .before .reaches .ensures) (at-if1 .if1 .left)) ∙ at-first (acquire g) (silicon g _) endMove _ _ (omega (arith, length-acquire g, c .before .before .imo-moves .ensures .0 g)) (c .before .if2 .taken)))
+    (λ c κs. reached _ _ (c .before .before .before .reaches .ensures) (c .before .before .if1 .left))
     (λ c.
     let at-if1 = c .before .before .before in let at-start = at-if1 .before .before .before in
     let g = at-start .args .g in
     c .silicon-move .ensures g refl
-    ∙ sym (in-reach _ _ (at-if1 .if1 .left) ∙ at-second (acquire g) (silicon g _) endMove _ _ (omega (arith, length-acquire g, c .before .before .imo-moves .ensures .0 g)) (c .before .if2 .left))))
+    ∙ sym (in-reach (sysreqOf g) _ (reached (sysreqOf g) _ (at-if1 .before .reaches .ensures) (at-if1 .if1 .left)) ∙ at-second (acquire g) (silicon g _) endMove _ _ (omega (arith, length-acquire g, c .before .before .imo-moves .ensures .0 g)) (c .before .if2 .left))))

@@ -4,13 +4,13 @@ use Prim.Native.Nat.{ℕ, _+_, _*_, _/_, _%_}
 use native.Mathlib.Omega.{arith}
 use borrow.Author.Needs.{needs}
 use denote.Ref.{now}
+use lib.ListN.{length}
 use Rattle.call_moves.proofs.Reach.{in-reach, out-of-reach}
 use Rattle.call_moves.specs.MoveAt.{inReach}
 use Rattle.flow.proofs.Counting.{length-words}
 use Rattle.flow.specs.Sequence.{write, latchList}
 use Rattle.flow.specs.declared.Move.{Move}
 use Rattle.latch_moves.proofs.Words.{listed-word, listed-call}
-use Rattle.latch_moves.specs.Latched.{told}
 use Rattle.latch_moves.proofs.latch_move.Statement.{statement}
 use Rattle.latch_moves.proofs.latch_move.Tie as tie
 
@@ -28,7 +28,7 @@ latch-move-spec =
     let b = now (a .bytes) in
     λ g e.
     c .call-move .ensures g e
-    ∙ ap (λ (x : Move). inReach (a .sysreq) x) (sym (listed-call g (a .step) 4 (latchList (a .m) (told b) b 0) (a .j) (2 * (told b / 4) + 4) (omega (arith, length-words b 0 (told b / 4))) (c .before .if1 .taken))))
+    ∙ ap (λ (x : Move). inReach (a .sysreq) x) (sym (listed-call g (a .step) 4 (latchList (a .m) (length b) b 0) (a .j) (2 * (length b / 4) + 4) (omega (arith, length-words b 0 (length b / 4))) (c .before .if1 .taken))))
     (λ c κs. search needs)
     (λ c. λ g e. c .end-move .ensures ∙ sym (out-of-reach _ _ (c .before .if2 .taken)))
     (λ c. search needs)
@@ -36,7 +36,7 @@ latch-move-spec =
     (λ c.
     let a = c .before .before .before .before .args in
     λ g e.
-    rw (in-reach (a .sysreq) _ (c .before .if2 .left), listed-word g (a .step) 4 (latchList (a .m) (told (now (a .bytes))) (now (a .bytes)) 0) (a .j) (omega (arith, length-words (now (a .bytes)) 0 (told (now (a .bytes)) / 4))))
+    rw (in-reach (a .sysreq) _ (c .before .if2 .left), listed-word g (a .step) 4 (latchList (a .m) (length (now (a .bytes))) (now (a .bytes)) 0) (a .j) (omega (arith, length-words (now (a .bytes)) 0 (length (now (a .bytes)) / 4))))
     (simp (c .if3 .taken)))
     (λ c κs. search needs)
     (λ c.
@@ -44,5 +44,5 @@ latch-move-spec =
     let a = at-start .args in
     let o : _≡_ {A = ℕ} (a .j % 2) 1 = omega arith in
     λ g e.
-    rw (in-reach (a .sysreq) _ (c .before .before .if2 .left), listed-word g (a .step) 4 (latchList (a .m) (told (now (a .bytes))) (now (a .bytes)) 0) (a .j) (omega (arith, length-words (now (a .bytes)) 0 (told (now (a .bytes)) / 4))))
+    rw (in-reach (a .sysreq) _ (c .before .before .if2 .left), listed-word g (a .step) 4 (latchList (a .m) (length (now (a .bytes))) (now (a .bytes)) 0) (a .j) (omega (arith, length-words (now (a .bytes)) 0 (length (now (a .bytes)) / 4))))
     (simp (o, c .list-word .ensures))))

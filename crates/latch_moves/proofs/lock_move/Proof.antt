@@ -1,37 +1,56 @@
 -- The latch call, then call 0x0D. Assumes nothing.
-use Prim.Native.Nat.{_+_, _*_}
+use mathlib.Core.List.{List, _++_}
+use Prim.Native.Nat.{ℕ, _+_, _*_, _≤_}
+use native.Mathlib.Omega.{arith}
 use borrow.Author.Needs.{needs}
 use denote.Ref.{now}
+use lib.ListN.{length}
 use Rattle.call_moves.proofs.Lengths.{length-latch}
 use Rattle.flow.specs.Sequence.{key, call, listed, latchList}
-use Rattle.latch_moves.proofs.Followed.{latch-first, call-second}
-use Rattle.latch_moves.specs.Latched.{told}
+use Rattle.flow.specs.declared.Move.{Move}
+use Rattle.latch_moves.proofs.Followed.{latch-first, call-second, latch-sizes, latch-none, latch-sent}
+use Rattle.parts.specs.declared.Geometry.{Geometry}
 use Rattle.latch_moves.proofs.lock_move.Statement.{statement}
 use Rattle.latch_moves.proofs.lock_move.Tie as tie
+
+abbrev latching : Geometry → (m : ℕ) → List ℕ → List Move
+latching g m b = listed g 7 4 (latchList m (length b) b 0)
+
+abbrev following : Geometry → (level m : ℕ) → List Move
+following g level m = call g 7 0x0D (key 0x0D + level * 0x10000 + m * 0x1000000)
+
+sizes : (c : tie.Else1) → (1 ≤ length (now (c .before .before .before .args .locks))) × (length (now (c .before .before .before .args .locks)) ≤ 1024)
+sizes c = latch-sizes (now (c .before .before .before .args .locks)) _ (c .before .latchable .ensures) (c .if1 .left)
 
 pub lock-move-spec : {M : Type 1} → statement M
 lock-move-spec =
     tie.close
     (tie.spec
-    (λ c. search needs)
-    (λ c. search needs)
-    (λ c. search needs)
     (λ c κs. search needs)
-    (λ c.
-    let a = c .before .before .before .args in
-    let b = now (a .locks) in
-    λ g e.
-    latch-first (a .sysreq) (listed g 7 4 (latchList (a .m) (told b) b 0)) (call g 7 0x0D (key 0x0D + a .level * 0x10000 + a .m * 0x1000000)) _ (a .j) _ (length-latch g 7 (a .m) (told b) b 0) (c .before .if1 .taken)
-    (c .latch-move .ensures g e))
-    (λ c κs. search needs)
-    (λ c. search needs)
-    (λ c. search needs)
-    (λ c. search needs)
-    (λ c. search needs)
     (λ c κs. search needs)
     (λ c.
     let a = c .before .before .before .before .args in
+    λ g e. latch-none (now (a .locks)) _ (c .before .before .latchable .ensures) (a .sysreq) (latching g (a .m) (now (a .locks)) ++ following g (a .level) (a .m)) (a .j) _ (c .before .if1 .taken) (c .end-move .ensures))
+    (λ c. omega (arith, sizes c .1))
+    (λ c. omega (arith, sizes c .1))
+    (λ c. omega (arith, sizes c .1))
+    (λ c κs. sizes (c .before))
+    (λ c.
+    let a = c .before .before .before .before .before .args in
     let b = now (a .locks) in
     λ g e.
-    call-second (a .sysreq) (listed g 7 4 (latchList (a .m) (told b) b 0)) (call g 7 0x0D (key 0x0D + a .level * 0x10000 + a .m * 0x1000000)) _ (a .j) _ (length-latch g 7 (a .m) (told b) b 0) (c .before .before .if1 .left)
-    (rw (c .before .key-of .ensures) at (c .call-move .ensures g e))))
+    latch-sent b _ (c .before .before .before .latchable .ensures) (a .sysreq) (latching g (a .m) b ++ following g (a .level) (a .m)) (a .j) _ (c .before .before .if1 .left)
+    (latch-first (a .sysreq) (latching g (a .m) b) (following g (a .level) (a .m)) _ (a .j) _ (length-latch g 7 (a .m) (length b) b 0) (c .before .if2 .taken) (c .latch-move .ensures g e)))
+    (λ c κs. search needs)
+    (λ c. search needs)
+    (λ c. search needs)
+    (λ c. search needs)
+    (λ c. search needs)
+    (λ c κs. search needs)
+    (λ c.
+    let a = c .before .before .before .before .before .before .args in
+    let b = now (a .locks) in
+    λ g e.
+    latch-sent b _ (c .before .before .before .before .latchable .ensures) (a .sysreq) (latching g (a .m) b ++ following g (a .level) (a .m)) (a .j) _ (c .before .before .before .if1 .left)
+    (call-second (a .sysreq) (latching g (a .m) b) (following g (a .level) (a .m)) _ (a .j) _ (length-latch g 7 (a .m) (length b) b 0) (c .before .before .if2 .left)
+    (rw (c .before .key-of .ensures) at (c .call-move .ensures g e)))))
