@@ -1,4 +1,6 @@
 // The plain board of document 01 as code: registers by value, memory lent, one call for each request.
+#![tactic(auto)]
+
 ghost use Rattle.std.specs.Prelude.{◌≡◌};
 ghost use Rattle.bench_calls.specs.Board.{lent, residue_bytes, target_of};
 ghost use Rattle.bench_board.specs.Meets.{buffers_read, Decides, lists_of, met_of};
@@ -14,7 +16,7 @@ use flow::{Answer, Decoded, LineEvent, Packet, Request};
 use parts::Geometry;
 
 // How a packet is met, before the memory is written.
-#[derive(Drop)]
+#[derive(Clone, Copy)]
 struct Decision {
     change: Change,
     answer: Answer,
@@ -23,7 +25,7 @@ struct Decision {
 }
 
 // How a packet was met: the registers after it, the answer, and whether the event and the outcome were used.
-#[derive(Drop)]
+#[derive(Clone, Copy)]
 pub struct Met {
     pub registers: Registers,
     pub answer: Answer,

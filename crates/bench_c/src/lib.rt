@@ -1,4 +1,6 @@
 // The bench board as a call, for tests of hosts: registers, events and answers stand in the caller's bytes (include/halzuqeen_bench.h).
+#![tactic(auto)]
+
 ghost use Rattle.std.specs.Prelude.{◌≡◌, length};
 ghost use Rattle.bench_calls.specs.Board.{residue_bytes};
 ghost use Rattle.bench_c.specs.BoardAsked.{asked_for, asked_of, number_of};
@@ -55,7 +57,7 @@ fn is_bench(board: &[u8], event: &[u8], call: &[u8], packet: &[u8]) -> bool
 }
 
 // What bytes ask for: a number to return at once, or a packet to meet, with all that it is met with.
-#[derive(Drop)]
+#[derive(Clone, Copy)]
 enum Asked {
     Returned(u32),
     Meets(Geometry, Registers, Packet, LineEvent, CallOutcome),

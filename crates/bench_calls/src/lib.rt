@@ -1,4 +1,6 @@
 // The plain board's registers, and what a call does to them when it ends (document 01, 'The plain board').
+#![tactic(auto)]
+
 ghost use Rattle.std.specs.Prelude.{◌||◌, ◌≡◌, ◌+◌, ◌*◌, eqb};
 ghost use Rattle.bench_calls.specs.Board.{residue_of};
 ghost use Rattle.bench_calls.specs.Ends.{ended, MakesOf, Fails, Succeeds, Answers, Resets, Alters};
@@ -10,7 +12,7 @@ use flow::Silicon;
 use parts::Geometry;
 
 // How a call will go: busy reads, then success, or a failure that leaves this SYSARG and, of 0x0D, perhaps the level sent.
-#[derive(Drop)]
+#[derive(Clone, Copy)]
 pub struct CallOutcome {
     pub busy_reads: u32,
     pub succeeds: bool,
@@ -19,13 +21,13 @@ pub struct CallOutcome {
 }
 
 // A call under way, with its number.
-#[derive(Drop)]
+#[derive(Clone, Copy)]
 pub enum Running {
     Idle,
     Busy(CallOutcome, u8),
 }
 
-#[derive(Drop)]
+#[derive(Clone, Copy)]
 pub struct Registers {
     pub silicon: Silicon,
     pub stored: u8,
@@ -39,7 +41,7 @@ pub struct Registers {
 }
 
 // The registers after a request, and what it does to the memory.
-#[derive(Drop)]
+#[derive(Clone, Copy)]
 pub struct Change {
     pub registers: Registers,
     pub act: Act,

@@ -1,4 +1,6 @@
 // What calls do to the lent memory, as acts to be performed (document 01, 'The plain board').
+#![tactic(auto)]
+
 ghost use Rattle.std.specs.Prelude.{◌&&◌, cond, ◌≡◌, ◌+◌, ◌%◌, ◌<◌, eqb, get_or, take, drop};
 ghost use Rattle.bench_effects.specs.Acts.{call_inputs, Effects, Protects};
 ghost use Rattle.flow.specs.Calls.{level_sent, macro_sent, list_at, bytes_in};
@@ -6,7 +8,7 @@ ghost use Rattle.flow.specs.Calls.{level_sent, macro_sent, list_at, bytes_in};
 use parts::{Geometry, PARAMS};
 
 // What a request does to the lent memory.
-#[derive(Drop)]
+#[derive(Clone, Copy)]
 pub enum Act {
     Keep,
     // A word of PARAMS.
@@ -23,7 +25,7 @@ pub enum Act {
 }
 
 // What a successful call does to the memory, and the level stored after it.
-#[derive(Drop)]
+#[derive(Clone, Copy)]
 pub struct Effect {
     pub act: Act,
     pub stored: u8,

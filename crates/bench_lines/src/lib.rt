@@ -1,4 +1,6 @@
 // The board's side of the wire: its answers.
+#![tactic(auto)]
+
 ghost use Rattle.std.specs.Prelude.{◌≡◌};
 ghost use Rattle.flow.specs.Exchange.{reply_with, silent_reply, noisy_ack, noisy_reply, okay_reply, wrong_parity_reply, reply_to, carried_out};
 

@@ -1,4 +1,6 @@
 // What is at an address, by flow's address map, searched in its order; and what a DRW transfer there is to the board.
+#![tactic(auto)]
+
 ghost use Rattle.std.specs.Prelude.{◌&&◌, ◌≡◌, ◌+◌, eqb, leb, ltb};
 ghost use Rattle.flow.specs.Exchange.{guarded, is_call, is_sysreq, over_drw};
 ghost use Rattle.flow.specs.Map.{search, lock_regions, place};

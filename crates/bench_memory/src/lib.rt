@@ -1,4 +1,6 @@
 // The lent memory, and what an act leaves there.
+#![tactic(auto)]
+
 ghost use Rattle.std.specs.Prelude.{[], ◌∷◌, ◌≡◌, ◌-◌, ◌*◌, min, get_or, take, drop};
 ghost use Rattle.std.proofs.lemmas.List.Edits.{sets};
 ghost use Rattle.bench_effects.specs.Acts.{buffers_after};

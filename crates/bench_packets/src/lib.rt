@@ -1,4 +1,6 @@
 // The board's side of the wire: packets read bit by bit.
+#![tactic(auto)]
+
 ghost use Rattle.std.specs.Prelude.{◌≡◌};
 ghost use Rattle.flow.specs.Exchange.{well_formed, read_at, write_at, decode};
 

@@ -1,5 +1,7 @@
 // Single moves and the calls made of them: what is at an index of each list of moves that is the same for every image. A call's functions
 // take SYSREQ's address for the geometry that has it, and give the end move where it is over 0x7FFFFFFF.
+#![tactic(auto)]
+
 ghost use Rattle.std.specs.Prelude.{[], ◌∷◌, ◌++◌, ◌≡◌, ◌+◌, ◌*◌, ◌<◌, ◌≤◌, leb, get_or};
 ghost use Rattle.flow.specs.Sequence.{move, key, write, read, call, listed, imo_call, acquire, silicon, privileged, end_move};
 ghost use Rattle.call_moves.specs.MoveAt.{MoveAt, in_reach, ReachedAt, Acquired, Attach, ImoCount, opening_count};

@@ -1,10 +1,12 @@
 // What the programs that print cases share: numbers of standard input, a digest of bytes (tests/vectors/README.md).
 // No contract can say what is read.
+#![tactic(auto)]
+
 ghost use Rattle.std.specs.Prelude.{◌≡◌, ◌*◌, ◌%◌, ◌^◌, ◌≤◌};
 ghost use Rattle.cases.specs.Fnv.{fnv_step, fnv};
 
 // A number of standard input; `ended` where the input ended before the byte after its last digit.
-#[derive(Drop)]
+#[derive(Clone, Copy)]
 pub struct Number {
     pub ended: bool,
     pub value: u32,

@@ -1,4 +1,6 @@
 // Reads texts on standard input and prints, for each, the line of its dry run (tests/vectors/README.md).
+#![tactic(auto)]
+
 ghost use Rattle.std.specs.Prelude.{◌≡◌, ◌≤◌, length};
 
 // Room for a text. Its contract keeps the prover from writing out so long an array.

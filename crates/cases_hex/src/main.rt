@@ -1,4 +1,6 @@
 // Reads cases of hex text on standard input and prints, for each, what hex_reader::read gives (tests/vectors/README.md).
+#![tactic(auto)]
+
 ghost use Rattle.std.specs.Prelude.{◌≡◌, ◌≤◌, length};
 
 use image::Header;

@@ -1,4 +1,6 @@
 // Reads the cases on standard input (crates/cases_session/stdin), plays each session against a board and prints its report (tests/vectors/README.md).
+#![tactic(auto)]
+
 mod answering;
 mod digest;
 mod filling;

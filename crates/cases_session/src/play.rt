@@ -10,7 +10,7 @@ use parts::{Geometry, Lookup};
 use session::{Given, Outcome, Session};
 
 // A session, its board's registers and its standing request.
-#[derive(Drop)]
+#[derive(Clone, Copy)]
 struct Bench {
     registers: Registers,
     session: Session,
@@ -126,7 +126,7 @@ fn blank_words() -> [u32; 34]
 }
 
 // The sizes of a board's memory.
-#[derive(Drop)]
+#[derive(Clone, Copy)]
 struct Sizes {
     flash: usize,
     locks: usize,

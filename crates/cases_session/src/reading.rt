@@ -2,7 +2,7 @@
 use image::Header;
 
 // Answers that stand in the place of the board's own.
-#[derive(Drop)]
+#[derive(Clone, Copy)]
 pub struct Override {
     pub at: u32,
     pub stride: u32,
@@ -13,13 +13,13 @@ pub struct Override {
     pub parity: u8,
 }
 
-#[derive(Drop)]
+#[derive(Clone, Copy)]
 pub struct Overrides {
     pub first: Override,
     pub second: Override,
 }
 
-#[derive(Drop)]
+#[derive(Clone, Copy)]
 pub struct Case {
     pub header: Header,
     pub length: u32,

@@ -1,4 +1,6 @@
 // The calls for programs in other languages: headers, sessions and outcomes stand in the caller's bytes (include/halzuqeen.h).
+#![tactic(auto)]
+
 ghost use Rattle.std.specs.Prelude.{◌≡◌};
 ghost use Rattle.calls.specs.Calls.{answer_in, after_read_call, after_write_call, after_start_call, after_step_call};
 

@@ -1,4 +1,6 @@
 // Headers and sessions found in a caller's bytes, at fixed offsets (include/halzuqeen.h).
+#![tactic(auto)]
+
 ghost use Rattle.std.specs.Prelude.{◌≡◌, ◌<◌};
 ghost use Rattle.encoding.specs.Headers.{header_found};
 ghost use Rattle.encoding.specs.Sessions.{entry_in, counters_in, session_found, is_session};

@@ -1,4 +1,6 @@
 // The dry run of part 1's text on a board that is OPEN, without mishap (document 01, 'The dry run program').
+#![tactic(auto)]
+
 ghost use Rattle.std.specs.Prelude.{◌≡◌, length, take, drop};
 ghost use Rattle.bench_calls.specs.Board.{lent};
 ghost use Rattle.dry.specs.Playing.{calm_event, calm_outcome, open_for, moment, Turns, Playable, Started, report_in, DoneAsPlanned};
@@ -16,14 +18,14 @@ use parts::{Geometry, Lookup};
 use session::{Given, Outcome, Report, Session};
 
 // What a dry run comes to: the transfers of a session that was done, or a refusal's number.
-#[derive(Drop)]
+#[derive(Clone, Copy)]
 pub enum Ran {
     Done(u32),
     Refused(u8),
 }
 
 // The board and the session after a packet, and what then stands.
-#[derive(Drop)]
+#[derive(Clone, Copy)]
 struct AfterTurn {
     registers: Registers,
     session: Session,

@@ -1,4 +1,6 @@
 // Document 01, 'The dry run program': reads part 1's text on standard input, up to 64 KiB, and prints the line of its dry run.
+#![tactic(auto)]
+
 fn main() {
     let mut text = io::large_buffer();
     let n = io::read_full(0, &mut text);

@@ -1,4 +1,6 @@
 // Headers, sessions, outcomes and lengths put into a caller's bytes where they fit, at fixed offsets (include/halzuqeen.h).
+#![tactic(auto)]
+
 ghost use Rattle.std.specs.Prelude.{[], ◌∷◌, ◌++◌, ◌≡◌, ◌≤◌, length};
 ghost use Rattle.std.proofs.lemmas.List.Edits.{sets};
 ghost use Rattle.encoding.specs.Buffers.{put_into};

@@ -1,1 +1,2 @@
 // P1 to P12 of document 01 as one table (specs/Table) under one joint theorem (proofs/Joint).
+#![tactic(auto)]

@@ -1,10 +1,11 @@
 // The types of the flow, which definitions and code share: requests and moves, where a session stands, packets and answers, and what the
 // target is made of (document 01, 'Flow' and 'Wire').
+#![tactic(auto)]
 
 use wire::Register;
 
 // What a move asks for: a reset, or a read or write of a register.
-#[derive(Drop)]
+#[derive(Clone, Copy)]
 pub enum Request {
     Xres,
     LineReset,
@@ -17,7 +18,7 @@ pub enum Request {
 }
 
 // What the answer to a move is judged by.
-#[derive(Drop)]
+#[derive(Clone, Copy)]
 pub enum Purpose {
     // Nothing but the acknowledgement, and on a read the parity.
     Sent,
@@ -40,7 +41,7 @@ pub enum Purpose {
 }
 
 // A move of the sequence, with the flow step that it belongs to.
-#[derive(Drop)]
+#[derive(Clone, Copy)]
 pub struct Move {
     pub step: u8,
     pub request: Request,
@@ -48,21 +49,21 @@ pub struct Move {
 }
 
 // The target's level as step 2 finds it: which steps follow.
-#[derive(Drop)]
+#[derive(Clone, Copy)]
 pub enum Entry {
     FromOpen,
     FromProtected,
 }
 
 // Where a session stands in the sequence: by which entry, and at which index of it.
-#[derive(Drop)]
+#[derive(Clone, Copy)]
 pub struct Position {
     pub entry: Entry,
     pub at: u32,
 }
 
 // What a running session counts and keeps: the WAITs, polls and attempts running; the IDs, then the first sum.
-#[derive(Drop)]
+#[derive(Clone, Copy)]
 pub struct Counters {
     pub waits: u32,
     pub polls: u32,
@@ -71,7 +72,7 @@ pub struct Counters {
 }
 
 // The way that an answer leads from the standing move.
-#[derive(Drop)]
+#[derive(Clone, Copy)]
 pub enum Way {
     Onward,
     // The same move again.
@@ -85,14 +86,14 @@ pub enum Way {
 }
 
 // Where an answer leads: on with these counters, or to a report with this number.
-#[derive(Drop)]
+#[derive(Clone, Copy)]
 pub enum Next {
     Go(Way, Counters),
     Stop(u8),
 }
 
 // What goes out: a reset, a read's request byte, or a write's request byte, word and parity bit.
-#[derive(Drop)]
+#[derive(Clone, Copy)]
 pub enum Packet {
     Xres,
     LineReset,
@@ -101,7 +102,7 @@ pub enum Packet {
 }
 
 // What a transfer is answered by.
-#[derive(Drop)]
+#[derive(Clone, Copy)]
 pub struct Reply {
     pub ack: u8,
     pub word: u32,
@@ -109,14 +110,14 @@ pub struct Reply {
 }
 
 // What comes back.
-#[derive(Drop)]
+#[derive(Clone, Copy)]
 pub enum Answer {
     ResetDone,
     Transferred(Reply),
 }
 
 // What is at an address of the target, with the offset there, of PARAMS the index of the word.
-#[derive(Drop)]
+#[derive(Clone, Copy)]
 pub enum Place {
     InFlash(usize),
     InLocks(usize),
@@ -130,7 +131,7 @@ pub enum Place {
 
 // What nothing alters of the target: 'IDs and S, a 28-bit privileged sum that no call alters'; 'the IDs (IDCODE, high, low, revision,
 // family) are free'.
-#[derive(Drop)]
+#[derive(Clone, Copy)]
 pub struct Silicon {
     pub idcode: u32,
     pub high: u8,
@@ -142,7 +143,7 @@ pub struct Silicon {
 
 // 'Per transfer: OK; WAIT or FAULT, not carried out; silence, carried out or not; wrong parity on a read, carried out.'; document 02,
 // Five: 'a noisy transfer, like a silent one, may have been carried out or not according to its list'.
-#[derive(Drop)]
+#[derive(Clone, Copy)]
 pub enum TransferOutcome {
     Clean,
     Waits,
@@ -154,7 +155,7 @@ pub enum TransferOutcome {
 }
 
 // A transfer's outcome, with what is free in its answer, and the word that is elsewhere.
-#[derive(Drop)]
+#[derive(Clone, Copy)]
 pub struct LineEvent {
     pub outcome: TransferOutcome,
     pub filler: Reply,
@@ -162,7 +163,7 @@ pub struct LineEvent {
 }
 
 // A request that the target knows, or none.
-#[derive(Drop)]
+#[derive(Clone, Copy)]
 pub enum Decoded {
     Known(Request),
     Unknown,

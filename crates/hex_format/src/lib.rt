@@ -1,4 +1,6 @@
 // Intel hex as a format: where the record at a position leads (document 01, 'Hex text').
+#![tactic(auto)]
+
 ghost use Rattle.std.specs.Prelude.{◌≡◌, ◌≤◌};
 ghost use Rattle.hex_format.specs.Turns.{data_turn, end_turn, turn_of, TurnAt};
 ghost use Rattle.hex_records.specs.Places.{located_row};
@@ -7,7 +9,7 @@ use hex_records::Found;
 use sections::Section;
 
 // What a record leads to: 1 to 5, the end, a new upper half, or payload for the section that is due.
-#[derive(Drop)]
+#[derive(Clone, Copy)]
 pub enum Turn {
     Stop(u8),
     Done,

@@ -1,4 +1,6 @@
 // Puts the lines of an Intel hex text, one at a place (document 01, 'Hex text').
+#![tactic(auto)]
+
 ghost use Rattle.std.specs.Prelude.{◌≡◌, ◌++◌, ◌+◌, ◌-◌, ◌*◌, ◌%◌, ◌≤◌, ◌<◌, length};
 ghost use Rattle.std.proofs.lemmas.List.Edits.{sets};
 ghost use Rattle.hex_format.specs.Written.{line_text, extended_line, end_line};

@@ -1,4 +1,6 @@
 // Intel hex text: reading (document 01, 'Hex text').
+#![tactic(auto)]
+
 ghost use Rattle.std.specs.Prelude.{◌≡◌, ◌+◌, ◌≤◌, length};
 ghost use Rattle.hex_format.specs.HexFormat.{intel_hex};
 ghost use Rattle.hex_format.specs.Texts.{content_of, hex_reading};

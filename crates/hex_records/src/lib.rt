@@ -1,16 +1,18 @@
 // The records of an Intel hex text, one at a position (document 01, 'Hex text').
+#![tactic(auto)]
+
 ghost use Rattle.std.specs.Prelude.{◌≡◌, ◌<◌, length};
 ghost use Rattle.hex_records.specs.Places.{FrameAt, frame_of, frame_row, found_in, located_of, located_row, FoundAt};
 
 // The frame of a line: it is broken, or has so many payload bytes, a sum, and a place where the next line begins.
-#[derive(Drop)]
+#[derive(Clone, Copy)]
 enum Frame {
     Broken,
     Framed { count: usize, sum: u32, next: usize },
 }
 
 // What is found at a position: no line, or the line's record, or 1, 2 or 3; its payload is in the row, from index 4 on.
-#[derive(Drop)]
+#[derive(Clone, Copy)]
 pub enum Found {
     Missing,
     Refused(u8),
@@ -21,7 +23,7 @@ pub enum Found {
 }
 
 // A record and where the next line begins: 0 where there is no record, for want of a line or by 1 or 2.
-#[derive(Drop)]
+#[derive(Clone, Copy)]
 pub struct Located {
     pub found: Found,
     pub next: usize,

@@ -1,4 +1,6 @@
 // Writes the Intel hex text of an image (document 01, 'Hex text').
+#![tactic(auto)]
+
 ghost use Rattle.std.specs.Prelude.{◌≡◌, ◌+◌, ◌*◌, ◌/◌, ◌≤◌, ◌<◌, length};
 ghost use Rattle.std.proofs.lemmas.List.Edits.{sets};
 ghost use Rattle.hex_format.specs.Written.{new_upper, lines_from, text_of, text_length};
@@ -17,7 +19,7 @@ use sections::{Location, Section};
 use text::WriteAnswer;
 
 // How far the text has come: the next place, and the upper half of the last address.
-#[derive(Drop)]
+#[derive(Clone, Copy)]
 struct Position {
     at: usize,
     upper: u32,

@@ -1,4 +1,6 @@
 // The image: a header beside lent bytes, and its checks (document 01, 'Parts', numbers 6 to 12).
+#![tactic(auto)]
+
 ghost use Rattle.std.specs.Prelude.{not, ◌≡◌, ◌≤◌, ◌<◌, length};
 ghost use Rattle.image.specs.Checks.{version_fits, image_id_fits, level_fits, sum_fits, content_checks, image_fault};
 ghost use Rattle.image.specs.Refusals.{first_refusal};
@@ -8,7 +10,7 @@ ghost use Rattle.rows.specs.Cancels.{some_cancels};
 use parts::{Geometry, Level, Lookup};
 
 // What is known of an image beside its bytes (document 01's 'record' of an image).
-#[derive(Drop)]
+#[derive(Clone, Copy)]
 pub struct Header {
     pub part: u8,
     pub macros: u8,

@@ -1,4 +1,6 @@
 // Where an answer leads: acknowledgement and parity first, then the word (document 01, 'Flow').
+#![tactic(auto)]
+
 ghost use Rattle.std.specs.Prelude.{cond, ◌≡◌, suc, ltb};
 ghost use Rattle.flow.specs.Packets.{is_attempt, is_read, heard, reply_in};
 ghost use Rattle.flow.specs.Session.{try_again, wait_again, settled, heard_by, next_of};

@@ -1,4 +1,6 @@
 // The latch call for some bytes, and the call that it is for: a row of step 5, a macro of step 7 (document 01, 'Flow').
+#![tactic(auto)]
+
 ghost use Rattle.std.specs.Prelude.{◌&&◌, [], ◌∷◌, ◌++◌, ◌≡◌, ◌+◌, ◌*◌, ◌/◌, ◌≤◌, ◌<◌, leb, length, get_or};
 ghost use Rattle.call_moves.specs.MoveAt.{MoveAt};
 ghost use Rattle.flow.specs.Sequence.{key, call, listed, latch_list};

@@ -1,4 +1,6 @@
 // What the calls for other languages put into a caller's bytes: words and flags.
+#![tactic(auto)]
+
 ghost use Rattle.std.specs.Prelude.{◌≡◌};
 ghost use Rattle.layout.specs.Bytes.{flag_byte, word_put};
 

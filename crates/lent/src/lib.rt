@@ -1,4 +1,6 @@
 // Words and sums of lent bytes, near their end too (document 01, 'Words have the low byte first').
+#![tactic(auto)]
+
 ghost use Rattle.std.specs.Prelude.{◌≡◌, ◌+◌, ◌*◌, ◌%◌, ◌<◌, slice_index};
 ghost use Rattle.lent.specs.Words.{total, word_at, same_word, part_of};
 

@@ -1,4 +1,6 @@
 // How many moves the sequence has (document 01, 'Flow'): 13 bounds an index by it.
+#![tactic(auto)]
+
 ghost use Rattle.std.specs.Prelude.{◌≡◌, ◌<◌};
 ghost use Rattle.flow.specs.Session.{move_count};
 ghost use Rattle.move_counts.specs.Counts.{program_count};

@@ -1,4 +1,6 @@
 // The move at an index of the programming sequence, found by arithmetic (document 01, 'Flow').
+#![tactic(auto)]
+
 ghost use Rattle.std.specs.Prelude.{◌≡◌, length, get_or};
 ghost use Rattle.flow.specs.Sequence.{program, afterwards, sequence, end_move};
 ghost use Rattle.flow.specs.declared.Entry.TheVariants.{FromOpen, FromProtected};
@@ -19,7 +21,7 @@ use parts::Geometry;
 use rows::{macro_moves, macros_move, row_moves, rows_move, verify_move};
 
 // Where, among the moves of steps 4 to 9, the rows end, the flash's words, and the macros: steps 5, 6, and 7 with the locks of 8.
-#[derive(Drop)]
+#[derive(Clone, Copy)]
 struct Ends {
     rows: u32,
     words: u32,

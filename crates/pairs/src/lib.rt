@@ -1,4 +1,6 @@
 // Digit pairs and line ends, at a position of a text: for every text format (document 01, 'Hex text').
+#![tactic(auto)]
+
 ghost use Rattle.std.specs.Prelude.{◌≡◌, ◌+◌, ◌*◌, ◌≤◌, length, eqb};
 ghost use Rattle.std.proofs.lemmas.List.Edits.{sets};
 ghost use Rattle.lent.specs.Words.{total};
@@ -8,7 +10,7 @@ ghost use Rattle.pairs.specs.Spelling.{digits_from, front, pairs_at, pair_run_of
 mod table;
 
 // What a run of pairs comes to.
-#[derive(Drop)]
+#[derive(Clone, Copy)]
 pub struct PairRun {
     pub good: bool,
     pub sum: u32,

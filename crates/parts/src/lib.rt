@@ -1,4 +1,6 @@
 // The part table (document 01, 'Parts'): sizes, addresses and IDs, the look-up by part number and macros, and the chip levels.
+#![tactic(auto)]
+
 ghost use Rattle.std.specs.Prelude.{true, ◌≡◌, ◌<◌, ◌^◌};
 ghost use Rattle.parts.specs.Parts.{lookup_of, offers, in_range, low_fits, id_fits};
 ghost use Rattle.parts.specs.Sizes.{rows_of, flash_size, locks_in, lock_start, lock_total, image_size};
@@ -13,14 +15,14 @@ pub const TEST_MODE: u32 = 0x40030014;
 const LOCKS: u32 = 0x0FFFF000;
 
 // A range of bytes, both ends included.
-#[derive(Drop)]
+#[derive(Clone, Copy)]
 pub struct ByteRange {
     pub first: u8,
     pub last: u8,
 }
 
 // An entry of the part table.
-#[derive(Drop)]
+#[derive(Clone, Copy)]
 pub struct Part {
     pub number: u8,
     pub row_bytes: u16,
@@ -41,21 +43,21 @@ pub struct Part {
 }
 
 // A part with the number of flash macros in use.
-#[derive(Drop)]
+#[derive(Clone, Copy)]
 pub struct Geometry {
     pub part: Part,
     pub macros: u8,
 }
 
 // What a part number and a number of macros are in the table.
-#[derive(Drop)]
+#[derive(Clone, Copy)]
 pub enum Lookup {
     Found(Geometry),
     Refused(u8),
 }
 
 // A chip protection level.
-#[derive(Drop)]
+#[derive(Clone, Copy)]
 pub enum Level {
     Virgin,
     Open,

@@ -1,4 +1,6 @@
 // The plan and the most transfers, as document 01 counts them.
+#![tactic(auto)]
+
 ghost use Rattle.std.specs.Prelude.{◌≡◌, ◌≤◌, ◌<◌, ◌^◌};
 ghost use Rattle.flow.specs.Plan.{from_protected, lock_plan, plan, loops, acquisitions, most_traffic};
 ghost use Rattle.parts.specs.Sizes.{macros_of};

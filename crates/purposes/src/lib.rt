@@ -1,4 +1,6 @@
 // Where a word that was heard leads, by the purpose of its move (document 01, 'Flow').
+#![tactic(auto)]
+
 ghost use Rattle.std.specs.Prelude.{◌≡◌, suc, ◌*◌, ltb};
 ghost use Rattle.flow.specs.Judge.{judge, with_polls, with_kept, go_if, polled, entry_by, identified, reopened, summed};
 ghost use Rattle.flow.specs.Words.{free, level_in};

@@ -1,4 +1,6 @@
 // What goes over the wire for a request, and what kind it is (document 01, 'Wire').
+#![tactic(auto)]
+
 ghost use Rattle.std.specs.Prelude.{◌≡◌};
 ghost use Rattle.flow.specs.Packets.{packet_of, is_read};
 

@@ -1,11 +1,13 @@
 // Rows of lent bytes: the test whether one is all zero (document 02, Three), and number 10 of document 01.
+#![tactic(auto)]
+
 ghost use Rattle.std.specs.Prelude.{◌≡◌, ◌+◌, ◌%◌, ◌≤◌, min};
 ghost use Rattle.lent.specs.Words.{total};
 ghost use Rattle.rows.specs.Cancels.{row_words, cancels, some_cancels};
 ghost use Rattle.rows.specs.Zeros.{zero_row};
 
 // Whether a row is all zero, and how many of its bytes were read to say so.
-#[derive(Drop)]
+#[derive(Clone, Copy)]
 pub struct ZeroRow {
     pub all: bool,
     pub read: usize,

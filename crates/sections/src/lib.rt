@@ -1,4 +1,6 @@
 // The five sections of an image's text, for every text format (document 01, 'Hex text').
+#![tactic(auto)]
+
 ghost use Rattle.std.specs.Prelude.{[], ◌∷◌, ◌++◌, ◌≡◌, ◌<◌, get_or};
 ghost use Rattle.sections.specs.Sections.{sections_of, no_section, header_sections, header_of};
 
@@ -6,7 +8,7 @@ use image::Header;
 use parts::Geometry;
 
 // Where the bytes of a section lie: in the image's flash, in the image's part after the flash, or in the header's bytes.
-#[derive(Drop)]
+#[derive(Clone, Copy)]
 pub enum Location {
     InFlash,
     InProtection,
@@ -14,7 +16,7 @@ pub enum Location {
 }
 
 // A section of a text: its address, its size, and where its bytes lie.
-#[derive(Drop)]
+#[derive(Clone, Copy)]
 pub struct Section {
     pub address: u32,
     pub size: usize,

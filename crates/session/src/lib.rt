@@ -1,4 +1,6 @@
 // Starting and stepping a session: one request out, one answer in (document 01, 'Flow' and 'Who brings a number about').
+#![tactic(auto)]
+
 ghost use Rattle.std.specs.Prelude.{true, ◌≡◌};
 ghost use Rattle.image.specs.Image.{image_of};
 ghost use Rattle.session.specs.Given.{start_refused, wants_leave, start_of, refusing, outcome_at, giving, step_on, step_with};
@@ -16,7 +18,7 @@ use moving::advanced;
 use parts::{Geometry, Lookup};
 
 // A session: what it holds of the image, where it stands or what it reported, and the reads and writes answered so far.
-#[derive(Drop)]
+#[derive(Clone, Copy)]
 pub struct Session {
     pub header: Header,
     pub position: Position,
@@ -28,7 +30,7 @@ pub struct Session {
 }
 
 // A report: its number (0 done), the flow step then running, and the reads and writes handed out.
-#[derive(Drop)]
+#[derive(Clone, Copy)]
 pub struct Report {
     pub number: u8,
     pub step: u8,
@@ -36,14 +38,14 @@ pub struct Report {
 }
 
 // What a call gives beside the session.
-#[derive(Drop)]
+#[derive(Clone, Copy)]
 pub enum Outcome {
     Refused(u8),
     Ask(Packet),
     Reported(Report),
 }
 
-#[derive(Drop)]
+#[derive(Clone, Copy)]
 pub struct Given {
     pub session: Session,
     pub outcome: Outcome,

@@ -1,4 +1,6 @@
 // Starting over a caller's bytes; the number where an output is under size.
+#![tactic(auto)]
+
 ghost use Rattle.std.specs.Prelude.{cond, ◌≡◌};
 ghost use Rattle.calls.specs.Calls.{in_table, start_into, after_start_call};
 ghost use Rattle.session.specs.Given.{start_refused};

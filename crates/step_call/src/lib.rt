@@ -1,4 +1,6 @@
 // A step over a caller's bytes.
+#![tactic(auto)]
+
 ghost use Rattle.std.specs.Prelude.{cond, ◌≡◌, ◌≤◌, leb, length};
 ghost use Rattle.calls.specs.Calls.{after_step_call};
 

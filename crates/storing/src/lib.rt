@@ -1,4 +1,6 @@
 // Runs of bytes put into lent bytes, and lent bytes zeroed: nothing where they are too few.
+#![tactic(auto)]
+
 ghost use Rattle.std.specs.Prelude.{◌≡◌, ◌+◌, ◌≤◌, length, take, drop};
 ghost use Rattle.std.proofs.lemmas.List.Edits.{sets};
 ghost use Rattle.storing.specs.Storing.{stored_at, cleared};

@@ -1,4 +1,6 @@
 // What the text formats share beside lines and digit pairs: the section that is due, the pieces it is written in, and the answers of reading and writing (document 01, 'Hex text').
+#![tactic(auto)]
+
 ghost use Rattle.std.specs.Prelude.{◌≡◌, min, ◌+◌};
 ghost use Rattle.image.specs.Image.{no_header};
 ghost use Rattle.text.specs.Reading.{answer_of, buffer_after};
@@ -8,28 +10,28 @@ use image::Header;
 use sections::Section;
 
 // What reading gives: 0 and the image's header, or a refusal's number and a header of zeros.
-#[derive(Drop)]
+#[derive(Clone, Copy)]
 pub struct ReadAnswer {
     pub number: u8,
     pub header: Header,
 }
 
 // What writing gives: 0 and the text's length, or a refusal's number and 0.
-#[derive(Drop)]
+#[derive(Clone, Copy)]
 pub struct WriteAnswer {
     pub number: u8,
     pub length: usize,
 }
 
 // The section that is due, and the number of the one after it.
-#[derive(Drop)]
+#[derive(Clone, Copy)]
 pub struct Due {
     pub section: Section,
     pub next: usize,
 }
 
 // What a text's records come to: 1 to 5, or each byte of each section in its place.
-#[derive(Drop)]
+#[derive(Clone, Copy)]
 pub enum Scanned {
     Bad(u8),
     Whole,

@@ -1,9 +1,11 @@
 // SWD packets: the request byte, the data parity bit and the reading of an acknowledgement (document 01, 'Wire').
+#![tactic(auto)]
+
 ghost use Rattle.std.specs.Prelude.{true, ◌≡◌, ◌+◌, ◌*◌, ◌%◌, ◌<◌};
 ghost use Rattle.wire.specs.Wire.{parity, apndp, address, from_bits, four_bits, request_byte, ack_of, is_ack};
 
 // A register of the debug or access port (004, Table 3-2).
-#[derive(Drop)]
+#[derive(Clone, Copy)]
 pub enum Register {
     Idcode,
     Abort,
@@ -15,14 +17,14 @@ pub enum Register {
 }
 
 // The direction of a transfer.
-#[derive(Drop)]
+#[derive(Clone, Copy)]
 pub enum Access {
     Read,
     Write,
 }
 
 // What an acknowledgement says.
-#[derive(Drop)]
+#[derive(Clone, Copy)]
 pub enum Ack {
     Okay,
     Wait,

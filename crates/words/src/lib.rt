@@ -1,4 +1,6 @@
 // What single words say: document 01, 'Flow'.
+#![tactic(auto)]
+
 ghost use Rattle.std.specs.Prelude.{◌≡◌};
 ghost use Rattle.flow.specs.Words.{free, test_bit_set, succeeded, ids_fit, level_shown, sums_fit};
 
