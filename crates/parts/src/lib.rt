@@ -197,6 +197,7 @@ pub fn id_fits(p: Part, high: u8, low: u8, family: u8) -> bool
 }
 
 // The rows of all macros in use.
+#[tactic(auto, unfolding(crate::specs::Sizes::rows_of))]
 pub fn rows(g: Geometry) -> u32
     ensures count { result ≡ rows_of g }
 {
@@ -205,6 +206,7 @@ pub fn rows(g: Geometry) -> u32
 }
 
 // The bytes of flash.
+#[tactic(auto, unfolding(crate::specs::Sizes::flash_size))]
 pub fn flash_size(g: Geometry) -> usize
     ensures size { result ≡ flash_size g }
     ensures bounded { result < 2 ^ 48 }
@@ -214,6 +216,7 @@ pub fn flash_size(g: Geometry) -> usize
 }
 
 // The bytes of macro m's locks: a bit for each of its rows.
+#[tactic(auto, unfolding(crate::specs::Sizes::locks_in))]
 pub fn locks_in(g: Geometry, m: u32) -> usize
     ensures size { result ≡ locks_in g m }
     ensures bounded { result < 8192 }
@@ -231,6 +234,7 @@ pub fn lock_start(g: Geometry, m: u32) -> usize
 }
 
 // The bytes of locks: a bit for each row.
+#[tactic(auto, unfolding(crate::specs::Sizes::lock_total))]
 pub fn lock_total(g: Geometry) -> usize
     ensures size { result ≡ lock_total g }
     ensures bounded { result < 2 ^ 32 }
@@ -239,6 +243,7 @@ pub fn lock_total(g: Geometry) -> usize
 }
 
 // The bytes of an image: flash, then locks.
+#[tactic(auto, unfolding(crate::specs::Sizes::image_size))]
 pub fn image_size(g: Geometry) -> usize
     ensures size { result ≡ image_size g }
 {
