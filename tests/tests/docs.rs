@@ -27,7 +27,10 @@ fn below(dir: &Path, found: &mut Vec<PathBuf>) {
     for entry in fs::read_dir(dir).unwrap() {
         let path = entry.unwrap().path();
         if path.is_dir() {
-            below(&path, found);
+            // (what rt made is no source)
+            if path.file_name().is_none_or(|name| name != "out") {
+                below(&path, found);
+            }
         } else {
             found.push(path);
         }

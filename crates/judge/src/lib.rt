@@ -89,6 +89,7 @@ fn settle(q: Request, c: Counters) -> Counters
 }
 
 // An OK: the parity of a read's word counts, and a write has no word.
+#[tactic(auto, unfolding(flow::specs::Packets::heard))]
 fn on_okay(g: Geometry, h: Header, bytes: &[u8], m: Move, r: Reply, c: Counters) -> Next
     ensures { result ≡ heard_by (is_attempt m.request) (image_of g h bytes.now) m.purpose (heard (is_read m.request) Ack.Okay r.word r.parity) c }
 {
@@ -105,6 +106,7 @@ fn on_okay(g: Geometry, h: Header, bytes: &[u8], m: Move, r: Reply, c: Counters)
 }
 
 // A reply to a transfer.
+#[tactic(auto, unfolding(flow::specs::Packets::heard))]
 fn on_reply(g: Geometry, h: Header, bytes: &[u8], m: Move, r: Reply, c: Counters) -> Next
     ensures { result ≡ heard_by (is_attempt m.request) (image_of g h bytes.now) m.purpose (heard (is_read m.request) (ack_of r.ack) r.word r.parity) c }
 {
@@ -134,6 +136,7 @@ fn reply_in(a: Answer) -> Reply
 }
 
 // Where an answer to a move leads: on by a way, or to a report. After a reset it is the next move, whatever the answer.
+#[tactic(auto, unfolding(flow::specs::Packets::verdict))]
 pub fn next(g: Geometry, h: Header, bytes: &[u8], m: Move, a: Answer, c: Counters) -> Next
     ensures next { result ≡ next_of (image_of g h bytes.now) m a c }
 {

@@ -134,6 +134,7 @@ fn lock_word_is(g: Geometry, bytes: &[u8], m: u32, at: u32, w: u32) -> bool
 }
 
 // A word, by the purpose of the move that it answers.
+#[tactic(auto, unfolding(flow::specs::Judge::judge))]
 pub fn on_word(g: Geometry, h: Header, bytes: &[u8], u: Purpose, c: Counters, w: u32) -> Next
     ensures judged { result ≡ judge (image_of g h bytes.now) u c w }
 {

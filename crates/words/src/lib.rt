@@ -8,6 +8,7 @@ use image::Header;
 use parts::Geometry;
 
 // Whether a polled word has bits 31 and 28 clear.
+#[tactic(auto, unfolding(flow::specs::Words::free))]
 pub fn is_free(w: u32) -> bool
     ensures free { result ≡ free w }
 {
@@ -18,6 +19,7 @@ pub fn is_free(w: u32) -> bool
 }
 
 // Whether TEST_MODE shows its bit 31 (17).
+#[tactic(auto, unfolding(flow::specs::Words::test_bit_set))]
 pub fn test_bit_set(w: u32) -> bool
     ensures set { result ≡ test_bit_set w }
 {
@@ -25,6 +27,7 @@ pub fn test_bit_set(w: u32) -> bool
 }
 
 // Whether SYSARG says that a call succeeded (19).
+#[tactic(auto, unfolding(flow::specs::Words::succeeded))]
 pub fn call_succeeded(w: u32) -> bool
     ensures succeeded { result ≡ succeeded w }
 {
@@ -32,6 +35,7 @@ pub fn call_succeeded(w: u32) -> bool
 }
 
 // Whether the silicon ID in SYSARG and SYSREQ is the image's and fits the part (20).
+#[tactic(auto, unfolding(flow::specs::Words::ids_fit))]
 pub fn ids_fit(g: Geometry, h: Header, sysarg: u32, sysreq: u32) -> bool
     ensures fits { result ≡ ids_fit g h sysarg sysreq }
 {
@@ -46,6 +50,7 @@ pub fn ids_fit(g: Geometry, h: Header, sysarg: u32, sysreq: u32) -> bool
 }
 
 // The stored level in the word that step 8 reads, with 0 and 1 exchanged.
+#[tactic(auto, unfolding(flow::specs::Words::level_shown))]
 pub fn level_shown(w: u32) -> u8
     ensures shown { result ≡ level_shown w }
 {
@@ -58,6 +63,7 @@ pub fn level_shown(w: u32) -> u8
 }
 
 // Whether the two privileged sums differ by the image's sum.
+#[tactic(auto, unfolding(flow::specs::Words::sums_fit))]
 pub fn sums_fit(h: Header, this: u32, that: u32) -> bool
     ensures fits { result ≡ sums_fit h this that }
 {
