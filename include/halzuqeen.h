@@ -1,4 +1,4 @@
-/* Halzuqeen's calls for C and for whatever links C: crates/core_c, built by `rt staticlib core_c` to target/staticlib/libcore_c.a.
+/* Halzuqeen's calls for C and for whatever links C: crates/core_c, built by `tools/staticlib core_c` to target/staticlib/libcore_c.a.
  *
  * Every lent buffer is a pointer and a length in bytes. The core keeps nothing between calls and takes nothing from a heap: the image,
  * its header and the session stand in the caller's bytes. Numbers of several bytes have the low byte first.

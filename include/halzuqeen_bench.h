@@ -1,5 +1,5 @@
 /* Halzuqeen's bench board, for tests of hosts: the plain board of document 01 as a call for C and for whatever links C: crates/bench_c,
- * built by `rt staticlib bench_c` to target/staticlib/libbench_c.a, an archive of its own that links beside libcore_c.a or without it.
+ * built by `tools/staticlib bench_c` to target/staticlib/libbench_c.a, an archive of its own that links beside libcore_c.a or without it.
  *
  * It is proved to meet every packet as the board does that the session's proofs are about (crates/flow/specs/Exchange.antt, 'meet'; as
  * bytes, for every content and length of the buffers: crates/bench_c/specs/BoardCalls.antt). With it a host runs without hardware:

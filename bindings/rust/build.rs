@@ -1,4 +1,4 @@
-//! Finds libcore_c.a, and with the feature `bench` libbench_c.a: in HALZUQEEN_LIB, or where `rt staticlib` writes them.
+//! Finds libcore_c.a, and with the feature `bench` libbench_c.a: in HALZUQEEN_LIB, or where `tools/staticlib` writes them.
 
 use std::env;
 use std::path::PathBuf;

@@ -129,7 +129,7 @@ fn edits_cited_are_there() {
 fn names_are_there() {
     let sources = sources();
     let words: BTreeSet<&str> =
-        sources.split(|c: char| !(c.is_alphanumeric() || "_-′".contains(c))).collect();
+        sources.split(|c: char| !(c.is_alphanumeric() || "_-'".contains(c))).collect();
     for name in quoted(&promises()) {
         let last = name.split([':', '.', ' ']).rfind(|w| !w.is_empty()).unwrap_or("");
         let plain = !name.contains('/') && !name.contains("..") && !name.ends_with(".antt");
@@ -174,8 +174,11 @@ fn first_errors_are_as_said() {
 fn imports(file: &str) -> (Vec<String>, Vec<(String, String)>) {
     let (mut files, mut types) = (Vec::new(), Vec::new());
     for line in text(format!("crates/{file}")).lines() {
-        let Some(module) = line.strip_prefix("use Rattle·") else { continue };
-        let of = module.split(['.', '·']).next().unwrap().to_owned();
+        let Some(module) = line.strip_prefix("use Rattle.") else { continue };
+        let of = module.split('.').next().unwrap().to_owned();
+        if of == "std" {
+            continue;
+        }
         let mut path =
             module.split(".specs.").nth(1).unwrap_or_else(|| panic!("{file}: {line}")).split(['.', ' ']);
         let name = path.next().unwrap();
