@@ -74,6 +74,7 @@ fn rows_fit(g: Geometry, bytes: &[u8]) -> bool
 }
 
 // Checks 6 to 10, in that order: 0 or the first number that applies.
+#[tactic(auto, unfolding(crate::specs::Refusals::first_refusal))]
 fn content_fault(g: Geometry, h: Header, bytes: &[u8]) -> u8
     requires { flash_size g ≤ length bytes.now }
     ensures { result ≡ first_refusal (content_checks g h bytes.now) }
@@ -97,6 +98,7 @@ fn content_fault(g: Geometry, h: Header, bytes: &[u8]) -> u8
 }
 
 // Checks 11, 12 and 6 to 10, in that order: 0 or the first number that applies.
+#[tactic(auto, unfolding(crate::specs::Refusals::first_refusal, parts::specs::Sizes::image_size))]
 pub fn check(h: Header, bytes: &[u8]) -> u8
     ensures fault { result ≡ image_fault h bytes.now }
 {
