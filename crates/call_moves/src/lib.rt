@@ -59,6 +59,7 @@ pub fn key_of(c: u8) -> u32
     0xB6 + (0xD3 + (c as u32)) * 256
 }
 
+#[tactic(auto, unfolding(flow::specs::Sequence::write))]
 fn write_move(step: u8, a: u32, w: u32, j: u32) -> Move
     ensures { result ≡ get_or (write step a w) j end_move }
 {
@@ -69,6 +70,7 @@ fn write_move(step: u8, a: u32, w: u32, j: u32) -> Move
     }
 }
 
+#[tactic(auto, unfolding(flow::specs::Sequence::read))]
 pub fn read_move(step: u8, a: u32, p: Purpose, j: u32) -> Move
     ensures found { result ≡ get_or (read step a p) j end_move }
 {
@@ -174,6 +176,7 @@ fn first_move(q: Request, p: Purpose) -> Move
 }
 
 // Step 1 up to CSW.
+#[tactic(auto, unfolding(flow::specs::Sequence::acquire))]
 fn attach_move(j: u32) -> Move
     requires { j < 6 }
     ensures { Attach j result }
@@ -188,6 +191,7 @@ fn attach_move(j: u32) -> Move
     }
 }
 
+#[tactic(auto, unfolding(flow::specs::Sequence::imo_call))]
 fn imo_move(sysreq: u32, imo: u8, j: u32) -> Move
     requires { sysreq ≤ 0x7FFFFFFF }
     ensures { ReachedAt sysreq (λ g. imo_call g imo) j result }
@@ -219,6 +223,7 @@ fn acquire_move(sysreq: u32, imo: u8, j: u32) -> Move
 }
 
 // The moves of the call for IMO.
+#[tactic(auto, unfolding(flow::specs::Sequence::imo_call, flow::specs::Sequence::call, flow::specs::Sequence::write, flow::specs::Sequence::read))]
 fn imo_moves(imo: u8) -> u32
     ensures fact_1 { ImoCount imo result }
     ensures fact_2 { result ≤ 10 }

@@ -18,6 +18,7 @@ pub enum Turn {
 }
 
 // Payload that is the next due, and crosses neither its section's end nor a 64 KiB line.
+#[tactic(auto, unfolding(crate::specs::Turns::data_turn))]
 fn data_turn(due: Section, upper: u16, low: u16, count: usize, next: usize) -> Turn
     requires { count ≤ 255 }
     ensures { result ≡ data_turn due upper low count next }
@@ -35,6 +36,7 @@ fn data_turn(due: Section, upper: u16, low: u16, count: usize, next: usize) -> T
 }
 
 // The end record, after the last section and with nothing after it.
+#[tactic(auto, unfolding(crate::specs::Turns::end_turn))]
 fn end_turn(due: Section, next: usize, len: usize) -> Turn
     ensures { result ≡ end_turn due next len }
 {

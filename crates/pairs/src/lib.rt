@@ -87,6 +87,7 @@ pub fn spell(row: &mut [u8], text: &[u8], p: usize, k: usize) -> PairRun
 }
 
 // How many characters the line end at a position has: LF 1, CR LF 2, none 0.
+#[tactic(auto, unfolding(crate::specs::Spelling::line_end))]
 pub fn line_end(text: &[u8], at: usize) -> usize
     ensures end { result ≡ line_end text.now at }
 {

@@ -58,6 +58,7 @@ fn report_fits(number: u8, step: u8) -> bool
 }
 
 // Whether a session is possible for its part (13).
+#[tactic(auto, unfolding(crate::specs::Possible::possible_in))]
 pub(crate) fn possible_in(g: Geometry, s: Session) -> bool
     ensures { result ≡ possible_in g s }
 {

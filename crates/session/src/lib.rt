@@ -103,6 +103,7 @@ fn wants_leave(h: Header, leave: bool) -> bool
 }
 
 // Starts a session on an image: checks 11, 12, 6 to 10, then 15; the first request is XRES.
+#[tactic(auto, unfolding(crate::specs::Given::start_of))]
 pub fn start(h: Header, bytes: &[u8], leave: bool) -> Given
     ensures given { result ≡ start_of h bytes.now leave }
 {
@@ -185,6 +186,7 @@ fn step_on(g: Geometry, s: Session, bytes: &[u8], a: Answer) -> Given
 }
 
 // Takes the answer to the standing request: checks 13, 12, 14; gives the next request or the report.
+#[tactic(auto, unfolding(crate::specs::Given::step_with))]
 pub fn step(s: Session, bytes: &[u8], a: Answer) -> Given
     ensures given { result ≡ step_with s bytes.now a }
 {

@@ -96,6 +96,7 @@ fn reported_at(s: Session, number: u8, step: u8, transfers: u32) -> Session
 }
 
 // The session that an answer leads to.
+#[tactic(auto, unfolding(crate::specs::Sessions::resumed))]
 fn resume(g: Geometry, s: Session, next: Next, step: u8, count: u64) -> Session
     requires fact_1 { s.position.at < 2 ^ 31 }
     requires fact_2 { most_of g < 2 ^ 32 }

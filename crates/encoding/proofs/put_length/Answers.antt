@@ -1,5 +1,5 @@
 -- What is left is put, and bytes under size stay. Assumes nothing.
-use Rattle.std.proofs.Common.{◌≡◌, ◌-◌, refl, sym, ◌∙◌, arith}
+use Rattle.std.proofs.Common.{◌≡◌, ◌-◌, sym, ◌∙◌, arith}
 use Rattle.std.proofs.Math.ListN.{length-set}
 use Rattle.std.proofs.lemmas.List.Edits.{sets}
 use Rattle.lent.specs.Words.{low_first}
@@ -16,7 +16,7 @@ loop-at-preserved c =
       in_range = omega arith;
       room = l.invariant.room;
       sized = length-set l.bytes l.at _ ∙ l.invariant.sized;
-      left = l.invariant.left ∙ put-more l.bytes l.at l.rest (omega arith)
+      left = l.invariant.left ∙ put-more l.bytes l.at l.rest (omega arith);
     }
 
 pub returns : goal.returns

@@ -9,7 +9,7 @@ invariant-loop-at l = record {
   in_range : l.at ≤ 8;
   room : 8 ≤ length l.fn.bytes;
   sized : length l.bytes ≡ length l.fn.bytes;
-  left : sets l.fn.bytes 0 (low_first 8 l.n) ≡ sets l.bytes l.at (low_first (8 - l.at) l.rest)
+  left : sets l.fn.bytes 0 (low_first 8 l.n) ≡ sets l.bytes l.at (low_first (8 - l.at) l.rest);
 }
 
 abbrev pub decreases-loop-at : goal.decreases-loop-at

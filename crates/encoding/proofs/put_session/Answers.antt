@@ -15,7 +15,7 @@ returns c =
     let r = c.row_of-head.ensures in
     record {
       put =
-        session-put a.bytes.now _ _ _ _ a.s c.if-bytes-lt45.false r.fact_2
-        (header-put a.bytes.now _ a.s.header _ r.fact_1 r.fact_2 c.fill.ensures.part) c.put_singles.ensures c.put_standing.ensures
-        c.put_word.ensures.put
+          session-put a.bytes.now _ _ _ _ a.s c.if-bytes-lt45.false r.fact_2
+          (header-put a.bytes.now _ a.s.header _ r.fact_1 r.fact_2 c.fill.ensures.part) c.put_singles.ensures c.put_standing.ensures
+          c.put_word.ensures.put;
     }

@@ -10,7 +10,7 @@ returns-then-row_cancels c =
     record {
       cancelling =
           sym (some-hit a.bytes.now a.size l.left l.from _ c.loop-left-test.true c.row_end-end.ensures
-              (sym c.row_cancels.ensures.cancelling ∙ c.if-row_cancels.true))
+          (sym c.row_cancels.ensures.cancelling ∙ c.if-row_cancels.true))
           ∙ l.invariant.decided;
     }
 
@@ -22,7 +22,7 @@ loop-left-preserved c =
       inside = omega (arith, c.row_end-end.ensures);
       decided =
           sym (some-miss a.bytes.now a.size l.left l.from _ c.loop-left-test.true c.row_end-end.ensures
-              (sym c.row_cancels.ensures.cancelling ∙ c.if-row_cancels.false))
+          (sym c.row_cancels.ensures.cancelling ∙ c.if-row_cancels.false))
           ∙ l.invariant.decided;
     }
 

@@ -8,7 +8,7 @@ invariant-loop-left l = record {
   inside : l.place + 4 * l.left ≤ length l.row;
   fits : l.sum < 0x100000000;
   summed :
-    (l.sum + total (words_at l.row l.place l.left)) % 0x100000000 ≡ total (words_at l.row 0 (length l.row / 4)) % 0x100000000;
+      (l.sum + total (words_at l.row l.place l.left)) % 0x100000000 ≡ total (words_at l.row 0 (length l.row / 4)) % 0x100000000;
 }
 
 abbrev pub decreases-loop-left : goal.decreases-loop-left
