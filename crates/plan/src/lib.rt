@@ -44,6 +44,7 @@ fn lock_plan(g: Geometry) -> u64
 }
 
 // The plan: the reads and writes of the sequence.
+#[tactic(auto, unfolding(flow::specs::Plan::plan))]
 fn plan_of(g: Geometry, y: Entry) -> u64
     ensures fact_1 { result ≡ plan g y }
     ensures fact_2 { result < 2 ^ 54 }
@@ -55,6 +56,7 @@ fn plan_of(g: Geometry, y: Entry) -> u64
 }
 
 // The poll loops of the sequence.
+#[tactic(auto, unfolding(flow::specs::Plan::loops))]
 fn loops_of(g: Geometry, y: Entry) -> u64
     ensures fact_1 { result ≡ loops g y }
     ensures fact_2 { result < 2 ^ 40 }
@@ -65,6 +67,7 @@ fn loops_of(g: Geometry, y: Entry) -> u64
 }
 
 // The most reads and writes that a session may hand out: those from PROTECTED.
+#[tactic(auto, unfolding(flow::specs::Plan::most_traffic))]
 pub fn most_transfers(g: Geometry) -> u64
     ensures most { result ≡ (most_traffic g Entry.FromProtected).transfers }
 {
