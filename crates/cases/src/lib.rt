@@ -2,8 +2,11 @@
 // No contract can say what is read.
 #![tactic(auto)]
 
-ghost use Rattle.std.specs.Prelude.{◌≡◌, ◌*◌, ◌%◌, ◌^◌, ◌≤◌};
+ghost use Rattle.std.specs.Prelude.{◌≡◌, ◌*◌, ◌%◌, ◌^◌, ◌≤◌, length, IfOk};
 ghost use Rattle.cases.specs.Fnv.{fnv_step, fnv};
+
+use std::io;
+use std::io::Read;
 
 // A number of standard input; `ended` where the input ended before the byte after its last digit.
 #[derive(Clone, Copy)]
@@ -12,23 +15,23 @@ pub struct Number {
     pub value: u32,
 }
 
-// The value of the next byte of standard input: 0 to 9, 10 for a byte that is no digit, 11 at the end.
-fn digit() -> u32
-    ensures { result ≤ 11 }
+// The value of the input's next byte: 0 to 9, 10 for a byte that is no digit, 11 at the end.
+fn digit(input: &mut impl Read) -> io::Result<u32>
+    ensures { IfOk result (λ d. d ≤ 11) }
 {
     let mut one = [0u8; 1];
-    let got = libc::read(0, &mut one);
+    let got = input.read(&mut one)?;
     if got < 1 {
-        return 11;
+        return Ok(11);
     }
     let c = one[0];
     if c < 48 {
-        return 10;
+        return Ok(10);
     }
     if 57 < c {
-        return 10;
+        return Ok(10);
     }
-    (c - 48) as u32
+    Ok((c - 48) as u32)
 }
 
 // A digit more, and `most` where that is more than `most`.
@@ -43,27 +46,42 @@ fn grown(value: u32, digit: u32, most: u32) -> u32
     }
 }
 
-// The next number of standard input, with the byte after it; at most `most`.
-pub fn read_number(most: u32) -> Number
-    ensures bounded { result.value ≤ most }
+// The input's next number, with the byte after it; at most `most`.
+pub fn read_number(input: &mut impl Read, most: u32) -> io::Result<Number>
+    ensures bounded { IfOk result (λ n. n.value ≤ most) }
 {
     let mut value: u32 = 0;
     let mut left: u32 = 20;
     while 0 < left {
-        let d = digit();
+        let d = digit(input)?;
         if 9 < d {
-            return Number {
+            return Ok(Number {
                 ended: d == 11,
                 value,
-            };
+            });
         }
         value = grown(value, d, most);
         left -= 1;
     }
-    Number {
+    Ok(Number {
         ended: false,
         value,
+    })
+}
+
+// Reads until the buffer is full or the input ends, and gives how many bytes it put at the buffer's start.
+pub fn read_full(input: &mut impl Read, buf: &mut [u8]) -> io::Result<usize>
+    ensures within { IfOk result (λ n. n ≤ length buf.new) }
+{
+    let mut done: usize = 0;
+    while done < buf.len() {
+        let n = input.read(&mut buf[done..])?;
+        if n == 0 {
+            break;
+        }
+        done += n;
     }
+    Ok(done)
 }
 
 // x times 2^40 + 435, modulo 2^64.
@@ -78,6 +96,7 @@ fn scaled(x: u64) -> u64
 }
 
 // The digest after a byte more.
+#[tactic(auto, unfolding(crate::specs::Fnv::fnv_step))]
 pub fn mixed(h: u64, b: u8) -> u64
     ensures mixed { result ≡ fnv_step h b }
 {

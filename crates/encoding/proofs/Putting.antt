@@ -120,6 +120,10 @@ unfolding session_bytes
 session-size s n =
     length-append (header_bytes s.header) (singles s ++ (standing_bytes s.position.at s.counters ++ low_first 4 s.transfers)) ∙ omega arith
 
+-- a session's bytes do not fit where there are too few
+pub session_under : (b : List ℕ) (s : Session) → length (header_bytes s.header) ≡ 17 → length b < 45 → put_into b (session_bytes s) ≡ b
+session_under b s n h = sym (put_under b (session_bytes s) (omega (arith, session-size s n)))
+
 -- the header, the single bytes, the words
 module _ (b b₁ b₂ b₃ b₄ : List ℕ) (s : Session) where
   pub session-put : 45 ≤ length b → length (header_bytes s.header) ≡ 17 → b₁ ≡ put_into b (header_bytes s.header) → b₂ ≡ sets b₁ 17 (singles s)

@@ -100,6 +100,7 @@ fn put_standing(bytes: &mut [u8], at: u32, c: Counters)
 }
 
 // Puts a session.
+#[tactic(auto, using(crate::proofs::Putting::session_under))]
 pub fn put_session(bytes: &mut [u8], s: Session)
     ensures put { bytes.new ≡ put_into bytes.old (session_bytes s) }
 {

@@ -55,6 +55,7 @@ fn spell_pairs(row: &mut [u8], text: &[u8], p: usize, k: usize) -> PairRun
 }
 
 // Spells k pairs from p on into the row, up to the first that is none; nothing where they lie past the text or the row.
+#[tactic(auto, unfolding(crate::specs::Spelling::pair_run_of, crate::specs::Spelling::row_after))]
 pub fn spell(row: &mut [u8], text: &[u8], p: usize, k: usize) -> PairRun
     ensures run { result ≡ pair_run_of text.now p k (length row.old) }
     ensures row { row.new ≡ row_after row.old text.now p k }

@@ -1,5 +1,5 @@
 -- 12 for a header under size, 11 or 12 for a length under size, or writing. Assumes nothing.
-use Rattle.std.proofs.Common.{refl, ap, ◌∙◌}
+use Rattle.std.proofs.Common.{refl, ap, ◌∙◌, arith}
 use Rattle.calls.proofs.Called.{eleven_or12, leaves-as, write-partless, write_under, write_done}
 use Rattle.decoding.proofs.Spelled.{header-found}
 use Rattle.image.specs.declared.Header.{Header}
@@ -39,14 +39,14 @@ returns-then-length-lt8-clause-length c =
 pub returns-clause-number : goal.returns-clause-number
 returns-clause-number c =
     let a = c.args in
-    (write_done a.header.now a.image.now a.text.now a.length.now c.if-header-lt17.false _ _ _ _ c.if-length-lt8.false (c.header_in-h.ensures.found ∙ header-found a.header.now c.if-header-lt17.false) c.write-answer.ensures.answer c.write-answer.ensures.text c.put_length-2.ensures.put).0
+    (write_done a.header.now a.image.now a.text.now a.length.now c.if-header-lt17.false _ _ _ _ (omega arith) (c.header_in-h.ensures.found ∙ header-found a.header.now c.if-header-lt17.false) c.write-answer.ensures.answer c.write-answer.ensures.text c.put_length-2.ensures.put).0
 
 pub returns-clause-text : goal.returns-clause-text
 returns-clause-text c =
     let a = c.args in
-    (write_done a.header.now a.image.now a.text.now a.length.now c.if-header-lt17.false _ _ _ _ c.if-length-lt8.false (c.header_in-h.ensures.found ∙ header-found a.header.now c.if-header-lt17.false) c.write-answer.ensures.answer c.write-answer.ensures.text c.put_length-2.ensures.put).1.0
+    (write_done a.header.now a.image.now a.text.now a.length.now c.if-header-lt17.false _ _ _ _ (omega arith) (c.header_in-h.ensures.found ∙ header-found a.header.now c.if-header-lt17.false) c.write-answer.ensures.answer c.write-answer.ensures.text c.put_length-2.ensures.put).1.0
 
 pub returns-clause-length : goal.returns-clause-length
 returns-clause-length c =
     let a = c.args in
-    (write_done a.header.now a.image.now a.text.now a.length.now c.if-header-lt17.false _ _ _ _ c.if-length-lt8.false (c.header_in-h.ensures.found ∙ header-found a.header.now c.if-header-lt17.false) c.write-answer.ensures.answer c.write-answer.ensures.text c.put_length-2.ensures.put).1.1
+    (write_done a.header.now a.image.now a.text.now a.length.now c.if-header-lt17.false _ _ _ _ (omega arith) (c.header_in-h.ensures.found ∙ header-found a.header.now c.if-header-lt17.false) c.write-answer.ensures.answer c.write-answer.ensures.text c.put_length-2.ensures.put).1.1

@@ -11,6 +11,6 @@ returns c =
     let b = c.args.bytes.now in
     record {
       found =
-          rw (le-leb 17 (length b) c.if-bytes-lt17.false, c.wide.ensures.0, c.wide-2.ensures.0)
+          rw (le-leb 17 (length b) (omega arith), c.wide.ensures.0, c.wide-2.ensures.0)
           (ap (λ (m : List ℕ). header_with (get_or b 0 0) (get_or b 1 0) (get_or b 2 0 + 256 * get_or b 3 0) m (get_or b 16 0)) (spread-part 4 12 b (omega arith)));
     }

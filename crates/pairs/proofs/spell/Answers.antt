@@ -1,11 +1,7 @@
 -- The room tests of `pair_run_of`, then the loop. Assumes nothing.
 use Rattle.std.proofs.Common.{arith}
-use Rattle.pairs.proofs.Ends.{too_many, row-short, text-short, all-spelt}
+use Rattle.pairs.proofs.Ends.{row-short, text-short, all-spelt}
 use Rattle.pairs.proofs.spell.Goals as goal
-
-pub returns-then-k-gt260 : goal.returns-then-k-gt260
-returns-then-k-gt260 c =
-    let n = too_many c.args.row.now c.args.text.now c.args.p c.args.k c.if-k-gt260.true in record { run = n.0; row = n.1 }
 
 pub returns-then-row-k : goal.returns-then-row-k
 returns-then-row-k c =

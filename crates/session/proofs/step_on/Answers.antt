@@ -1,5 +1,5 @@
 -- The next request, or 14. Assumes nothing.
-use Rattle.std.proofs.Common.{Bool, true, false, List, ℕ, length, ◌≡◌, sym, ap, subst, ◌∙◌}
+use Rattle.std.proofs.Common.{Bool, true, false, List, ℕ, ◌≡◌, sym, ap, subst, ◌∙◌}
 use Rattle.flow.specs.Packets.{answers}
 use Rattle.flow.specs.Session.{SessionState, move_at, act, step_of}
 use Rattle.flow.specs.declared.Answer.{Answer}
@@ -11,7 +11,7 @@ use Rattle.moves.specs.Moves.{move_of}
 use Rattle.parts.specs.Parts.{lookup_of}
 use Rattle.parts.specs.declared.Geometry.{Geometry}
 use Rattle.parts.specs.declared.Lookup.TheVariants.{Found}
-use Rattle.session.specs.Given.{refusing, giving, step_on}
+use Rattle.session.specs.Given.{giving}
 use Rattle.session.specs.Lent.{Lent}
 use Rattle.session.specs.Sessions.{stand_of, resumed}
 use Rattle.session.specs.declared.Given.{Given}
