@@ -10,7 +10,7 @@ ghost use Rattle.moves.specs.Handled.{sizes_handled, addresses_handled, Handled}
 ghost use Rattle.moves.specs.Moves.{move_of};
 ghost use Rattle.parts.specs.Sizes.{image_size};
 
-mod rows;
+mod row_and_macro;
 
 use call_moves::{
     call_move, end_move, identify_move, key_of, one_move, opening_moves, privileged_move, read_move,
@@ -18,7 +18,7 @@ use call_moves::{
 use flow::{Entry, Move, Purpose};
 use image::Header;
 use parts::Geometry;
-use rows::{macro_moves, macros_move, row_moves, rows_move, verify_move};
+use row_and_macro::{macro_moves, macros_move, row_moves, rows_move, verify_move};
 
 // Where, among the moves of steps 4 to 9, the rows end, the flash's words, and the macros: steps 5, 6, and 7 with the locks of 8.
 #[derive(Clone, Copy)]

@@ -1,7 +1,7 @@
 -- The macro that the index is in, counted from the highest.
 use Rattle.std.proofs.Common.{◌∙◌}
 use Rattle.moves.proofs.Sections.{macro-inside, macros-at}
-use Rattle.moves.proofs.rows.macros_move.Goals as goal
+use Rattle.moves.proofs.row_and_macro.macros_move.Goals as goal
 
 pub macro_move-requires-clause-fact_4 : goal.macro_move-requires-clause-fact_4
 macro_move-requires-clause-fact_4 c =

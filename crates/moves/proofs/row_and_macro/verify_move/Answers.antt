@@ -1,7 +1,7 @@
 -- The row and the word that the index is in.
 use Rattle.std.proofs.Common.{arith, ◌∙◌}
 use Rattle.moves.proofs.Sections.{word-place, verify-at}
-use Rattle.moves.proofs.rows.verify_move.Goals as goal
+use Rattle.moves.proofs.row_and_macro.verify_move.Goals as goal
 
 pub overflow_mul-r : goal.overflow_mul-r
 overflow_mul-r c =

@@ -2,7 +2,7 @@
 use Rattle.std.proofs.Common.{◌≡◌, ◌+◌, ◌≤◌, length, arith, refl, ◌∙◌}
 use Rattle.moves.proofs.Sections.{lock-place, lock-at, check-at}
 use Rattle.parts.specs.Sizes.{flash_size, lock_start}
-use Rattle.moves.proofs.rows.macro_move.Goals as goal
+use Rattle.moves.proofs.row_and_macro.macro_move.Goals as goal
 
 pub returns-then-n-j : goal.returns-then-n-j
 returns-then-n-j c =

@@ -1,7 +1,7 @@
 -- The row is a middle part of the image.
 use Rattle.std.proofs.Common.{arith, refl}
 use Rattle.moves.proofs.Sections.{row-place, rows_at}
-use Rattle.moves.proofs.rows.rows_move.Goals as goal
+use Rattle.moves.proofs.row_and_macro.rows_move.Goals as goal
 
 pub overflow_mul-start : goal.overflow_mul-start
 overflow_mul-start c =

@@ -2,7 +2,7 @@
 use Rattle.std.proofs.Common.{arith, ◌∙◌}
 use Rattle.moves.proofs.Sections.{lock-address, lock-word-at}
 use Rattle.parts.proofs.Locks.{locks-most}
-use Rattle.moves.proofs.rows.check_move.Goals as goal
+use Rattle.moves.proofs.row_and_macro.check_move.Goals as goal
 
 pub overflow_mul-at : goal.overflow_mul-at
 overflow_mul-at c = omega (arith, c.requires.fact_3, c.requires.fact_1.macro_high, locks-most c.args.g c.args.m)
