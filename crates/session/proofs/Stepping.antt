@@ -25,7 +25,7 @@ use Rattle.parts.specs.Sizes.{image_size}
 use Rattle.parts.specs.declared.Geometry.{Geometry}
 use Rattle.parts.specs.declared.Lookup.{Lookup}
 use Rattle.parts.specs.declared.Lookup.TheVariants.{Found, Refused as NotFound}
-use Rattle.session.specs.Calls.{handing, standing}
+use Rattle.session.specs.Calls.{answer, handing, standing}
 use Rattle.session.specs.Given.{refusing, outcome_at, giving, step_on, step_for, step_with}
 use Rattle.session.specs.Possible.{possible_in}
 use Rattle.session.specs.Sessions.{stand_of, resumed}
