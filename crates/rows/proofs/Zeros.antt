@@ -1,5 +1,5 @@
 -- Laws of the test whether a row is all zero. Assumes nothing.
-use Rattle.std.proofs.Common.{◌≡◌, ℕ, zero, suc, ◌+◌, ◌*◌, ◌/◌, ◌%◌, ◌≤◌, Bool, true, false, not, ◌&&◌, eqb, List, [], ◌∷◌, length, get_or, take, drop, sym, refl, ap, ◌∙◌, add_assoc, zero-add, arith, drop-cons, ne_eqb, eqb-true}
+use Rattle.std.proofs.Common.{◌≡◌, ℕ, zero, suc, ◌+◌, ◌*◌, ◌/◌, ◌%◌, ◌≤◌, Bool, true, false, not, ◌&&◌, cond, eqb, List, [], ◌∷◌, length, get_or, take, drop, sym, refl, ap, ◌∙◌, add_assoc, zero-add, arith, drop-cons, ne_eqb, eqb-true}
 use mathlib.Core.Bool.{and-true, and-false}
 use borrow.Author.Tests.{eqb-false}
 use Rattle.rows.specs.Cancels.{row_words, cancels}
@@ -94,3 +94,11 @@ module _ (row : List ℕ) where
   pub cancels-filled : all_zero Whole ≡ false → cancels row ≡ adds
   unfolding cancels
   cancels-filled t = ap (λ (z : Bool). adds && not z) (sym whole-zero ∙ t) ∙ and-true adds
+
+  -- both at once, for the function that tests a row
+  pub cancels_by : cancels row ≡ cond (all_zero Whole) false adds
+  cancels_by = go (all_zero Whole) refl
+    where
+      go : (b : Bool) → all_zero Whole ≡ b → cancels row ≡ cond b false adds
+      go true t = cancels-blank t
+      go false t = cancels-filled t

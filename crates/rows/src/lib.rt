@@ -49,6 +49,7 @@ fn words_sum(row: &[u8]) -> u32
 }
 
 // Whether a row's words add to 0 modulo 2^32 without all being 0 (number 10). A blank row is settled without its sum.
+#[tactic(auto, using(crate::proofs::Zeros::cancels_by))]
 pub fn row_cancels(row: &[u8]) -> bool
     ensures cancelling { result ≡ cancels row.now }
 {
