@@ -3,6 +3,9 @@
 
 ghost use Rattle.std.specs.Prelude.{◌≡◌, ◌≤◌, length};
 
+use std::io;
+use std::io::Read;
+
 // Room for a text. Its contract keeps the prover from writing out so long an array.
 fn blank() -> [u8; 524288]
     ensures { 524288 ≡ length result }
@@ -10,37 +13,39 @@ fn blank() -> [u8; 524288]
     [0; 524288]
 }
 
-fn print_case(text: &[u8]) {
+fn print_case(rt: &impl Print, text: &[u8]) -> io::Result<()> {
     let mut line = [0u8; 32];
     let k = dry::line_of(text, &mut line);
-    io::write_all(1, &line[..k]);
+    rt.write_all(&line[..k])
 }
 
-// Takes a text of so many bytes from standard input, and prints its line.
-fn take_case(length: usize)
+// Takes a text of so many bytes from the input, and prints its line.
+fn take_case(rt: &impl Print, input: &mut impl Read, length: usize) -> io::Result<()>
     requires { length ≤ 524288 }
 {
     let mut text = blank();
-    io::read_full(0, &mut text[..length]);
+    cases::read_full(input, &mut text[..length])?;
     // The line feed: a number without digits.
-    cases::read_number(0);
-    print_case(&text[..length]);
+    cases::read_number(input, 0)?;
+    print_case(rt, &text[..length])
 }
 
 // Reads a case and prints its line; false where the input has ended.
-fn next_case() -> bool {
-    let length = cases::read_number(524288);
+fn next_case(rt: &impl Print, input: &mut impl Read) -> io::Result<bool> {
+    let length = cases::read_number(input, 524288)?;
     if length.ended {
-        return false;
+        return Ok(false);
     }
-    take_case(length.value as usize);
-    true
+    take_case(rt, input, length.value as usize)?;
+    Ok(true)
 }
 
 // Nothing says that the input ends, so the turns are counted.
-fn main() {
+fn main(rt: HostRuntime) -> io::Result<()> {
+    let mut input = rt.stdin();
     let mut turns = u64::MAX;
-    while turns > 0 && next_case() {
+    while turns > 0 && next_case(&rt, &mut input)? {
         turns -= 1;
     }
+    Ok(())
 }

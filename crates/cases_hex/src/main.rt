@@ -4,50 +4,53 @@
 ghost use Rattle.std.specs.Prelude.{◌≡◌, ◌≤◌, length};
 
 use image::Header;
+use std::io;
+use std::io::Read;
 use text::ReadAnswer;
 
-fn print_space() {
-    io::write_all(1, b" ");
+fn print_space(rt: &impl Print) -> io::Result<()> {
+    rt.write_all(b" ")
 }
 
-fn print_number(n: u64) {
-    print_space();
-    io::print_decimal(1, n);
+fn print_number(rt: &impl Print, n: u64) -> io::Result<()> {
+    print_space(rt)?;
+    print!(rt; "{n}")
 }
 
-fn print_pair(b: u8) {
-    io::print_hex(1, b as u64, 2);
+fn print_pair(rt: &impl Print, b: u8) -> io::Result<()> {
+    print!(rt; "{b:02x}")
 }
 
-fn print_metadata(metadata: [u8; 12]) {
-    print_space();
+fn print_metadata(rt: &impl Print, metadata: [u8; 12]) -> io::Result<()> {
+    print_space(rt)?;
     let mut i: usize = 0;
     while i < 12 {
-        print_pair(metadata[i]);
+        print_pair(rt, metadata[i])?;
         i += 1;
     }
+    Ok(())
 }
 
-fn print_header(header: Header) {
+fn print_header(rt: &impl Print, header: Header) -> io::Result<()> {
     let metadata = header.metadata;
-    print_number(header.part as u64);
-    print_number(header.macros as u64);
-    print_number(header.sum as u64);
-    print_metadata(metadata);
-    print_number(header.level as u64);
+    print_number(rt, header.part as u64)?;
+    print_number(rt, header.macros as u64)?;
+    print_number(rt, header.sum as u64)?;
+    print_metadata(rt, metadata)?;
+    print_number(rt, header.level as u64)
 }
 
 // The line of a case: the number, the digest of the whole buffer and, where the text is taken, the header.
-fn print_line(answer: ReadAnswer, digest: u64) {
+fn print_line(rt: &impl Print, answer: ReadAnswer, digest: u64) -> io::Result<()> {
     let number = answer.number;
-    io::print_decimal(1, number as u64);
-    print_space();
-    io::print_hex(1, digest, 16);
+    print!(rt; "{number}")?;
+    print_space(rt)?;
+    print!(rt; "{digest:016x}")?;
     if number == 0 {
         let header = answer.header;
-        print_header(header);
+        print_header(rt, header)?;
     }
-    io::write_all(1, b"\n");
+    rt.write_all(b"\n")
 }
 
 // The buffer of a case, before the call. Its contract keeps the prover from writing out so long an array.
@@ -65,48 +68,59 @@ fn blank() -> [u8; 524288]
 }
 
 // Reads a text into the first `room` bytes of a fresh buffer, and prints what that gives.
-fn print_case(part: u8, macros: u8, room: usize, text: &[u8])
+fn print_case(rt: &impl Print, part: u8, macros: u8, room: usize, text: &[u8]) -> io::Result<()>
     requires { room ≤ 139264 }
 {
     let mut buffer = filled();
     let answer = hex_reader::read(part, macros, text, &mut buffer[..room]);
     let digest = cases::digest(&buffer);
-    print_line(answer, digest);
+    print_line(rt, answer, digest)
 }
 
-// Takes a text of so many bytes from standard input, and prints its line.
-fn take_case(part: u8, macros: u8, room: usize, length: usize)
+// Takes a text of so many bytes from the input, and prints its line.
+fn take_case(
+    rt: &impl Print,
+    input: &mut impl Read,
+    part: u8,
+    macros: u8,
+    room: usize,
+    length: usize,
+) -> io::Result<()>
     requires { (room ≤ 139264) × (length ≤ 524288) }
 {
     let mut text = blank();
-    io::read_full(0, &mut text[..length]);
+    cases::read_full(input, &mut text[..length])?;
     // The line feed: a number without digits.
-    cases::read_number(0);
-    print_case(part, macros, room, &text[..length]);
+    cases::read_number(input, 0)?;
+    print_case(rt, part, macros, room, &text[..length])
 }
 
 // Reads a case and prints its line; false where the input has ended.
-fn next_case() -> bool {
-    let part = cases::read_number(255);
-    let macros = cases::read_number(255);
-    let room = cases::read_number(139264);
-    let length = cases::read_number(524288);
+fn next_case(rt: &impl Print, input: &mut impl Read) -> io::Result<bool> {
+    let part = cases::read_number(input, 255)?;
+    let macros = cases::read_number(input, 255)?;
+    let room = cases::read_number(input, 139264)?;
+    let length = cases::read_number(input, 524288)?;
     if length.ended {
-        return false;
+        return Ok(false);
     }
     take_case(
+        rt,
+        input,
         part.value as u8,
         macros.value as u8,
         room.value as usize,
         length.value as usize,
-    );
-    true
+    )?;
+    Ok(true)
 }
 
 // Nothing says that the input ends, so the turns are counted.
-fn main() {
+fn main(rt: HostRuntime) -> io::Result<()> {
+    let mut input = rt.stdin();
     let mut turns = u64::MAX;
-    while turns > 0 && next_case() {
+    while turns > 0 && next_case(&rt, &mut input)? {
         turns -= 1;
     }
+    Ok(())
 }

@@ -10,6 +10,9 @@ mod reading;
 
 ghost use Rattle.std.specs.Prelude.{◌≡◌, ◌≤◌, length};
 
+use std::io;
+use std::io::Read;
+
 // Room for an image, or the flash of any part.
 pub(crate) fn blank_image() -> [u8; 131200]
     ensures { 131200 ≡ length result }
@@ -24,23 +27,25 @@ pub(crate) fn at_most(n: usize, most: usize) -> usize
 }
 
 // Reads a case and prints its line; false where the input has ended.
-fn next_case() -> bool {
-    let part = cases::read_number(255);
+fn next_case(rt: &impl Print, input: &mut impl Read) -> io::Result<bool> {
+    let part = cases::read_number(input, 255)?;
     if part.ended {
-        return false;
+        return Ok(false);
     }
-    let c = reading::read_case(part.value as u8);
+    let c = reading::read_case(input, part.value as u8)?;
     let mut image = blank_image();
     filling::fill(&mut image, c.seed);
     let size = at_most(c.length as usize, 131200);
-    play::print_case(c, &image[..size]);
-    true
+    play::print_case(rt, c, &image[..size])?;
+    Ok(true)
 }
 
 // Nothing says that the input ends, so the turns are counted.
-fn main() {
+fn main(rt: HostRuntime) -> io::Result<()> {
+    let mut input = rt.stdin();
     let mut turns = u64::MAX;
-    while turns > 0 && next_case() {
+    while turns > 0 && next_case(&rt, &mut input)? {
         turns -= 1;
     }
+    Ok(())
 }

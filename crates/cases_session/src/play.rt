@@ -8,6 +8,7 @@ use bench_calls::Registers;
 use flow::{Answer, Packet};
 use parts::{Geometry, Lookup};
 use session::{Given, Outcome, Session};
+use std::io;
 
 // A session, its board's registers and its standing request.
 #[derive(Clone, Copy)]
@@ -100,14 +101,14 @@ fn played(
 }
 
 // One step more after the report: what it gives is printed.
-fn print_last(bench: Bench, image: &[u8]) {
+fn print_last(rt: &impl Print, bench: Bench, image: &[u8]) -> io::Result<()> {
     let s = bench.session;
     let given = session::step(s, image, Answer::ResetDone);
     let o = given.outcome;
     match o {
-        Outcome::Reported(r) => printing::print_report(r, bench.digest),
-        Outcome::Refused(n) => printing::print_refusal(n),
-        Outcome::Ask(_) => printing::print_refusal(0),
+        Outcome::Reported(r) => printing::print_report(rt, r, bench.digest),
+        Outcome::Refused(n) => printing::print_refusal(rt, n),
+        Outcome::Ask(_) => printing::print_refusal(rt, 0),
     }
 }
 
@@ -148,7 +149,13 @@ fn sizes_of(g: Geometry) -> Sizes
 }
 
 // The board's memory has the sizes of its part.
-fn play_from(first: Bench, g: Geometry, overrides: Overrides, image: &[u8]) {
+fn play_from(
+    rt: &impl Print,
+    first: Bench,
+    g: Geometry,
+    overrides: Overrides,
+    image: &[u8],
+) -> io::Result<()> {
     let sizes = sizes_of(g);
     let size = sizes.flash;
     let total = sizes.locks;
@@ -169,11 +176,11 @@ fn play_from(first: Bench, g: Geometry, overrides: Overrides, image: &[u8]) {
         &mut params[..words],
         b"",
     );
-    print_last(last, image);
+    print_last(rt, last, image)
 }
 
 // A session that has started, on the board of its part.
-fn play_on(c: Case, s: Session, packet: Packet, image: &[u8]) {
+fn play_on(rt: &impl Print, c: Case, s: Session, packet: Packet, image: &[u8]) -> io::Result<()> {
     let h = c.header;
     let overrides = c.overrides;
     let found = parts::find(h.part, h.macros);
@@ -186,19 +193,19 @@ fn play_on(c: Case, s: Session, packet: Packet, image: &[u8]) {
         finished: false,
     };
     match found {
-        Lookup::Found(g) => play_from(first, g, overrides, image),
-        Lookup::Refused(n) => printing::print_refusal(n),
+        Lookup::Found(g) => play_from(rt, first, g, overrides, image),
+        Lookup::Refused(n) => printing::print_refusal(rt, n),
     }
 }
 
-pub(crate) fn print_case(c: Case, image: &[u8]) {
+pub(crate) fn print_case(rt: &impl Print, c: Case, image: &[u8]) -> io::Result<()> {
     let h = c.header;
     let given = session::start(h, image, c.leave);
     let s = given.session;
     let o = given.outcome;
     match o {
-        Outcome::Refused(n) => printing::print_refusal(n),
-        Outcome::Ask(packet) => play_on(c, s, packet, image),
-        Outcome::Reported(_) => printing::print_refusal(0),
+        Outcome::Refused(n) => printing::print_refusal(rt, n),
+        Outcome::Ask(packet) => play_on(rt, c, s, packet, image),
+        Outcome::Reported(_) => printing::print_refusal(rt, 0),
     }
 }

@@ -1,5 +1,7 @@
 // The cases, read from standard input (tests/vectors/README.md).
 use image::Header;
+use std::io;
+use std::io::Read;
 
 // Answers that stand in the place of the board's own.
 #[derive(Clone, Copy)]
@@ -30,14 +32,14 @@ pub struct Case {
     pub overrides: Overrides,
 }
 
-fn number() -> u32 {
-    let n = cases::read_number(0xFFFFFFFF);
-    n.value
+fn number(input: &mut impl Read) -> io::Result<u32> {
+    let n = cases::read_number(input, 0xFFFFFFFF)?;
+    Ok(n.value)
 }
 
-fn small() -> u8 {
-    let n = cases::read_number(255);
-    n.value as u8
+fn small(input: &mut impl Read) -> io::Result<u8> {
+    let n = cases::read_number(input, 255)?;
+    Ok(n.value as u8)
 }
 
 // An override that covers no transfer.
@@ -54,56 +56,56 @@ pub(crate) fn no_override() -> Override {
 }
 
 // The next override of a case, where it has one more.
-fn read_override(there: bool) -> Override {
+fn read_override(input: &mut impl Read, there: bool) -> io::Result<Override> {
     if !there {
-        return no_override();
+        return Ok(no_override());
     }
-    Override {
-        at: number(),
-        stride: number(),
-        count: number(),
-        carried: number() == 1,
-        ack: small(),
-        word: number(),
-        parity: small(),
-    }
+    Ok(Override {
+        at: number(input)?,
+        stride: number(input)?,
+        count: number(input)?,
+        carried: number(input)? == 1,
+        ack: small(input)?,
+        word: number(input)?,
+        parity: small(input)?,
+    })
 }
 
 // The metadata: version, high byte first, silicon ID, six bytes 0.
-fn read_metadata() -> [u8; 12] {
-    let version = number();
+fn read_metadata(input: &mut impl Read) -> io::Result<[u8; 12]> {
+    let version = number(input)?;
     let mut metadata = [0u8; 12];
     metadata[0] = (version / 256 % 256) as u8;
     metadata[1] = (version % 256) as u8;
-    metadata[2] = small();
-    metadata[3] = small();
-    metadata[4] = small();
-    metadata[5] = small();
-    metadata
+    metadata[2] = small(input)?;
+    metadata[3] = small(input)?;
+    metadata[4] = small(input)?;
+    metadata[5] = small(input)?;
+    Ok(metadata)
 }
 
-pub(crate) fn read_case(part: u8) -> Case {
-    let macros = small();
-    let size = cases::read_number(131200);
-    let seed = number();
-    let sum = cases::read_number(65535);
-    let metadata = read_metadata();
+pub(crate) fn read_case(input: &mut impl Read, part: u8) -> io::Result<Case> {
+    let macros = small(input)?;
+    let size = cases::read_number(input, 131200)?;
+    let seed = number(input)?;
+    let sum = cases::read_number(input, 65535)?;
+    let metadata = read_metadata(input)?;
     let header = Header {
         part: part,
         macros: macros,
         sum: sum.value as u16,
         metadata: metadata,
-        level: small(),
+        level: small(input)?,
     };
-    let leave = number() == 1;
-    let stored = small();
-    let privileged = number();
-    let count = number();
+    let leave = number(input)? == 1;
+    let stored = small(input)?;
+    let privileged = number(input)?;
+    let count = number(input)?;
     let overrides = Overrides {
-        first: read_override(1 <= count),
-        second: read_override(2 <= count),
+        first: read_override(input, 1 <= count)?,
+        second: read_override(input, 2 <= count)?,
     };
-    Case {
+    Ok(Case {
         header: header,
         length: size.value,
         seed: seed,
@@ -111,5 +113,5 @@ pub(crate) fn read_case(part: u8) -> Case {
         stored: stored,
         privileged: privileged,
         overrides: overrides,
-    }
+    })
 }
