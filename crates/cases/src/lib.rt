@@ -46,7 +46,7 @@ fn grown(value: u32, digit: u32, most: u32) -> u32
     }
 }
 
-// The input's next number, with the byte after it; at most `most`.
+// The input's next number, with the byte after it; at most `most`. An Err is the input's own, and what was read until then is lost.
 pub fn read_number(input: &mut impl Read, most: u32) -> io::Result<Number>
     ensures bounded { IfOk result (λ n. n.value ≤ most) }
 {
@@ -69,7 +69,8 @@ pub fn read_number(input: &mut impl Read, most: u32) -> io::Result<Number>
     })
 }
 
-// Reads until the buffer is full or the input ends, and gives how many bytes it put at the buffer's start.
+// Reads until the buffer is full or the input ends, and gives how many bytes it put at the buffer's start. An Err is the input's own; then
+// nothing is said of the buffer's bytes.
 pub fn read_full(input: &mut impl Read, buf: &mut [u8]) -> io::Result<usize>
     ensures within { IfOk result (λ n. n ≤ length buf.new) }
 {
