@@ -73,6 +73,7 @@ pub fn read_number(input: &mut impl Read, most: u32) -> io::Result<Number>
 // nothing is said of the buffer's bytes.
 pub fn read_full(input: &mut impl Read, buf: &mut [u8]) -> io::Result<usize>
     ensures within { IfOk result (λ n. n ≤ length buf.new) }
+    ensures kept { length buf.new ≡ length buf.old }
 {
     let mut done: usize = 0;
     while done < buf.len() {
