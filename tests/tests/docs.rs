@@ -161,12 +161,12 @@ fn first_errors_are_as_said() {
         let gate = root().join(format!("crates/{of}/must-fail/{name}.edit"));
         assert!(gate.exists(), "{edit} is outside the gate");
         assert!(root().join("crates").join(file).exists(), "{edit}: no {file}");
-        let Some(line) = log.lines().find(|l| l.contains(&format!("must-fail {edit}:"))) else {
+        let Some(line) = log.lines().find(|l| l.contains(&format!("must-fail {edit}.edit: "))) else {
             assert!(log.is_empty(), "{edit} is not in the gate's log");
             continue;
         };
         let at = file.strip_prefix(&format!("{of}/")).unwrap();
-        assert!(line.contains(&format!("(first at {at}:")), "{edit}: {line}");
+        assert!(line.contains(&format!("{at}:")), "{edit}: {line}");
     }
 }
 
