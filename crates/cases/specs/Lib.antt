@@ -1,1 +1,2 @@
 pub mod Fnv
+pub mod Reads

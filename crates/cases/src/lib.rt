@@ -1,14 +1,16 @@
-// What the programs that print cases share: numbers of standard input, a digest of bytes (tests/vectors/README.md).
-// No contract can say what is read.
+// What the programs share: numbers and bytes of an input, a digest of bytes (tests/vectors/README.md). No contract can say what standard input
+// gives; of an input whose bytes are known, `read_full` says which it read.
 #![tactic(auto)]
 
-ghost use Rattle.std.specs.Prelude.{◌≡◌, ◌*◌, ◌%◌, ◌^◌, ◌≤◌, length, IfOk};
+ghost use Rattle.std.specs.Io.KnownBytes.{Consumes, IsAtEnd};
+ghost use Rattle.std.specs.Prelude.{◌≡◌, ◌*◌, ◌%◌, ◌^◌, ◌<◌, ◌≤◌, length, take, IfOk, OnErr};
 ghost use Rattle.cases.specs.Fnv.{fnv_step, fnv};
+ghost use Rattle.cases.specs.Reads.{ReadBefore, TakesAtMost};
 
 use std::io;
 use std::io::Read;
 
-// A number of standard input; `ended` where the input ended before the byte after its last digit.
+// A number of an input; `ended` where the input ended before the byte after its last digit.
 #[derive(Clone, Copy)]
 pub struct Number {
     pub ended: bool,
@@ -16,8 +18,9 @@ pub struct Number {
 }
 
 // The value of the input's next byte: 0 to 9, 10 for a byte that is no digit, 11 at the end.
-fn digit(input: &mut impl Read) -> io::Result<u32>
-    ensures { IfOk result (λ d. d ≤ 11) }
+fn digit<R: Read>(input: &mut R) -> io::Result<u32>
+    ensures value { IfOk result (λ d. d ≤ 11) }
+    ensures taken { TakesAtMost 1 (R.remaining input.old) (R.remaining input.new) }
 {
     let mut one = [0u8; 1];
     let got = input.read(&mut one)?;
@@ -47,8 +50,9 @@ fn grown(value: u32, digit: u32, most: u32) -> u32
 }
 
 // The input's next number, with the byte after it; at most `most`. An Err is the input's own, and what was read until then is lost.
-pub fn read_number(input: &mut impl Read, most: u32) -> io::Result<Number>
+pub fn read_number<R: Read>(input: &mut R, most: u32) -> io::Result<Number>
     ensures bounded { IfOk result (λ n. n.value ≤ most) }
+    ensures taken { TakesAtMost 20 (R.remaining input.old) (R.remaining input.new) }
 {
     let mut value: u32 = 0;
     let mut left: u32 = 20;
@@ -69,17 +73,20 @@ pub fn read_number(input: &mut impl Read, most: u32) -> io::Result<Number>
     })
 }
 
-// Reads until the buffer is full or the input ends, and gives how many bytes it put at the buffer's start. An Err is the input's own; then
-// nothing is said of the buffer's bytes.
-pub fn read_full(input: &mut impl Read, buf: &mut [u8]) -> io::Result<usize>
+// Reads until the buffer is full or the input ends, and gives how many bytes it put at the buffer's start. An Err is the input's own: what was
+// read before it stands at the buffer's start.
+pub fn read_full<R: Read>(input: &mut R, buf: &mut [u8]) -> io::Result<usize>
     ensures within { IfOk result (λ n. n ≤ length buf.new) }
+    ensures bytes { IfOk result (λ n. Consumes (R.remaining input.old) (R.remaining input.new) (take n buf.new)) }
+    ensures end { IfOk result (λ n. n < length buf.new → IsAtEnd (R.remaining input.new)) }
+    ensures err { OnErr result (ReadBefore (R.remaining input.old) (R.remaining input.new) buf.new) }
     ensures kept { length buf.new ≡ length buf.old }
 {
     let mut done: usize = 0;
     while done < buf.len() {
         let n = input.read(&mut buf[done..])?;
         if n == 0 {
-            break;
+            return Ok(done);
         }
         done += n;
     }
