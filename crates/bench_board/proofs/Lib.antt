@@ -1,2 +1,1 @@
 pub mod Wording
-pub mod Meeting

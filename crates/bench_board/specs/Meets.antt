@@ -1,14 +1,14 @@
 -- What `meet` promises, then what the functions under it do, in the words of flow's definitions. Assumes nothing.
-use Rattle.std.specs.Prelude.{Bool, cond, List, [], ◌∷◌, ◌≡◌, ℕ}
+use Rattle.std.specs.Prelude.{Bool, cond, List, [], ◌∷◌, ◌≡◌, ℕ, Option}
 use Rattle.bench_calls.specs.Board.{Buffers, ResidueBytes, call_outcome_of, target_of}
 use Rattle.bench_effects.specs.declared.Act.TheVariants.{Keep}
+use Rattle.bench_calls.specs.declared.Call.{Call}
 use Rattle.bench_calls.specs.declared.CallOutcome.{CallOutcome}
 use Rattle.bench_board.specs.declared.Decision.{Decision}
 use Rattle.flow.specs.declared.LineEvent.{LineEvent}
 use Rattle.bench_calls.specs.declared.Change.{Change}
 use Rattle.bench_board.specs.declared.Met.{Met}
 use Rattle.bench_calls.specs.declared.Registers.{Registers}
-use Rattle.bench_calls.specs.declared.Running.{Running}
 use Rattle.flow.specs.declared.Place.{Place}
 use Rattle.bench_effects.specs.Acts.{buffers_after}
 use Rattle.flow.specs.Exchange as Flow
@@ -44,7 +44,7 @@ abbrev pub keeping : Registers → Change
 keeping r = record { registers = r; act = Keep }
 
 -- another SYSREQ, another posted word, and this under way
-abbrev pub asking : (sysreq : ℕ) → (posted : ℕ) → Running → Registers → Registers
+abbrev pub asking : (sysreq : ℕ) → (posted : ℕ) → Option Call → Registers → Registers
 asking w p k r = record {
   silicon = r.silicon;
   stored = r.stored;

@@ -1,21 +1,30 @@
 // The plain board of document 01 as code: registers by value, memory lent, one call for each request.
 #![tactic(auto)]
 
-ghost use Rattle.std.specs.Prelude.{◌≡◌};
+ghost use Rattle.std.specs.Prelude.{Some, ◌≡◌};
 ghost use Rattle.bench_calls.specs.Board.{lent, residue_bytes, target_of};
 ghost use Rattle.bench_board.specs.Meets.{buffers_read, Decides, lists_of, met_of};
 ghost use Rattle.flow.specs.Exchange.{meet_on};
 ghost use Rattle.flow.specs.Exchange as Flow;
-ghost use Rattle.flow.specs.declared.Decoded.TheVariants.{Known};
 
 mod transfers;
 mod words;
 
 use bench_calls::{CallOutcome, Change, Registers};
-use flow::{Answer, Decoded, LineEvent, Packet, Request};
+use bench_memory::{Memory, Residue};
+use flow::{Answer, LineEvent, Packet, Request};
 use parts::Geometry;
 
+// The lent buffers that a request reads.
+#[derive(Clone, Copy)]
+struct Buffers<'a> {
+    flash: &'a [u8],
+    locks: &'a [u8],
+    params: &'a [u32],
+}
+
 // How a packet is met, before the memory is written.
+// Kept: no plainer: one type for this and Met would hold registers with or without an act, which no name fits.
 #[derive(Clone, Copy)]
 struct Decision {
     change: Change,
@@ -25,6 +34,7 @@ struct Decision {
 }
 
 // How a packet was met: the registers after it, the answer, and whether the event and the outcome were used.
+// Kept: no plainer: no value hangs on either flag, and both go out in one byte of an answer (bench_c's `used_of`).
 #[derive(Clone, Copy)]
 pub struct Met {
     pub registers: Registers,
@@ -34,17 +44,16 @@ pub struct Met {
 }
 
 // How a known request is met.
+// Kept: no plainer: a match on a closed enum, with a function where the requests differ.
 fn meet_request(
     g: Geometry,
     r: Registers,
-    flash: &[u8],
-    locks: &[u8],
-    params: &[u32],
+    buffers: Buffers<'_>,
     q: Request,
     e: LineEvent,
     o: CallOutcome,
 ) -> Decision
-    ensures { Decides (buffers_read flash.now locks.now params.now) r e o result (λ l t. meet_on g (Known q) l t) }
+    ensures { Decides (buffers_read buffers.entry.flash.now buffers.entry.locks.now buffers.entry.params.now) r e o result (λ l t. meet_on g (Some q) l t) }
 {
     match q {
         Request::Xres => Decision {
@@ -59,34 +68,27 @@ fn meet_request(
             line_used: false,
             call_used: false,
         },
-        Request::ReadIdcode => transfers::transfer(g, r, flash, locks, params, q, e, o),
-        Request::ReadDrw => transfers::transfer(g, r, flash, locks, params, q, e, o),
-        Request::WriteTar(_) => transfers::transfer(g, r, flash, locks, params, q, e, o),
-        Request::WriteDrw(_) => transfers::transfer(g, r, flash, locks, params, q, e, o),
-        Request::WriteSetup(_, _) => transfers::transfer(g, r, flash, locks, params, q, e, o),
+        _ => transfers::transfer(g, r, buffers, q, e, o),
     }
 }
 
 // How a packet is met; one that is no request is met by silence.
+#[tactic(auto, unfolding(flow::specs::Exchange::meet))]
 fn decide(
     g: Geometry,
     r: Registers,
-    flash: &[u8],
-    locks: &[u8],
-    params: &[u32],
+    buffers: Buffers<'_>,
     p: Packet,
     e: LineEvent,
     o: CallOutcome,
 ) -> Decision
-    ensures { Decides (buffers_read flash.now locks.now params.now) r e o result (λ l t. Flow.meet g p l t) }
+    ensures { Decides (buffers_read buffers.entry.flash.now buffers.entry.locks.now buffers.entry.params.now) r e o result (λ l t. Flow.meet g p l t) }
 {
-    let filler = e.filler;
-    let d = bench_packets::request_in(p);
-    match d {
-        Decoded::Known(q) => meet_request(g, r, flash, locks, params, q, e, o),
-        Decoded::Unknown => Decision {
+    match bench_packets::request_in(p) {
+        Some(q) => meet_request(g, r, buffers, q, e, o),
+        None => Decision {
             change: words::keep(r),
-            answer: Answer::Transferred(bench_lines::silent_reply(filler)),
+            answer: Answer::Transferred(bench_lines::silent_reply(e.filler)),
             line_used: true,
             call_used: false,
         },
@@ -97,38 +99,42 @@ fn decide(
 pub fn meet(
     g: Geometry,
     r: Registers,
-    flash: &mut [u8],
-    locks: &mut [u8],
-    latch: &mut [u8],
-    params: &mut [u32],
-    residue_flash: &[u8],
-    residue_locks: &[u8],
-    residue_latch: &[u8],
+    memory: Memory<'_>,
+    residue: Residue<'_>,
     p: Packet,
     e: LineEvent,
     o: CallOutcome,
 ) -> Met
-    ensures met { met_of (residue_bytes residue_flash.now residue_locks.now residue_latch.now) e o result (lent flash.new locks.new latch.new params.new) ≡ Flow.meet g p (lists_of (residue_bytes residue_flash.now residue_locks.now residue_latch.now) e o) (target_of (residue_bytes residue_flash.now residue_locks.now residue_latch.now) r (lent flash.old locks.old latch.old params.old)) }
+    ensures met { met_of (residue_bytes residue.entry.flash.now residue.entry.locks.now residue.entry.latch.now) e o result (lent memory.exit.0.now memory.exit.1.0.now memory.exit.1.1.0.now memory.exit.1.1.1.0.now) ≡ Flow.meet g p (lists_of (residue_bytes residue.entry.flash.now residue.entry.locks.now residue.entry.latch.now) e o) (target_of (residue_bytes residue.entry.flash.now residue.entry.locks.now residue.entry.latch.now) r (lent memory.entry.flash.now memory.entry.locks.now memory.entry.latch.now memory.entry.params.now)) }
 {
-    let d = decide(g, r, flash, locks, params, p, e, o);
-    let n = d.change;
-    let registers = n.registers;
-    let act = n.act;
-    let answer = d.answer;
-    bench_memory::perform(
-        act,
+    let Memory {
         flash,
         locks,
         latch,
         params,
-        residue_flash,
-        residue_locks,
-        residue_latch,
-    );
+    } = memory;
+    let buffers = Buffers {
+        flash,
+        locks,
+        params,
+    };
+    let Decision {
+        change: Change { registers, act },
+        answer,
+        line_used,
+        call_used,
+    } = decide(g, r, buffers, p, e, o);
+    let memory = Memory {
+        flash,
+        locks,
+        latch,
+        params,
+    };
+    bench_memory::perform(act, memory, residue);
     Met {
-        registers: registers,
-        answer: answer,
-        line_used: d.line_used,
-        call_used: d.call_used,
+        registers,
+        answer,
+        line_used,
+        call_used,
     }
 }

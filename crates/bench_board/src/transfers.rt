@@ -1,45 +1,34 @@
 // How the board meets a transfer: whether it is carried out, and its answer (document 01, 'The plain board').
 ghost use Rattle.std.specs.Prelude.{◌&&◌, not, ◌≡◌, eqb};
-ghost use Rattle.bench_calls.specs.Ends.{Makes};
 ghost use Rattle.bench_board.specs.Meets.{buffers_read, carried, Decides, Carries, Gives, Calls, Replies};
 ghost use Rattle.flow.specs.Exchange.{carried_out, transferred};
-ghost use Rattle.flow.specs.Target.{set_tar};
 
-use crate::{Decision, words};
+use crate::{Buffers, Decision, words};
 use bench_calls::{CallOutcome, Change, Registers};
 use flow::{Answer, LineEvent, Place, Reply, Request, TransferOutcome};
-use parts::Geometry;
-
-fn write_tar(r: Registers, a: u32) -> Change
-    ensures { Makes r result (λ x t. set_tar a t) }
-{
-    let mut s = r;
-    s.tar = a;
-    words::keep(s)
-}
+use parts::{Geometry, Level};
 
 // A request carried out.
+// Kept: no plainer: a match on a closed enum, with a function where the requests differ.
+#[tactic(auto, unfolding(flow::specs::Exchange::carry))]
 fn carry_out(
     g: Geometry,
     r: Registers,
-    flash: &[u8],
-    locks: &[u8],
-    params: &[u32],
+    buffers: Buffers<'_>,
     q: Request,
     other: u32,
     o: CallOutcome,
     at: Place,
 ) -> Change
-    ensures { Carries g (buffers_read flash.now locks.now params.now) (carried q other o) at r result }
+    ensures { Carries g (buffers_read buffers.entry.flash.now buffers.entry.locks.now buffers.entry.params.now) (carried q other o) at r result }
 {
     match q {
-        Request::Xres => words::keep(r),
-        Request::LineReset => words::keep(r),
-        Request::ReadIdcode => words::keep(r),
-        Request::ReadDrw => words::read_word(g, r, flash, locks, params, other, at),
-        Request::WriteTar(a) => write_tar(r, a),
+        Request::ReadDrw => words::read_word(g, r, buffers, other, at),
+        Request::WriteTar(tar) => words::keep(Registers { tar, ..r }),
         Request::WriteDrw(w) => words::write_word(r, w, o, at),
-        Request::WriteSetup(_, _) => words::keep(r),
+        Request::Xres | Request::LineReset | Request::ReadIdcode | Request::WriteSetup(_, _) => {
+            words::keep(r)
+        }
     }
 }
 
@@ -47,15 +36,10 @@ fn carry_out(
 fn given_word(r: Registers, q: Request) -> u32
     ensures { Gives q r result }
 {
-    let s = r.silicon;
     match q {
-        Request::Xres => 0,
-        Request::LineReset => 0,
-        Request::ReadIdcode => s.idcode,
+        Request::ReadIdcode => r.silicon.idcode,
         Request::ReadDrw => r.posted,
-        Request::WriteTar(_) => 0,
-        Request::WriteDrw(_) => 0,
-        Request::WriteSetup(_, _) => 0,
+        _ => 0,
     }
 }
 
@@ -64,78 +48,64 @@ fn starts_call(q: Request, at: Place) -> bool
     ensures { Calls q at result }
 {
     match q {
-        Request::Xres => false,
-        Request::LineReset => false,
-        Request::ReadIdcode => false,
-        Request::ReadDrw => false,
-        Request::WriteTar(_) => false,
         Request::WriteDrw(w) => bench_map::is_call(w, at),
-        Request::WriteSetup(_, _) => false,
+        _ => false,
     }
+}
+
+// Whether KILL is in effect.
+fn is_killed(effect: u8) -> bool
+    ensures { result ≡ eqb effect 4 }
+{
+    matches!(parts::read_level(effect), Level::Kill)
 }
 
 // The answer to a transfer.
 fn answer(r: Registers, q: Request, e: LineEvent, barred: bool) -> Reply
     ensures { Replies q e barred r result }
 {
-    let filler = e.filler;
-    let outcome = e.outcome;
-    if r.effect == 4 {
-        return bench_lines::silent_reply(filler);
+    if is_killed(r.effect) {
+        return bench_lines::silent_reply(e.filler);
     }
-    bench_lines::reply_to(
-        outcome,
-        barred,
-        requests::is_read(q),
-        given_word(r, q),
-        filler,
-    )
+    let word = given_word(r, q);
+    bench_lines::reply_to(e.outcome, barred, requests::is_read(q), word, e.filler)
 }
 
 // Whether a transfer is carried out: the board is not KILLed, the place not shut, and the line lets it through.
 fn goes_through(effect: u8, barred: bool, outcome: TransferOutcome) -> bool
     ensures { result ≡ (not (eqb effect 4) && not barred && carried_out outcome) }
 {
-    if effect == 4 {
-        return false;
-    }
-    if barred {
-        return false;
-    }
-    bench_lines::carries_out(outcome)
+    !is_killed(effect) && !barred && bench_lines::carries_out(outcome)
 }
 
 // A transfer, met.
+#[tactic(auto, unfolding(flow::specs::Exchange::transferred, flow::specs::Exchange::barred))]
 pub(crate) fn transfer(
     g: Geometry,
     r: Registers,
-    flash: &[u8],
-    locks: &[u8],
-    params: &[u32],
+    buffers: Buffers<'_>,
     q: Request,
     e: LineEvent,
     o: CallOutcome,
 ) -> Decision
-    ensures { Decides (buffers_read flash.now locks.now params.now) r e o result (λ l t. transferred g q l t) }
+    ensures { Decides (buffers_read buffers.entry.flash.now buffers.entry.locks.now buffers.entry.params.now) r e o result (λ l t. transferred g q l t) }
 {
     let at = bench_map::place_of(g, r.tar);
     let barred = bench_map::bars(r.effect, q, at);
-    let outcome = e.outcome;
     let reply = answer(r, q, e, barred);
-    if goes_through(r.effect, barred, outcome) {
-        let n = carry_out(g, r, flash, locks, params, q, e.other, o, at);
-        let starts = starts_call(q, at);
-        return Decision {
-            change: n,
+    if goes_through(r.effect, barred, e.outcome) {
+        Decision {
+            change: carry_out(g, r, buffers, q, e.other, o, at),
             answer: Answer::Transferred(reply),
             line_used: true,
-            call_used: starts,
-        };
-    }
-    Decision {
-        change: words::keep(r),
-        answer: Answer::Transferred(reply),
-        line_used: true,
-        call_used: false,
+            call_used: starts_call(q, at),
+        }
+    } else {
+        Decision {
+            change: words::keep(r),
+            answer: Answer::Transferred(reply),
+            line_used: true,
+            call_used: false,
+        }
     }
 }

@@ -4,9 +4,10 @@ ghost use Rattle.bench_calls.specs.Board.{call_outcome_of, running_of};
 ghost use Rattle.bench_calls.specs.Ends.{Makes, MakesOf, Alters};
 ghost use Rattle.bench_board.specs.Meets.{keeping, asking, buffers_read, MakesIn};
 ghost use Rattle.flow.specs.Exchange.{level_word_of, tick, fetch, is_call, begin, store};
-ghost use Rattle.flow.specs.Target.{set_posted, set_sysarg, set_test_mode};
+ghost use Rattle.flow.specs.Target.{set_posted};
 
-use bench_calls::{CallOutcome, Change, Registers, Running};
+use crate::Buffers;
+use bench_calls::{Call, CallOutcome, Change, Registers};
 use bench_effects::Act;
 use flow::Place;
 use parts::Geometry;
@@ -22,43 +23,42 @@ pub(crate) fn keep(r: Registers) -> Change
 }
 
 // A word posted.
+// Kept: what may not change: `Makes` is one definition already, and what the promises of a transfer conclude from.
 fn post(r: Registers, w: u32) -> Change
     ensures { Makes r result (λ x t. set_posted w t) }
 {
-    let mut s = r;
-    s.posted = w;
-    keep(s)
+    keep(Registers { posted: w, ..r })
 }
 
 // What SYSREQ holds, posted.
 fn post_sysreq(n: Change) -> Change
     ensures { Alters n result (λ t. set_posted n.registers.sysreq t) }
 {
-    let mut s = n.registers;
-    let act = n.act;
-    s.posted = s.sysreq;
+    let r = n.registers;
     Change {
-        registers: s,
-        act: act,
+        registers: Registers {
+            posted: r.sysreq,
+            ..r
+        },
+        ..n
     }
 }
 
 // The stored level with 0 and 1 exchanged.
+// Kept: what may not change: any low digit may be stored, and is shown; Level::Unknown has no way back.
 fn shown_level(stored: u8) -> u32
-    ensures fact_1 { result ≡ cond (eqb (stored % 16) 0) 1 (cond (eqb (stored % 16) 1) 0 (stored % 16)) }
-    ensures fact_2 { result < 16 }
+    ensures shown { result ≡ cond (eqb (stored % 16) 0) 1 (cond (eqb (stored % 16) 1) 0 (stored % 16)) }
+    ensures bounded { result < 16 }
 {
-    let level = stored % 16;
-    if level == 0 {
-        return 1;
+    match stored % 16 {
+        0 => 1,
+        1 => 0,
+        level => u32::from(level),
     }
-    if level == 1 {
-        return 0;
-    }
-    level as u32
 }
 
 // The stored level as step 8 reads it; the other bits are any.
+// Kept: no plainer: the digit lies inside a byte, so the word is spelled as the definition spells it.
 fn level_word(stored: u8, other: u32) -> u32
     ensures { result ≡ level_word_of (stored % 16) other }
 {
@@ -66,20 +66,14 @@ fn level_word(stored: u8, other: u32) -> u32
 }
 
 // Another SYSREQ, another posted word, and what is under way.
-fn ask(r: Registers, sysreq: u32, posted: u32, running: Running) -> Change
+fn ask(r: Registers, sysreq: u32, posted: u32, running: Option<Call>) -> Change
     ensures { result ≡ keeping (asking sysreq posted running r) }
 {
-    let silicon = r.silicon;
     keep(Registers {
-        silicon: silicon,
-        stored: r.stored,
-        effect: r.effect,
-        sysarg: r.sysarg,
-        sysreq: sysreq,
-        test_mode: r.test_mode,
-        tar: r.tar,
-        posted: posted,
-        running: running,
+        sysreq,
+        posted,
+        running,
+        ..r
     })
 }
 
@@ -87,67 +81,53 @@ fn ask(r: Registers, sysreq: u32, posted: u32, running: Running) -> Change
 fn one_less(o: CallOutcome) -> CallOutcome
     ensures { result ≡ record { busy_reads = o.busy_reads - 1; succeeds = o.succeeds; sysarg = o.sysarg; new_level = o.new_level } }
 {
-    let mut p = o;
-    p.busy_reads = if 0 < o.busy_reads {
-        o.busy_reads - 1
-    } else {
-        0
-    };
-    p
+    CallOutcome {
+        busy_reads: o.busy_reads.saturating_sub(1),
+        ..o
+    }
 }
 
 // A read of SYSREQ while a call is under way: busy, or the call takes effect there.
-fn tick_busy(
-    g: Geometry,
-    r: Registers,
-    flash: &[u8],
-    params: &[u32],
-    other: u32,
-    o: CallOutcome,
-    c: u8,
-) -> Change
-    ensures { MakesOf flash.now params.now r result (λ x t. tick g other (running_of x (Running.Busy o c)) t) }
+fn tick_busy(g: Geometry, r: Registers, buffers: Buffers<'_>, other: u32, call: Call) -> Change
+    ensures { MakesOf buffers.entry.flash.now buffers.entry.params.now r result (λ x t. tick g other (running_of x (Some call)) t) }
 {
-    if o.busy_reads == 0 {
-        return post_sysreq(bench_calls::complete(g, r, flash, params, o, c));
+    if call.outcome.busy_reads == 0 {
+        return post_sysreq(bench_calls::complete(g, r, buffers.flash, buffers.params, call));
     }
-    ask(
-        r,
-        r.sysreq,
-        0x80000000 + other % 0x80000000,
-        Running::Busy(one_less(o), c),
-    )
+    let running = Some(Call {
+        outcome: one_less(call.outcome),
+        ..call
+    });
+    ask(r, r.sysreq, 0x80000000 + other % 0x80000000, running)
 }
 
 // A read of SYSREQ.
-fn read_sysreq(g: Geometry, r: Registers, flash: &[u8], params: &[u32], other: u32) -> Change
-    ensures { MakesOf flash.now params.now r result (λ x t. tick g other t.running t) }
+fn read_sysreq(g: Geometry, r: Registers, buffers: Buffers<'_>, other: u32) -> Change
+    ensures { MakesOf buffers.entry.flash.now buffers.entry.params.now r result (λ x t. tick g other t.running t) }
 {
-    let running = r.running;
-    match running {
-        Running::Idle => post(r, r.sysreq),
-        Running::Busy(o, c) => tick_busy(g, r, flash, params, other, o, c),
+    match r.running {
+        None => post(r, r.sysreq),
+        Some(call) => tick_busy(g, r, buffers, other, call),
     }
 }
 
 // A DRW read posts the word at TAR.
+// Kept: no plainer: a match on a closed enum, each place with its own word; the same below, of writes.
 pub(crate) fn read_word(
     g: Geometry,
     r: Registers,
-    flash: &[u8],
-    locks: &[u8],
-    params: &[u32],
+    buffers: Buffers<'_>,
     other: u32,
     at: Place,
 ) -> Change
-    ensures { MakesIn (buffers_read flash.now locks.now params.now) r result (λ x t. fetch g other at t) }
+    ensures { MakesIn (buffers_read buffers.entry.flash.now buffers.entry.locks.now buffers.entry.params.now) r result (λ x t. fetch g other at t) }
 {
     match at {
-        Place::InFlash(a) => post(r, lent::word_at(flash, a)),
-        Place::InLocks(a) => post(r, lent::word_at(locks, a)),
-        Place::InParams(k) => post(r, bench_effects::word_of(params, k)),
+        Place::InFlash(a) => post(r, lent::word_at(buffers.flash, a)),
+        Place::InLocks(a) => post(r, lent::word_at(buffers.locks, a)),
+        Place::InParams(k) => post(r, bench_effects::word_of(buffers.params, k)),
         Place::AtLevel => post(r, level_word(r.stored, other)),
-        Place::AtSysreq => read_sysreq(g, r, flash, params, other),
+        Place::AtSysreq => read_sysreq(g, r, buffers, other),
         Place::AtSysarg => post(r, r.sysarg),
         Place::AtTestMode => post(r, r.test_mode),
         Place::Elsewhere => post(r, other),
@@ -158,27 +138,13 @@ pub(crate) fn read_word(
 fn write_sysreq(r: Registers, w: u32, o: CallOutcome) -> Change
     ensures { Makes r result (λ x t. begin (is_call w) w (call_outcome_of x o) t) }
 {
-    if 0x80000000 <= w {
-        return ask(r, w, r.posted, Running::Busy(o, (w % 256) as u8));
-    }
-    let running = r.running;
+    let [number, ..] = w.to_le_bytes();
+    let running = if 0x80000000 <= w {
+        Some(Call { outcome: o, number })
+    } else {
+        r.running
+    };
     ask(r, w, r.posted, running)
-}
-
-fn write_sysarg(r: Registers, w: u32) -> Change
-    ensures { Makes r result (λ x t. set_sysarg w t) }
-{
-    let mut s = r;
-    s.sysarg = w;
-    keep(s)
-}
-
-fn write_test_mode(r: Registers, w: u32) -> Change
-    ensures { Makes r result (λ x t. set_test_mode w t) }
-{
-    let mut s = r;
-    s.test_mode = w;
-    keep(s)
 }
 
 // A DRW write: registers and PARAMS take it, all else does not.
@@ -186,16 +152,13 @@ pub(crate) fn write_word(r: Registers, w: u32, o: CallOutcome, at: Place) -> Cha
     ensures { Makes r result (λ x t. store w (call_outcome_of x o) at t) }
 {
     match at {
-        Place::InFlash(_) => keep(r),
-        Place::InLocks(_) => keep(r),
         Place::InParams(k) => Change {
             registers: r,
-            act: Act::PutWord(k, w),
+            act: Act::PutWord { place: k, word: w },
         },
-        Place::AtLevel => keep(r),
         Place::AtSysreq => write_sysreq(r, w, o),
-        Place::AtSysarg => write_sysarg(r, w),
-        Place::AtTestMode => write_test_mode(r, w),
-        Place::Elsewhere => keep(r),
+        Place::AtSysarg => keep(Registers { sysarg: w, ..r }),
+        Place::AtTestMode => keep(Registers { test_mode: w, ..r }),
+        Place::InFlash(_) | Place::InLocks(_) | Place::AtLevel | Place::Elsewhere => keep(r),
     }
 }

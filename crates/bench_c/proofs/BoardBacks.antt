@@ -6,8 +6,8 @@ use native.Mathlib.Omega.{arith}
 use lib.Dec.{leb}
 use Rattle.bench_calls.specs.Board.{Buffers, ResidueBytes, target_of}
 use Rattle.bench_calls.specs.declared.Registers.{Registers}
-use Rattle.bench_calls.specs.declared.Running.{Running}
-use Rattle.bench_calls.specs.declared.Running.TheVariants.{Idle, Busy}
+use Rattle.bench_calls.specs.declared.Call.{Call}
+use Rattle.std.specs.Prelude.{Option, None, Some}
 use Rattle.bench_c.specs.BoardBytes.{registers_in, running_in, is_board, board_bytes}
 use Rattle.bench_c.specs.BoardClaims.{RegistersInWords, BoardClaims}
 use Rattle.flow.specs.Target as Flow
@@ -20,7 +20,7 @@ small : (n : ℕ) → n < 16 → n % 16 ≡ n
 small n h = omega arith
 
 -- registers with this under way
-abbrev running : Registers → Running → Registers
+abbrev running : Registers → Option Call → Registers
 running r k = record {
   silicon = r.silicon;
   stored = r.stored;
@@ -35,11 +35,12 @@ running r k = record {
 
 -- each word's low 32 bits are the word, the level's low four the level
 module _ (r : Registers) (w : RegistersInWords r) (x : ResidueBytes) (b : Buffers) where
-  call_back : (k : Running) → r.running ≡ k → running_in (board_bytes (target_of x (running r k) b)) ≡ k
+  call_back : (k : Option Call) → r.running ≡ k → running_in (board_bytes (target_of x (running r k) b)) ≡ k
   unfolding board_bytes word_at
-  call_back Idle e = refl
-  call_back (Busy o c) e =
-      let h = w.call o c e in
+  call_back None e = refl
+  call_back (Some k) e =
+      let o = k.outcome in
+      let h = w.call k e in
       rw (low_same o.busy_reads h.0, flag_same o.succeeds, low_same o.sysarg h.1, flag_same o.new_level)
 
   board-back : registers_in (board_bytes (target_of x r b)) ≡ r

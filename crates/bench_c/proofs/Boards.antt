@@ -1,54 +1,43 @@
 -- Laws of putting the bench board into bytes, and of its call. Assumes nothing.
-use mathlib.Core.Bool.{Bool, true, false, false≢true, not, cond}
+use mathlib.Core.Bool.{Bool, true, false, cond}
 use mathlib.Core.List.{List, [], ◌∷◌, ◌++◌}
 use mathlib.Core.Path.{◌≡◌, refl, sym, ap, ◌∙◌}
 use Prim.Native.Nat.{ℕ, suc, ◌+◌, ◌%◌, ◌≤◌}
 use native.Mathlib.Omega.{arith}
-use borrow.Author.Tests.{eqb-true, not-true, not-false}
-use lib.Dec.{eqb}
 use lib.ListN.{length, set, length-set, length-append}
-use lib.Seq.{sets, length-sets}
+use lib.Seq.{sets, sets-eq, length-sets}
+use borrow.Rule.Slice.PartMut.{put_mid}
+use Rattle.std.proofs.Common.{drop-drop, append_assoc}
 use Rattle.bench_calls.specs.Board.{ResidueBytes, target_of, running_of}
 use Rattle.bench_board.specs.Meets.{lists_of, met_of}
 use Rattle.bench_calls.specs.declared.CallOutcome.{CallOutcome}
 use Rattle.bench_board.specs.declared.Met.{Met}
 use Rattle.bench_calls.specs.declared.Registers.{Registers}
-use Rattle.bench_calls.specs.declared.Running.{Running}
-use Rattle.bench_calls.specs.declared.Running.TheVariants.{Idle, Busy}
+use Rattle.bench_calls.specs.declared.Call.{Call}
+use Rattle.std.specs.Prelude.{Option, None, Some, Result, Ok, Err}
 use Rattle.bench_c.specs.BoardAsked.{asked_for, asked_of}
-use Rattle.bench_c.specs.BoardBytes.{call_outcome_at, registers_in, event_in, packet_in, silicon_bytes, run_bytes, running_bytes, words_bytes, board_bytes, reply_bytes, answer_bytes, used_of, emptied, RunningPut, BoardPut}
+use Rattle.bench_c.specs.BoardBytes.{silicon_bytes, run_bytes, running_bytes, words_bytes, board_bytes, answer_bytes, used_of, emptied, RunningPut, BoardPut}
 use Rattle.bench_c.specs.BoardCalls.{Bench, bench_of, buffers_of, Handed, Benched, benched, bench_after, is_bench, sizes_fit, meet_for, meet_call}
 use Rattle.bench_c.specs.declared.Asked.{Asked}
-use Rattle.bench_c.specs.declared.Asked.TheVariants.{Returned, Meets}
 use Rattle.flow.specs.Exchange as Flow
 use Rattle.flow.specs.Target as Target
 use Rattle.flow.specs.Target.{idle, busy}
-use Rattle.flow.specs.declared.Answer.{Answer}
-use Rattle.flow.specs.declared.Answer.TheVariants.{ResetDone, Transferred}
 use Rattle.flow.specs.declared.LineEvent.{LineEvent}
-use Rattle.flow.specs.declared.Packet.{Packet}
-use Rattle.flow.specs.declared.Reply.{Reply}
 use Rattle.flow.specs.declared.Silicon.{Silicon}
 use Rattle.lent.specs.Words.{low_first}
 use Rattle.layout.proofs.Bytes.{put_in}
 use Rattle.lent.proofs.Lists.{sets-whole}
-use Rattle.layout.specs.Bytes.{flag_byte, word_put}
-use Rattle.parts.proofs.Table.{both}
-use Rattle.parts.specs.Parts.{lookup_of}
-use Rattle.parts.specs.declared.Geometry.{Geometry}
-use Rattle.parts.specs.declared.Lookup.{Lookup}
-use Rattle.parts.specs.declared.Lookup.TheVariants.{Found, Refused}
+use Rattle.layout.specs.Bytes.{word_put}
+use Rattle.refusals.specs.Refusals.{refusal_number}
+use Rattle.refusals.specs.declared.Refusal.{Refusal}
+use Rattle.refusals.specs.declared.Refusal.TheVariants.{Size, ImpossibleSession}
+use Rattle.parts.specs.Parts.{Lookup, lookup_of}
 
-abbrev pub answered_for : Asked → ResidueBytes → Bench → Benched
-answered_for (Returned n) x b = benched n b
-answered_for (Meets g r p e o) x b = benched 0 (bench_after (Flow.meet g p (lists_of x e o) (target_of x r (buffers_of b))))
+abbrev pub answered_for : Result Asked Refusal → ResidueBytes → Bench → Benched
+answered_for (Err r) x b = benched (refusal_number r) b
+answered_for (Ok a) x b = benched 0 (bench_after (Flow.meet a.geometry a.packet (lists_of x a.event a.call) (target_of x a.registers (buffers_of b))))
 
 -- ---- putting
-
-pub pair_put : (l : List ℕ) (at a b : ℕ) → set (set l at a) (at + 1) b ≡ sets l at (a ∷ b ∷ [])
-pair_put l at a b =
-    let e : at + 1 ≡ suc at = omega arith in
-    rw e
 
 pub flagged-put : (l m : List ℕ) (at f w : ℕ) → at + 5 ≤ length l → m ≡ word_put (set l at f) (at + 1) w → m ≡ sets l at (f ∷ low_first 4 w)
 flagged-put l m at f w n h =
@@ -92,22 +81,6 @@ module _ (b b₁ b₂ b₃ : List ℕ) where
       ∙ ap (λ (l : List ℕ). sets l 30 (low_first 4 r.posted))
       (four b b₁ b₂ b₃ 14 18 22 (low_first 4 r.sysarg) (low_first 4 r.sysreq) (low_first 4 r.test_mode) b₄ 26 (low_first 4 r.tar) s₁.0 s₂.0 s₃.0 s₄.0)
 
-  pub run-put : (state reads succeeds sysarg level number : ℕ) → b₁ ≡ sets b 34 (state ∷ low_first 4 reads) → b₂ ≡ sets b₁ 39 (succeeds ∷ low_first 4 sysarg)
-      → b₃ ≡ sets b₂ 44 (level ∷ number ∷ [])
-      → b₃ ≡ sets b 34 (run_bytes state reads succeeds sysarg level number)
-  run-put state reads succeeds sysarg level number =
-      three b b₁ b₂ b₃ 34 39 44 (state ∷ low_first 4 reads) (succeeds ∷ low_first 4 sysarg) (level ∷ number ∷ [])
-
-  pub reply-row : (reset ack parity used word : ℕ) → length b ≡ 8 → b₁ ≡ sets b 0 (reset ∷ ack ∷ []) → b₂ ≡ sets b₁ 2 (parity ∷ used ∷ [])
-      → b₃ ≡ word_put b₂ 4 word
-      → b₃ ≡ reply_bytes reset ack parity used word
-  reply-row reset ack parity used word n e f g =
-      let u = reset ∷ ack ∷ [] in
-      let v = parity ∷ used ∷ [] in
-      let n₂ = ap length f ∙ length-sets b₁ 2 v ∙ ap length e ∙ length-sets b 0 u ∙ n in
-      three b b₁ b₂ b₃ 0 2 4 u v (low_first 4 word) e f (put_in b₂ b₃ 8 4 word n₂ (omega arith) g).0
-      ∙ sets-whole b (reply_bytes reset ack parity used word) (sym n)
-
 running-length : (r : Target.Running) → length (running_bytes r) ≡ 12
 running-length idle = refl
 running-length (busy n s r c) = refl
@@ -130,25 +103,12 @@ module _ (b b₁ b₂ b₃ b₄ : List ℕ) (r : Registers) where
       let whole : b₄ ≡ sets b 0 (board_bytes t) = four b b₁ b₂ b₃ 0 12 14 (silicon_bytes r.silicon) (r.stored % 16 ∷ r.effect ∷ []) (words_bytes r.sysarg r.sysreq r.test_mode r.tar r.posted) b₄ 34 (running_bytes (running_of x r.running)) e₁ e₂ e₃ (e₄ x) in
       whole ∙ sets-whole b (board_bytes t) (board-length t ∙ sym n)
 
-module _ (l m : List ℕ) (r : Running) where
-  pub idle-put : r ≡ Idle → m ≡ sets l 34 (run_bytes 0 0 0 0 0 0) → RunningPut l r m
-  idle-put e h x = h ∙ ap (λ (k : Running). sets l 34 (running_bytes (running_of x k))) (sym e)
-
-  pub busy-put : (o : CallOutcome) (c s v : ℕ) → r ≡ Busy o c → s ≡ flag_byte o.succeeds → v ≡ flag_byte o.new_level
-      → m ≡ sets l 34 (run_bytes 1 o.busy_reads s o.sysarg v c)
-      → RunningPut l r m
-  busy-put o c s v e f g h x =
-      h
-      ∙ ap (λ (n : ℕ). sets l 34 (run_bytes 1 o.busy_reads n o.sysarg v c)) f
-      ∙ ap (λ (n : ℕ). sets l 34 (run_bytes 1 o.busy_reads (flag_byte o.succeeds) o.sysarg n c)) g
-      ∙ ap (λ (k : Running). sets l 34 (running_bytes (running_of x k))) (sym e)
-
-module _ (m : List ℕ) (a : Answer) (u w : ℕ) where
-  pub reset-put : a ≡ ResetDone → u ≡ w → m ≡ reply_bytes 1 0 0 u 0 → m ≡ answer_bytes a w
-  reset-put e f h = h ∙ ap (λ (n : ℕ). reply_bytes 1 0 0 n 0) f ∙ ap (λ (y : Answer). answer_bytes y w) (sym e)
-
-  pub reply-put : (r : Reply) → a ≡ Transferred r → u ≡ w → m ≡ reply_bytes 0 r.ack r.parity u r.word → m ≡ answer_bytes a w
-  reply-put r e f h = h ∙ ap (λ (n : ℕ). reply_bytes 0 r.ack r.parity n r.word) f ∙ ap (λ (y : Answer). answer_bytes y w) (sym e)
+-- the twelve bytes of what is under way, copied over a board's last
+pub running-put : (l v : List ℕ) (k : Option Call) → length l ≡ 46 → ((x : ResidueBytes) → v ≡ running_bytes (running_of x k))
+    → RunningPut l k (put_mid 34 12 l v)
+running-put l v None n e x = rw (e x) (sym (sets-eq (run_bytes 0 0 0 0 0 0) l 34 (omega (arith, n)) ∙ simp (append_assoc, drop-drop)))
+running-put l v (Some k) n e x =
+    rw (e x) (sym (sets-eq (running_bytes (running_of x (Some k))) l 34 (omega (arith, n)) ∙ simp (append_assoc, drop-drop)))
 
 -- ---- the call
 
@@ -169,72 +129,25 @@ module _ (x : ResidueBytes) (e : LineEvent) (o : CallOutcome) (b' : Bench) (m : 
       ∙ ap (λ (n : List ℕ). bench_of (board_bytes (target_of x m.registers (buffers_of b'))) b'.flash b'.locks b'.latch b'.params n) (says ∙ ap (answer_bytes m.answer) (used-same m.line_used m.call_used _ _))
       ∙ ap bench_after is
 
--- a test that said no, one that said yes
-pub says-no : (r t : Bool) → r ≡ t → not r ≡ true → t ≡ false
-says-no r t e h = sym e ∙ not-true r h
-
-pub says-yes : (r t : Bool) → r ≡ t → not r ≡ false → t ≡ true
-says-yes r t e h = sym e ∙ not-false r h
-
--- lengths that fit
-pub record Sized (b : List ℕ) (h : Handed) (a : List ℕ) : Type 0 where
-  pub board : length b ≡ 46
-  pub event : length h.event ≡ 11
-  pub call : length h.call ≡ 10
-  pub packet : length h.packet ≡ 8
-  pub answer : length a ≡ 8
-
-pub sized : (b : List ℕ) (h : Handed) (a : List ℕ) → sizes_fit b h a ≡ true → Sized b h a
-sized b h a e =
-    let s = both (eqb (length b) 46) _ e in
-    let t = both (eqb (length h.event) 11) _ s.1 in
-    let u = both (eqb (length h.call) 10) _ t.1 in
-    let v = both (eqb (length h.packet) 8) _ u.1 in
-    record { board = eqb-true _ _ s.0; event = eqb-true _ _ t.0; call = eqb-true _ _ u.0; packet = eqb-true _ _ v.0; answer = eqb-true _ _ v.1 }
-
--- ---- what is asked for
-
-pub asked-meeting : (b : List ℕ) (h : Handed) (g : Geometry) (r : Registers) (p : Packet) (v : LineEvent) (o : CallOutcome) → is_bench b h ≡ true → r ≡ registers_in b
-    → p ≡ packet_in h.packet
-    → v ≡ event_in h.event
-    → o ≡ call_outcome_at h.call 0
-    → Meets g r p v o ≡ asked_for (Found g) b h
-asked-meeting b h g r p v o is er ep ev eo = rw (er, ep, ev, eo, is)
-
-pub asked-right : (part macros : ℕ) (b : List ℕ) (h : Handed) (a : List ℕ) (l : Lookup) (y : Asked) → sizes_fit b h a ≡ true → lookup_of part macros ≡ l → y ≡ asked_for l b h
-    → y ≡ asked_of part macros b h a
-asked-right part macros b h a l y fits f k = k ∙ ap (λ (z : Lookup). asked_for z b h) (sym f) ∙ rw fits
-
 -- ---- what is asked for, answered
 
-abbrev pub meets : Asked → Bool
-meets (Returned n) = false
-meets (Meets g r p e o) = true
-
--- only bytes of the right lengths ask for a packet to be met
-pub meets-sized : (part macros : ℕ) (b : List ℕ) (h : Handed) (a : List ℕ) (y : Asked) → y ≡ asked_of part macros b h a → meets y ≡ true → Sized b h a
-meets-sized part macros b h a y is k = sized b h a (by (sizes_fit b h a) (sym k ∙ ap meets is))
-  where
-    by : (t : Bool) → true ≡ meets (cond t (asked_for (lookup_of part macros) b h) (Returned 12)) → t ≡ true
-    by true k = refl
-    by false k = absurd (false≢true (sym k))
-
 module _ (h : Handed) (x : ResidueBytes) (b : Bench) where
-  answered_test : (k : Bool) (y : Asked) → cond k (answered_for y x b) (benched 13 b) ≡ answered_for (cond k y (Returned 13)) x b
+  answered_test : (k : Bool) (y : Result Asked Refusal) → cond k (answered_for y x b) (benched 13 b) ≡ answered_for (cond k y (Err ImpossibleSession)) x b
   answered_test true y = refl
   answered_test false y = refl
 
   answered-lookup : (l : Lookup) → meet_for l h x b ≡ answered_for (asked_for l b.board h) x b
-  answered-lookup (Refused n) = refl
-  answered-lookup (Found g) = answered_test (is_bench b.board h) (Meets g _ _ _ _)
+  answered-lookup (Err r) = refl
+  answered-lookup (Ok g) = answered_test (is_bench b.board h) (Ok _)
 
   answered-sizes : (k : Bool) (l : Lookup)
-      → cond k (meet_for l h x b) (benched 12 b) ≡ answered_for (cond k (asked_for l b.board h) (Returned 12)) x b
+      → cond k (meet_for l h x b) (benched 12 b) ≡ answered_for (cond k (asked_for l b.board h) (Err Size)) x b
   answered-sizes true l = answered-lookup l
   answered-sizes false l = refl
 
   -- what the call returns and leaves is the answer to what is asked
-  pub call-answered : (part macros : ℕ) (y z : Asked) → y ≡ asked_of part macros b.board h b.answer → y ≡ z → answered_for z x b ≡ meet_call part macros h x b
+  pub call-answered : (part macros : ℕ) (y z : Result Asked Refusal) → y ≡ asked_of part macros b.board h b.answer → y ≡ z
+      → answered_for z x b ≡ meet_call part macros h x b
   unfolding meet_call
   call-answered part macros y z e f =
-      ap (λ (w : Asked). answered_for w x b) (sym f ∙ e) ∙ sym (answered-sizes (sizes_fit b.board h b.answer) (lookup_of part macros))
+      ap (λ (w : Result Asked Refusal). answered_for w x b) (sym f ∙ e) ∙ sym (answered-sizes (sizes_fit b.board h b.answer) (lookup_of part macros))

@@ -1,14 +1,13 @@
 -- The bench board and what is handed in with a packet, as bytes. Assumes nothing.
-use Rattle.std.specs.Prelude.{Bool, true, false, ◌&&◌, cond, List, [], ◌∷◌, ◌++◌, ◌≡◌, ℕ, ◌+◌, ◌*◌, eqb, leb, get_or}
+use Rattle.std.specs.Prelude.{Bool, true, false, ◌&&◌, cond, List, [], ◌∷◌, ◌++◌, ◌≡◌, ℕ, ◌+◌, ◌*◌, eqb, leb, get_or, Option, None, Some}
 use Rattle.std.proofs.lemmas.List.Edits.{sets}
 use Rattle.bench_calls.specs.Board.{Buffers, ResidueBytes, running_of, target_of}
+use Rattle.bench_calls.specs.declared.Call.{Call}
 use Rattle.bench_calls.specs.declared.CallOutcome.{CallOutcome}
 use Rattle.flow.specs.declared.LineEvent.{LineEvent}
 use Rattle.flow.specs.declared.TransferOutcome.{TransferOutcome}
 use Rattle.flow.specs.declared.TransferOutcome.TheVariants.{Clean, Waits, Faults, WrongParity, Silent, Noisy}
 use Rattle.bench_calls.specs.declared.Registers.{Registers}
-use Rattle.bench_calls.specs.declared.Running.{Running}
-use Rattle.bench_calls.specs.declared.Running.TheVariants.{Idle, Busy}
 use Rattle.flow.specs.Target as Flow
 use Rattle.flow.specs.Target.{Target, Lists, idle, busy}
 use Rattle.flow.specs.declared.Answer.{Answer}
@@ -45,8 +44,8 @@ silicon_in bs = record {
 }
 
 -- 0 idle, 1 busy at 34; how the call will go at 35, its number at 45
-abbrev pub running_in : List ℕ → Running
-running_in bs = cond (eqb (get_or bs 34 0) 0) Idle (Busy (call_outcome_at bs 35) (get_or bs 45 0))
+abbrev pub running_in : List ℕ → Option Call
+running_in bs = cond (eqb (get_or bs 34 0) 0) None (Some (record { outcome = call_outcome_at bs 35; number = get_or bs 45 0 }))
 
 -- stored level at 12, level in effect at 13, SYSARG at 14, SYSREQ at 18, TEST_MODE at 22, TAR at 26, posted word at 30
 unfoldable pub registers_in : List ℕ → Registers
@@ -132,7 +131,7 @@ abbrev pub used_in : Lists → ℕ
 used_in l = used_of (emptied l.line) (emptied l.calls)
 
 -- registers put, whatever is lent beside them
-abbrev pub RunningPut : (before : List ℕ) → Running → (after : List ℕ) → Type 0
+abbrev pub RunningPut : (before : List ℕ) → Option Call → (after : List ℕ) → Type 0
 RunningPut l r m = (x : ResidueBytes) → m ≡ sets l 34 (running_bytes (running_of x r))
 
 abbrev pub BoardPut : Registers → (after : List ℕ) → Type 0

@@ -1,5 +1,6 @@
 -- What the bench board's call returns, and what it leaves in the bytes and words lent to it. Assumes nothing.
-use Rattle.std.specs.Prelude.{Bool, ◌&&◌, cond, List, ℕ, eqb, length}
+use Rattle.refusals.specs.Refusals.{refusal_number}
+use Rattle.std.specs.Prelude.{Bool, ◌&&◌, cond, List, ℕ, eqb, length, Ok, Err}
 use Rattle.bench_calls.specs.Board.{Buffers, ResidueBytes, target_of}
 use Rattle.bench_board.specs.Meets.{lists_of}
 use Rattle.bench_calls.specs.declared.CallOutcome.{CallOutcome}
@@ -7,10 +8,8 @@ use Rattle.flow.specs.declared.LineEvent.{LineEvent}
 use Rattle.bench_c.specs.BoardBytes.{registers_in, is_board, event_in, is_event, call_outcome_at, is_call_outcome, packet_in, is_packet, board_bytes, answer_bytes, used_in}
 use Rattle.flow.specs.Exchange as Flow
 use Rattle.flow.specs.declared.Packet.{Packet}
-use Rattle.parts.specs.Parts.{lookup_of}
+use Rattle.parts.specs.Parts.{Lookup, lookup_of}
 use Rattle.parts.specs.declared.Geometry.{Geometry}
-use Rattle.parts.specs.declared.Lookup.{Lookup}
-use Rattle.parts.specs.declared.Lookup.TheVariants.{Found, Refused}
 
 -- what is lent for writing
 pub record Bench : Type 0 where
@@ -66,8 +65,8 @@ sizes_fit b h a =
 
 -- 11 for what is not in the table, then 13: nothing is written
 abbrev pub meet_for : Lookup → Handed → ResidueBytes → Bench → Benched
-meet_for (Refused n) h x b = benched n b
-meet_for (Found g) h x b =
+meet_for (Err r) h x b = benched (refusal_number r) b
+meet_for (Ok g) h x b =
     cond (is_bench b.board h) (benched 0 (meet_into g (packet_in h.packet) (event_in h.event) (call_outcome_at h.call 0) x b)) (benched 13 b)
 
 unfoldable pub meet_call : (part macros : ℕ) → Handed → ResidueBytes → Bench → Benched

@@ -1,9 +1,8 @@
 -- What the bench board's bytes promise: nothing of a board is lost from call to call, and none that a call wrote is refused. Assumes nothing.
-use Rattle.std.specs.Prelude.{true, ◌≡◌, ℕ, ◌<◌}
+use Rattle.std.specs.Prelude.{true, ◌≡◌, ◌<◌, Some}
 use Rattle.bench_calls.specs.Board.{Buffers, ResidueBytes, target_of}
-use Rattle.bench_calls.specs.declared.CallOutcome.{CallOutcome}
+use Rattle.bench_calls.specs.declared.Call.{Call}
 use Rattle.bench_calls.specs.declared.Registers.{Registers}
-use Rattle.bench_calls.specs.declared.Running.TheVariants.{Busy}
 use Rattle.bench_c.specs.BoardBytes.{registers_in, is_board, board_bytes}
 use Rattle.flow.specs.Target.{Target}
 use Rattle.layout.specs.Bytes.{Word}
@@ -18,7 +17,7 @@ pub record RegistersInWords (r : Registers) : Type 0 where
   pub mode : Word r.test_mode
   pub tar : Word r.tar
   pub posted : Word r.posted
-  pub call : (o : CallOutcome) (c : ℕ) → r.running ≡ Busy o c → Word o.busy_reads × Word o.sysarg
+  pub call : (k : Call) → r.running ≡ Some k → Word k.outcome.busy_reads × Word k.outcome.sysarg
 
 pub record BoardClaims : Type 0 where
   -- the next call finds the registers that this one put

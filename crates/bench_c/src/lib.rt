@@ -1,83 +1,58 @@
 // The bench board as a call, for tests of hosts: registers, events and answers stand in the caller's bytes (include/halzuqeen_bench.h).
 #![tactic(auto)]
 
-ghost use Rattle.std.specs.Prelude.{◌≡◌, length};
+ghost use Rattle.std.specs.Prelude.{Ok, ◌≡◌};
 ghost use Rattle.bench_calls.specs.Board.{residue_bytes};
-ghost use Rattle.bench_c.specs.BoardAsked.{asked_for, asked_of, number_of};
+ghost use Rattle.bench_c.specs.BoardAsked.{asked_for, asked_of};
 ghost use Rattle.bench_c.specs.BoardBytes.{answer_bytes, used_of, BoardPut};
-ghost use Rattle.bench_c.specs.BoardCalls.{bench_of, handed, benched, is_bench, sizes_fit, meet_call};
+ghost use Rattle.bench_c.specs.BoardCalls.{bench_of, handed, benched, meet_call};
 
 mod board_in;
 mod board_out;
 
-use bench_board::Met;
 use bench_calls::{CallOutcome, Registers};
-use board_in::{
-    call_outcome_at, event_in, is_board, is_call_outcome, is_event, is_packet, packet_in,
-    registers_in,
-};
-use board_out::{put_answer, put_board};
+use bench_memory::{Memory, Residue};
+use board_in::{call_outcome_at, event_in, packet_in, registers_in};
+use board_out::{answer_bytes, board_bytes};
 use flow::{LineEvent, Packet};
-use parts::{Geometry, Lookup};
+use parts::Geometry;
+use refusals::Refusal;
 
-// Whether all that is of a fixed size is of it.
-fn sizes_fit(board: &[u8], event: &[u8], call: &[u8], packet: &[u8], answer: &[u8]) -> bool
-    ensures { result ≡ sizes_fit board.now (handed event.now call.now packet.now) answer.now }
-{
-    if board.len() != 46 {
-        return false;
-    }
-    if event.len() != 11 {
-        return false;
-    }
-    if call.len() != 10 {
-        return false;
-    }
-    if packet.len() != 8 {
-        return false;
-    }
-    answer.len() == 8
-}
-
-// Whether bytes are ones that a board, an event, a call and a packet have.
-fn is_bench(board: &[u8], event: &[u8], call: &[u8], packet: &[u8]) -> bool
-    requires { (length board.now ≡ 46) × ((length event.now ≡ 11) × ((length call.now ≡ 10) × (length packet.now ≡ 8))) }
-    ensures { result ≡ is_bench board.now (handed event.now call.now packet.now) }
-{
-    if !is_board(board) {
-        return false;
-    }
-    if !is_event(event) {
-        return false;
-    }
-    if !is_call_outcome(call, 0) {
-        return false;
-    }
-    is_packet(packet)
-}
-
-// What bytes ask for: a number to return at once, or a packet to meet, with all that it is met with.
+// A packet to meet, with all that it is met with.
 #[derive(Clone, Copy)]
-enum Asked {
-    Returned(u32),
-    Meets(Geometry, Registers, Packet, LineEvent, CallOutcome),
+struct Asked {
+    geometry: Geometry,
+    registers: Registers,
+    packet: Packet,
+    event: LineEvent,
+    call: CallOutcome,
 }
 
 // What bytes of the right lengths ask for.
-fn asked_on(g: Geometry, board: &[u8], event: &[u8], call: &[u8], packet: &[u8]) -> Asked
-    requires { (length board.now ≡ 46) × ((length event.now ≡ 11) × ((length call.now ≡ 10) × (length packet.now ≡ 8))) }
-    ensures { result ≡ asked_for (Lookup.Found g) board.now (handed event.now call.now packet.now) }
+fn asked_on(
+    g: Geometry,
+    board: &[u8; 46],
+    event: &[u8; 11],
+    call: &[u8; 10],
+    packet: &[u8; 8],
+) -> Result<Asked, Refusal>
+    ensures { result ≡ asked_for (Ok g) board.now (handed event.now call.now packet.now) }
 {
-    if !is_bench(board, event, call, packet) {
-        return Asked::Returned(13);
-    }
-    let r = registers_in(board);
-    let p = packet_in(packet);
-    let e = event_in(event);
-    let o = call_outcome_at(call, 0);
-    Asked::Meets(g, r, p, e, o)
+    let registers = registers_in(board).ok_or(Refusal::ImpossibleSession)?;
+    let event = event_in(event).ok_or(Refusal::ImpossibleSession)?;
+    let call = call_outcome_at(call, 0).ok_or(Refusal::ImpossibleSession)?;
+    let packet = packet_in(packet).ok_or(Refusal::ImpossibleSession)?;
+    Ok(Asked {
+        geometry: g,
+        registers,
+        packet,
+        event,
+        call,
+    })
 }
 
+// What bytes ask for, or the number to return at once.
+// Kept: the C interface: these are what the call hands over, one by one.
 fn asked_of(
     part: u8,
     macros: u8,
@@ -86,41 +61,21 @@ fn asked_of(
     call: &[u8],
     packet: &[u8],
     answer: &[u8],
-) -> Asked
+) -> Result<Asked, Refusal>
     ensures { result ≡ asked_of part macros board.now (handed event.now call.now packet.now) answer.now }
 {
-    if !sizes_fit(board, event, call, packet, answer) {
-        return Asked::Returned(12);
+    let board = board.as_array().ok_or(Refusal::Size)?;
+    let event = event.as_array().ok_or(Refusal::Size)?;
+    let call = call.as_array().ok_or(Refusal::Size)?;
+    let packet = packet.as_array().ok_or(Refusal::Size)?;
+    if answer.len() != 8 {
+        return Err(Refusal::Size);
     }
-    let found = parts::find(part, macros);
-    match found {
-        Lookup::Found(g) => asked_on(g, board, event, call, packet),
-        Lookup::Refused(n) => Asked::Returned(n as u32),
-    }
-}
-
-// The number of what is not to be met.
-fn number_of(a: Asked) -> u32
-    ensures { result ≡ number_of a }
-{
-    match a {
-        Asked::Returned(n) => n,
-        Asked::Meets(_, _, _, _, _) => 0,
-    }
-}
-
-// Puts how a packet was met.
-fn put_met(board: &mut [u8], answer: &mut [u8], met: Met)
-    requires { (length board.old ≡ 46) × (length answer.old ≡ 8) }
-    ensures { (BoardPut met.registers board.new) × (answer.new ≡ answer_bytes met.answer (used_of met.line_used met.call_used)) }
-{
-    let registers = met.registers;
-    let a = met.answer;
-    put_board(board, registers);
-    put_answer(answer, a, met.line_used, met.call_used);
+    asked_on(parts::find(part, macros)?, board, event, call, packet)
 }
 
 // The board meets a packet.
+// Kept: the C interface: the number, and the buffers one by one, are what include/halzuqeen_bench.h declares.
 #[unsafe(no_mangle)]
 pub extern "C" fn halzuqeen_bench_meet(
     part: u8,
@@ -140,24 +95,31 @@ pub extern "C" fn halzuqeen_bench_meet(
 ) -> u32
     ensures met { benched result (bench_of board.new flash.new locks.new latch.new params.new answer.new) ≡ meet_call part macros (handed event.now call.now packet.now) (residue_bytes residue_flash.now residue_locks.now residue_latch.now) (bench_of board.old flash.old locks.old latch.old params.old answer.old) }
 {
-    let asked = asked_of(part, macros, board, event, call, packet, answer);
-    let Asked::Meets(g, r, p, e, o) = asked else {
-        return number_of(asked);
+    let asked = match asked_of(part, macros, board, event, call, packet, answer) {
+        Ok(asked) => asked,
+        Err(refusal) => return u32::from(refusal.number()),
     };
-    let met = bench_board::meet(
-        g,
-        r,
+    let memory = Memory {
         flash,
         locks,
         latch,
         params,
-        residue_flash,
-        residue_locks,
-        residue_latch,
-        p,
-        e,
-        o,
+    };
+    let residue = Residue {
+        flash: residue_flash,
+        locks: residue_locks,
+        latch: residue_latch,
+    };
+    let met = bench_board::meet(
+        asked.geometry,
+        asked.registers,
+        memory,
+        residue,
+        asked.packet,
+        asked.event,
+        asked.call,
     );
-    put_met(board, answer, met);
+    board.copy_from_slice(&board_bytes(met.registers));
+    answer.copy_from_slice(&answer_bytes(met.answer, met.line_used, met.call_used));
     0
 }

@@ -1,9 +1,8 @@
 -- The board's registers and lent buffers as flow's target, and what is handed in with a packet. Assumes nothing.
-use Rattle.std.specs.Prelude.{◌%◌}
+use Rattle.std.specs.Prelude.{◌%◌, Option, None, Some}
+use Rattle.bench_calls.specs.declared.Call.{Call}
 use Rattle.bench_calls.specs.declared.CallOutcome.{CallOutcome}
 use Rattle.bench_calls.specs.declared.Registers.{Registers}
-use Rattle.bench_calls.specs.declared.Running.{Running}
-use Rattle.bench_calls.specs.declared.Running.TheVariants.{Idle, Busy}
 use Rattle.flow.specs.Target.{Target, Residue, idle, busy}
 use Rattle.flow.specs.Target as Flow
 -- the lent buffers and the residue lent for them stand in bench_effects
@@ -15,9 +14,9 @@ residue_of x o = record { flash = x.flash; locks = x.locks; latch = x.latch; sys
 abbrev pub call_outcome_of : ResidueBytes → CallOutcome → Flow.CallOutcome
 call_outcome_of x o = record { busy_reads = o.busy_reads; succeeds = o.succeeds; residue = residue_of x o }
 
-abbrev pub running_of : ResidueBytes → Running → Flow.Running
-running_of x Idle = idle
-running_of x (Busy o c) = busy o.busy_reads o.succeeds (residue_of x o) c
+abbrev pub running_of : ResidueBytes → Option Call → Flow.Running
+running_of x None = idle
+running_of x (Some k) = busy k.outcome.busy_reads k.outcome.succeeds (residue_of x k.outcome) k.number
 
 -- of the stored level the low four bits count
 abbrev pub target_of : ResidueBytes → Registers → Buffers → Target

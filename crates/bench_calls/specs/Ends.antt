@@ -1,11 +1,11 @@
 -- What a call's end and XRES do to the registers, in the words of flow's definitions: an act is performed later, so the promises speak of
 -- every memory that it may be performed on. Assumes nothing.
-use Rattle.std.specs.Prelude.{true, false, List, ◌≡◌, ℕ}
+use Rattle.std.specs.Prelude.{true, false, List, ◌≡◌, ℕ, None}
 use Rattle.bench_calls.specs.Board.{Buffers, ResidueBytes, residue_of, target_of}
+use Rattle.bench_calls.specs.declared.Call.{Call}
 use Rattle.bench_calls.specs.declared.CallOutcome.{CallOutcome}
 use Rattle.bench_calls.specs.declared.Change.{Change}
 use Rattle.bench_calls.specs.declared.Registers.{Registers}
-use Rattle.bench_calls.specs.declared.Running.TheVariants.{Idle}
 use Rattle.bench_effects.specs.Acts.{buffers_after}
 use Rattle.bench_effects.specs.declared.Act.{Act}
 use Rattle.flow.specs.Calls.{sysarg_after, finish, reset}
@@ -25,7 +25,7 @@ ended r l a q t = record {
     test_mode = r.test_mode;
     tar = r.tar;
     posted = r.posted;
-    running = Idle;
+    running = None;
   };
   act = t;
 }
@@ -50,8 +50,8 @@ abbrev pub Answers : (c : ℕ) → Silicon → (flash : List ℕ) → (word : �
 Answers c s fs w = (m : Memory) → m.flash ≡ fs → w ≡ sysarg_after c s m
 
 -- a call that fails; its part does not matter
-abbrev pub Fails : CallOutcome → (c : ℕ) → Registers → Change → Type 0
-Fails o c r n = (g : Geometry) → Makes r n (λ x t. finish g false (residue_of x o) c t)
+abbrev pub Fails : Call → Registers → Change → Type 0
+Fails k r n = (g : Geometry) → Makes r n (λ x t. finish g false (residue_of x k.outcome) k.number t)
 
 -- a call that succeeds; what a failure would leave does not matter
 abbrev pub Succeeds : Geometry → (flash params : List ℕ) → (c : ℕ) → Registers → Change → Type 0

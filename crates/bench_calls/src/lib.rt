@@ -7,11 +7,14 @@ ghost use Rattle.bench_calls.specs.Ends.{ended, MakesOf, Fails, Succeeds, Answer
 ghost use Rattle.flow.specs.Calls.{failed_arg, sysreq_after, finish};
 ghost use Rattle.flow.specs.Target.{set_reset};
 
+mod beginnings;
+
 use bench_effects::Act;
 use flow::Silicon;
 use parts::Geometry;
 
 // How a call will go: busy reads, then success, or a failure that leaves this SYSARG and, of 0x0D, perhaps the level sent.
+// Kept: the C interface: a board's bytes hold all four, of a call that succeeds too, and the claim `back` of bench_c gives them back.
 #[derive(Clone, Copy)]
 pub struct CallOutcome {
     pub busy_reads: u32,
@@ -20,13 +23,15 @@ pub struct CallOutcome {
     pub new_level: bool,
 }
 
-// A call under way, with its number.
+// A call under way: how it will go, and its number.
 #[derive(Clone, Copy)]
-pub enum Running {
-    Idle,
-    Busy(CallOutcome, u8),
+pub struct Call {
+    pub outcome: CallOutcome,
+    pub number: u8,
 }
 
+// The board's registers, with the level stored, of whose byte the low four bits count, and the level in effect.
+// Kept: the C interface: both are bytes of a board that may hold any number, and the claim `back` of bench_c gives `effect` back.
 #[derive(Clone, Copy)]
 pub struct Registers {
     pub silicon: Silicon,
@@ -37,7 +42,7 @@ pub struct Registers {
     pub test_mode: u32,
     pub tar: u32,
     pub posted: u32,
-    pub running: Running,
+    pub running: Option<Call>,
 }
 
 // The registers after a request, and what it does to the memory.
@@ -51,24 +56,20 @@ pub struct Change {
 fn end(r: Registers, stored: u8, sysarg: u32, sysreq: u32, act: Act) -> Change
     ensures { result ≡ ended r stored sysarg sysreq act }
 {
-    let silicon = r.silicon;
     Change {
         registers: Registers {
-            silicon: silicon,
-            stored: stored,
-            effect: r.effect,
-            sysarg: sysarg,
-            sysreq: sysreq,
-            test_mode: r.test_mode,
-            tar: r.tar,
-            posted: r.posted,
-            running: Running::Idle,
+            stored,
+            sysarg,
+            sysreq,
+            running: None,
+            ..r
         },
-        act: act,
+        act,
     }
 }
 
 // A failed call's SYSARG, of another top digit.
+// Kept: no plainer: the digit lies inside a byte, so it is spelled as the definition `failed_arg` spells it.
 fn failed_arg(word: u32) -> u32
     ensures { result ≡ failed_arg word }
 {
@@ -80,92 +81,80 @@ fn failed_arg(word: u32) -> u32
 }
 
 // Whether a call leaves the memory alone even when it fails.
+// Kept: what may not change: a call's number is a byte of the wire, and `finish` and `sysarg_after` of flow are of any number.
 fn keeps_memory(c: u8) -> bool
     ensures { result ≡ (eqb c 0 || eqb c 0x0B || eqb c 0x15) }
 {
-    if c == 0 {
-        return true;
-    }
-    if c == 0x0B {
-        return true;
-    }
-    c == 0x15
+    matches!(c, 0 | 0x0B | 0x15)
 }
 
 // A call that fails.
-fn fail(r: Registers, o: CallOutcome, c: u8) -> Change
-    ensures { Fails o c r result }
+#[tactic(auto, unfolding(flow::specs::Calls::finish, flow::specs::Calls::after_failure))]
+fn fail(r: Registers, call: Call) -> Change
+    ensures { Fails call r result }
 {
-    let arg = failed_arg(o.sysarg);
-    if keeps_memory(c) {
-        return end(r, r.stored, arg, 0, Act::Keep);
+    let Call { outcome, number } = call;
+    let arg = failed_arg(outcome.sysarg);
+    if keeps_memory(number) {
+        end(r, r.stored, arg, 0, Act::Keep)
+    } else {
+        let level = bench_effects::level_left(r.sysarg, r.stored, outcome.new_level, number);
+        end(r, level, arg, 0, Act::PutResidue)
     }
-    end(
-        r,
-        bench_effects::level_left(r.sysarg, r.stored, o.new_level, c),
-        arg,
-        0,
-        Act::PutResidue,
-    )
 }
 
 // The IDs as step 2 reads them in SYSARG.
 fn ids_of(s: Silicon) -> u32
     ensures { result ≡ 0xA0000000 + s.revision * 0x10000 + s.high * 256 + s.low }
 {
-    0xA0000000 + (s.revision as u32) * 0x10000 + (s.high as u32) * 256 + (s.low as u32)
+    u32::from_be_bytes([0xA0, s.revision, s.high, s.low])
 }
 
 // SYSARG after a successful call.
+#[tactic(auto, unfolding(flow::specs::Calls::sysarg_after))]
 fn sysarg_after(s: Silicon, flash: &[u8], c: u8) -> u32
     ensures { Answers c s flash.now result }
 {
-    if c == 0 {
-        return ids_of(s);
+    match c {
+        0 => ids_of(s),
+        0x0B => 0xA0000000 + s.privileged_sum.wrapping_add(lent::whole_sum(flash)) % 0x10000000,
+        _ => 0xA0000000,
     }
-    if c == 0x0B {
-        return 0xA0000000
-            + (s.privileged_sum % 0x10000000 + lent::whole_sum(flash) % 0x10000000) % 0x10000000;
-    }
-    0xA0000000
 }
 
 // SYSREQ after a successful call.
+#[tactic(auto, unfolding(flow::specs::Calls::sysreq_after))]
 fn sysreq_after(s: Silicon, effect: u8, c: u8) -> u32
     ensures { result ≡ sysreq_after c s effect }
 {
     if c == 0 {
-        return (effect as u32) * 0x1000 + (s.family as u32);
+        u32::from(effect) * 0x1000 + u32::from(s.family)
+    } else {
+        0
     }
-    0
 }
 
 // A call that succeeds.
+// Kept: no plainer: flash and PARAMS go on from here one by one, each to another function.
+#[tactic(auto, unfolding(flow::specs::Calls::finish))]
 fn succeed(g: Geometry, r: Registers, flash: &[u8], params: &[u32], c: u8) -> Change
     ensures { Succeeds g flash.now params.now c r result }
 {
-    let s = r.silicon;
-    let e = bench_effects::effect_of(g, r.effect, r.sysarg, r.stored, params, c);
-    let arg = sysarg_after(s, flash, c);
-    let act = e.act;
-    end(r, e.stored, arg, sysreq_after(s, r.effect, c), act)
+    let effect = bench_effects::effect_of(g, r.effect, r.sysarg, r.stored, params, c);
+    let arg = sysarg_after(r.silicon, flash, c);
+    let req = sysreq_after(r.silicon, r.effect, c);
+    end(r, effect.stored, arg, req, effect.act)
 }
 
 // A call's end.
-pub fn complete(
-    g: Geometry,
-    r: Registers,
-    flash: &[u8],
-    params: &[u32],
-    o: CallOutcome,
-    c: u8,
-) -> Change
-    ensures ended { MakesOf flash.now params.now r result (λ x t. finish g o.succeeds (residue_of x o) c t) }
+pub fn complete(g: Geometry, r: Registers, flash: &[u8], params: &[u32], call: Call) -> Change
+    ensures ended { MakesOf flash.now params.now r result (λ x t. finish g call.outcome.succeeds (residue_of x call.outcome) call.number t) }
 {
-    if o.succeeds {
-        return succeed(g, r, flash, params, c);
+    if call.outcome.succeeds {
+        succeed(g, r, flash, params, call.number)
+    } else {
+        fail(r, call)
     }
-    fail(r, o, c)
 }
 
 // XRES, once nothing is under way: the stored level in effect, SYSREQ cleared.
@@ -173,21 +162,14 @@ fn cleared(n: Change) -> Change
     ensures { Alters n result set_reset }
 {
     let r = n.registers;
-    let silicon = r.silicon;
-    let act = n.act;
     Change {
         registers: Registers {
-            silicon: silicon,
-            stored: r.stored,
             effect: r.stored % 16,
-            sysarg: r.sysarg,
             sysreq: 0,
-            test_mode: r.test_mode,
-            tar: r.tar,
-            posted: r.posted,
-            running: Running::Idle,
+            running: None,
+            ..r
         },
-        act: act,
+        ..n
     }
 }
 
@@ -195,12 +177,11 @@ fn cleared(n: Change) -> Change
 pub fn xres(r: Registers) -> Change
     ensures reset { Resets r result }
 {
-    let running = r.running;
-    match running {
-        Running::Idle => cleared(Change {
+    match r.running {
+        None => cleared(Change {
             registers: r,
             act: Act::Keep,
         }),
-        Running::Busy(o, c) => cleared(fail(r, o, c)),
+        Some(call) => cleared(fail(r, call)),
     }
 }

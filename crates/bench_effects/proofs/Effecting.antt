@@ -50,10 +50,10 @@ module _ (g : Geometry) (v a st : ℕ) (ps : List ℕ) (c : ℕ) where
   unfolding effect_of
   filling e n f x b p = (rw (e, p, f, twice), refl)
 
-  pub programming : c ≡ 6 → (w : ℕ) → w ≡ get_or (list_at a ps) 0 0
-      → Effects g (call_inputs v a st ps) c (record { act = ProgramRow (w / 0x10000 * row_bytes_of g); stored = st % 16 })
+  pub programming : c ≡ 6 → (w n : ℕ) → w ≡ get_or (list_at a ps) 0 0 → n ≡ row_bytes_of g
+      → Effects g (call_inputs v a st ps) c (record { act = ProgramRow (w / 0x10000 * n); stored = st % 16 })
   unfolding effect_of
-  programming e w f x b p = (rw (e, p, f, twice), refl)
+  programming e w n f h x b p = (rw (e, p, f, h, twice), refl)
 
   pub protecting : c ≡ 0x0D → (t : Effect) → Protects g v a st t → Effects g (call_inputs v a st ps) c t
   protecting e t f x b p = rw e (f ps x b p)

@@ -1,13 +1,17 @@
--- Laws of bytes laid over a list one by one. Assumes nothing.
+-- Laws of bytes laid over a list, at once or one by one. Assumes nothing.
 use mathlib.Core.List.{List, [], ◌∷◌, ◌++◌}
 use mathlib.Core.Path.{◌≡◌, refl, sym, ap, ◌∙◌}
 use Prim.Native.Nat.{ℕ, zero, suc, ◌+◌, ◌-◌, ◌*◌, ◌/◌, ◌%◌, ◌≤◌, ◌<◌, min}
 use native.Mathlib.Omega.{arith}
-use lib.ListN.{length, get_or, set, take, drop, replicate, length-set, length-append, length-replicate, length-drop}
-use lib.Seq.{sets, get_or-drop, take_all, length-take-le}
+use lib.ListN.{length, get_or, set, take, drop, replicate, length-set}
+use lib.Seq.{sets, sets-eq, length-take-le}
+use borrow.Rule.Slice.PartMut.{put_mid}
+use Rattle.std.proofs.Common.{append_assoc, append-nil, w32}
+use Rattle.std.proofs.lemmas.List.{drop-drop, drop_all, drop_at, take_at, take-replicate}
+use Rattle.std.specs.Int.{to_le_bytes}
 use Rattle.flow.specs.Calls.{bytes_in}
 use Rattle.flow.specs.Target.{sized}
-use Rattle.lent.proofs.Lists.{sets-cons, sets-whole}
+use Rattle.lent.proofs.Lists.{sets-cons}
 use Rattle.lent.specs.Words.{low_first}
 
 -- a store past the end does nothing
@@ -45,44 +49,48 @@ sets_end d a (suc i) (suc n) (x ∷ xs) h = sets_end (set d a x) (suc a) i n xs 
 pub sets-none : (d : List ℕ) (a : ℕ) (xs : List ℕ) → length d ≤ a → d ≡ sets d a xs
 sets-none d a xs h = sym (sets-out d a xs h)
 
--- ---- bytes cut or filled to the size of d
+-- ---- runs laid at once
 
-module _ (d src : List ℕ) where
-  -- what is laid
-  abbrev pub filled : List ℕ
-  filled = src ++ replicate (length d) 0
+-- n bytes, all of src, or as many as there is room for
+pub overlaid : (d : List ℕ) (a n k m : ℕ) (src w : List ℕ) → k ≡ min (min n (length src)) (length d - a) → w ≡ take k src → m ≡ k → a < length d
+    → put_mid a m d w ≡ sets d a (take n src)
+overlaid d a n k m src w e f g h =
+    let l : length (take k src) ≡ k = length-take-le k src (omega arith) in
+    let r : sets d a (take k src) ≡ take a d ++ take k src ++ drop (a + length (take k src)) d = sets-eq (take k src) d a (omega arith) in
+    rw (f, g, drop-drop k a d) (sym (append_assoc (take a d) (take k src) (drop (a + k) d)) ∙ sym (rw l at r)) ∙ sets_end d a k n src e
 
-  pub filled-room : length d ≤ length filled
-  filled-room = simp (length-append, length-replicate) (omega arith)
-
-  pub filled_at : (i : ℕ) → get_or filled i 0 ≡ get_or src i 0
-  filled_at i = go src i
-    where
-      zeros : (n i : ℕ) → ◌≡◌ {A = ℕ} (get_or (replicate n 0) i 0) 0
-      zeros zero i = refl
-      zeros (suc n) zero = refl
-      zeros (suc n) (suc i) = zeros n i
-
-      go : (s : List ℕ) (i : ℕ) → get_or (s ++ replicate (length d) 0) i 0 ≡ get_or s i 0
-      go [] i = zeros (length d) i
-      go (x ∷ s) zero = refl
-      go (x ∷ s) (suc i) = go s i
-
-  pub fit-end : (i : ℕ) → i ≡ length d → sets d 0 (take i filled) ≡ sized d src
-  fit-end i e = rw e (sets-whole d (sized d src) (length-take-le (length d) filled filled-room))
-
--- nothing, filled, is zeros
-pub fit-zeros : (d : List ℕ) → sized d [] ≡ replicate (length d) 0
-fit-zeros d = take_all (length d) (replicate (length d) 0) (omega (arith, length-replicate {A = ℕ} (length d) 0))
+-- src, as far as there is room, and zeros
+pub fitted : (d src v w : List ℕ) (n k m : ℕ) → n ≡ min (length src) (length d) → v ≡ take n src → w ≡ replicate k 0 → k ≡ length d - n → m ≡ k
+    → put_mid n m (v ++ drop n d) w ≡ sized d src
+fitted d src v w n k m e f g h o =
+    let l : length v ≡ n = ap length f ∙ length-take-le n src (omega arith) in
+    rw (take_at v (drop n d) n l, drop_at v (drop n d) n l, drop-drop m n d, drop_all (n + m) d (omega arith), append-nil, f, g)
+    (sym (go src (length d) (length d) n k (omega arith) e h))
+  where
+    go : (s : List ℕ) (l t n k : ℕ) → l ≤ t → n ≡ min (length s) l → k ≡ l - n → take l (s ++ replicate t 0) ≡ take n s ++ replicate k 0
+    go [] l t zero k h e f = let f' : l ≡ k = omega arith in rw (take-replicate {X = ℕ} l t 0 h, f')
+    go [] l t (suc n) k h e f = absurd (omega arith)
+    go (x ∷ s) zero t zero zero h e f = refl
+    go (x ∷ s) zero t zero (suc k) h e f = absurd (omega arith)
+    go (x ∷ s) zero t (suc n) k h e f = absurd (omega arith)
+    go (x ∷ s) (suc l) t zero k h e f = absurd (omega arith)
+    go (x ∷ s) (suc l) t (suc n) k h e f = ap (λ (r : List ℕ). x ∷ r) (go s l t n k (omega arith) (omega arith) (omega arith))
 
 -- ---- the bytes of words
 
-bytes-length : (ws : List ℕ) → length (bytes_in ws) ≡ 4 * length ws
+-- as `to_le_bytes` gives them
+pub bytes-of : (w : ℕ) → to_le_bytes w32 w ≡ low_first 4 w
+bytes-of w =
+    let e : w / 0x10000 ≡ w / 256 / 256 = omega arith in
+    let f : w / 0x1000000 ≡ w / 256 / 256 / 256 = omega arith in
+    rw (e, f)
+
+pub bytes-length : (ws : List ℕ) → length (bytes_in ws) ≡ 4 * length ws
 unfolding bytes_in
 bytes-length [] = refl
 bytes-length (w ∷ ws) = let ih = bytes-length ws in omega arith
 
-bytes-at : (ws : List ℕ) (i : ℕ) → get_or (bytes_in ws) i 0 ≡ get_or (low_first 4 (get_or ws (i / 4) 0)) (i % 4) 0
+pub bytes-at : (ws : List ℕ) (i : ℕ) → get_or (bytes_in ws) i 0 ≡ get_or (low_first 4 (get_or ws (i / 4) 0)) (i % 4) 0
 unfolding bytes_in
 bytes-at [] i = go (i % 4) (omega arith)
   where
@@ -101,18 +109,16 @@ bytes-at (w ∷ ws) (suc (suc (suc (suc i)))) =
     let f : suc (suc (suc (suc i))) % 4 ≡ i % 4 = omega arith in
     rw (e, f) (bytes-at ws i)
 
--- past the second word of a list
-pub list_at_lem : (ps : List ℕ) (i : ℕ) → get_or (bytes_in (drop 2 ps)) i 0 ≡ get_or (low_first 4 (get_or ps (i / 4 + 2) 0)) (i % 4) 0
-list_at_lem ps i =
-    let e : 2 + i / 4 ≡ i / 4 + 2 = omega arith in
-    bytes-at (drop 2 ps) i ∙ rw (get_or-drop 2 ps (i / 4) 0, e)
-
-pub list_length : (ps : List ℕ) → length (bytes_in (drop 2 ps)) ≡ 4 * (length ps - 2)
-list_length ps = bytes-length (drop 2 ps) ∙ rw (length-drop 2 ps)
-
 -- the end of a loop that lays them
-pub list-end : (d ps : List ℕ) (i n end : ℕ) → i ≤ end → end ≤ i → end ≡ min (min n (length d)) (4 * (length ps - 2))
-    → sets d 0 (take i (bytes_in (drop 2 ps))) ≡ sets d 0 (take n (bytes_in (drop 2 ps)))
-list-end d ps i n end h k e =
-    let f : i ≡ min (min n (4 * (length ps - 2))) (length d - 0) = omega arith in
-    sets_end d 0 i n (bytes_in (drop 2 ps)) (rw (list_length ps) f)
+pub list-end : (d ps ws : List ℕ) (i n : ℕ) → ws ≡ drop 2 ps → i ≡ min (min n (length d)) (4 * length ws)
+    → sets d 0 (take i (bytes_in ws)) ≡ sets d 0 (take n (bytes_in (drop 2 ps)))
+list-end d ps ws i n e f = rw (← e) (sets_end d 0 i n (bytes_in ws) (rw (bytes-length ws) (omega arith)))
+
+-- a list with no second word
+pub list-none : (d ps : List ℕ) (n : ℕ) → length ps < 2 → d ≡ sets d 0 (take n (bytes_in (drop 2 ps)))
+unfolding bytes_in
+list-none d ps n h = rw (drop_all 2 ps (omega arith)) (go n)
+  where
+    go : (n : ℕ) → d ≡ sets d 0 (take n [])
+    go zero = refl
+    go (suc n) = refl

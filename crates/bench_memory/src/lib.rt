@@ -12,26 +12,23 @@ ghost use Rattle.lent.specs.Words.{low_first};
 use bench_effects::Act;
 
 // Puts a word into PARAMS, where it has the place.
-fn put_word(params: &mut [u32], k: usize, w: u32)
-    ensures { params.new ≡ sets params.old k (w ∷ []) }
+fn put_word(params: &mut [u32], place: usize, word: u32)
+    ensures { params.new ≡ sets params.old place (word ∷ []) }
 {
-    if k < params.len() {
-        params[k] = w;
+    // Kept: not proved: `params.get_mut(place)`, whose contract does not say what the slice holds after the write.
+    if place < params.len() {
+        params[place] = word;
     }
 }
 
 // Lays the first n bytes of src over dst from `at` on; dst keeps its size.
+// Kept: no plainer: n may pass src, and the clause says `take n src`, as the definition of an act does.
 fn overlay(dst: &mut [u8], at: usize, src: &[u8], n: usize)
     ensures { dst.new ≡ sets dst.old at (take n src.now) }
 {
-    if dst.len() <= at {
-        return;
-    }
-    let end = least(least(n, src.len()), dst.len() - at);
-    let mut i: usize = 0;
-    while i < end {
-        dst[at + i] = src[i];
-        i += 1;
+    if at < dst.len() {
+        let n = n.min(src.len()).min(dst.len() - at);
+        dst[at..at + n].copy_from_slice(&src[..n]);
     }
 }
 
@@ -39,88 +36,65 @@ fn overlay(dst: &mut [u8], at: usize, src: &[u8], n: usize)
 fn fit(dst: &mut [u8], src: &[u8])
     ensures { dst.new ≡ sized dst.old src.now }
 {
-    let mut i: usize = 0;
-    while i < dst.len() {
-        dst[i] = lent::byte_at(src, i);
-        i += 1;
-    }
+    let n = src.len().min(dst.len());
+    dst[..n].copy_from_slice(&src[..n]);
+    dst[n..].fill(0);
 }
 
 // Fills the latch from byte 0 with n bytes of the list past its second word, the low byte of each word first.
+// Kept: no plainer: n is what the call's list says, the length of no buffer that is there.
 fn fill_latch(latch: &mut [u8], params: &[u32], n: usize)
     ensures { latch.new ≡ sets latch.old 0 (take n (bytes_in (drop 2 params.now))) }
 {
-    let end = held(params.len(), least(n, latch.len()));
-    let mut i: usize = 0;
-    while i < end {
-        latch[i] = byte_of(params[i / 4 + 2], i % 4);
-        i += 1;
+    if let Some(words) = params.get(2..) {
+        let end = n.min(latch.len()).min(words.len().saturating_mul(4));
+        for i in 0..end {
+            latch[i] = words[i / 4].to_le_bytes()[i % 4];
+        }
     }
 }
 
-fn least(a: usize, b: usize) -> usize
-    ensures { result ≡ min a b }
-{
-    if a < b { a } else { b }
+// The memory lent to the board.
+pub struct Memory<'a> {
+    pub flash: &'a mut [u8],
+    pub locks: &'a mut [u8],
+    pub latch: &'a mut [u8],
+    pub params: &'a mut [u32],
 }
 
-// Of n bytes, so many as a list of `words` words holds past its second.
-fn held(words: usize, n: usize) -> usize
-    ensures { result ≡ min n (4 * (words - 2)) }
-{
-    if words <= 2 {
-        return 0;
-    }
-    let most = words - 2;
-    if n / 4 < most { n } else { most * 4 }
-}
-
-// Byte k of a word, byte 0 the low one.
-fn byte_of(w: u32, k: usize) -> u8
-    ensures { result ≡ get_or (low_first 4 w) k 0 }
-{
-    if k == 0 {
-        return (w % 256) as u8;
-    }
-    if k == 1 {
-        return (w / 256 % 256) as u8;
-    }
-    if k == 2 {
-        return (w / 0x10000 % 256) as u8;
-    }
-    if k == 3 {
-        return (w / 0x1000000 % 256) as u8;
-    }
-    0
+// What a failed call leaves in the memory, lent beside it.
+#[derive(Clone, Copy)]
+pub struct Residue<'a> {
+    pub flash: &'a [u8],
+    pub locks: &'a [u8],
+    pub latch: &'a [u8],
 }
 
 // What an act leaves in the lent memory.
-pub fn perform(
-    act: Act,
-    flash: &mut [u8],
-    locks: &mut [u8],
-    latch: &mut [u8],
-    params: &mut [u32],
-    residue_flash: &[u8],
-    residue_locks: &[u8],
-    residue_latch: &[u8],
-)
-    ensures buffers { lent flash.new locks.new latch.new params.new ≡ buffers_after (residue_bytes residue_flash.now residue_locks.now residue_latch.now) act (lent flash.old locks.old latch.old params.old) }
+// Kept: no plainer: a match on a closed enum, a function for each variant.
+pub fn perform(act: Act, memory: Memory<'_>, residue: Residue<'_>)
+    ensures buffers { lent memory.exit.0.now memory.exit.1.0.now memory.exit.1.1.0.now memory.exit.1.1.1.0.now ≡ buffers_after (residue_bytes residue.entry.flash.now residue.entry.locks.now residue.entry.latch.now) act (lent memory.entry.flash.now memory.entry.locks.now memory.entry.latch.now memory.entry.params.now) }
 {
+    let Memory {
+        flash,
+        locks,
+        latch,
+        params,
+    } = memory;
     match act {
         Act::Keep => {}
-        Act::PutWord(k, w) => put_word(params, k, w),
+        Act::PutWord { place, word } => put_word(params, place, word),
         Act::PutResidue => {
-            fit(flash, residue_flash);
-            fit(locks, residue_locks);
-            fit(latch, residue_latch);
+            fit(flash, residue.flash);
+            fit(locks, residue.locks);
+            fit(latch, residue.latch);
         }
         Act::Erase => {
-            fit(flash, &residue_flash[..0]);
-            fit(locks, &residue_locks[..0]);
+            flash.fill(0);
+            locks.fill(0);
         }
         Act::FillLatch(n) => fill_latch(latch, params, n),
         Act::ProgramRow(start) => overlay(flash, start, latch, latch.len()),
-        Act::WriteLocks(start, n) => overlay(locks, start, latch, n),
+        Act::WriteLocks { start, count } => overlay(locks, start, latch, count),
     }
 }

@@ -9,17 +9,7 @@ use lib.Seq.{get_or-append-add}
 use Rattle.flow.specs.Sequence.{in_turn}
 use Rattle.flow.specs.declared.Move.{Move}
 
--- the first of two joined lists, and the second
-module _ {A : Type 0} (xs ys : List A) (d : A) (k i : ℕ) (e : length xs ≡ k) where
-  pub at_first : i < k → get_or (xs ++ ys) i d ≡ get_or xs i d
-  at_first h = get_or-append xs ys d i (rw e h)
-
-  pub at_second : k ≤ i → get_or (xs ++ ys) i d ≡ get_or ys (i - k) d
-  at_second h =
-      let s : i ≡ length xs + (i - k) = omega arith in
-      ap (λ (x : ℕ). get_or (xs ++ ys) x d) s ∙ get_or-append-add xs ys (i - k) d
-
--- the same where a came before the first, and the first ends at b
+-- the first of two joined lists, and the second, where a came before the first, and the first ends at b
 module _ {A : Type 0} (xs ys : List A) (d : A) (a b i : ℕ) (e : a + length xs ≡ b) where
   pub within : a ≤ i → i < b → get_or (xs ++ ys) (i - a) d ≡ get_or xs (i - a) d
   within l h = get_or-append xs ys d (i - a) (omega arith)
@@ -58,10 +48,3 @@ div-low n b j some h = (div-lt_iff_lt-mul {k = b} {x = j} {y = n} some).1 h
 -- the r-th of n equal parts ends in them
 pub part-ends : (n s r : ℕ) → r < n → r * s + s ≤ n * s
 part-ends n s r h = let l : suc r * s ≤ n * s = mul-le-mul_right s h in omega (arith, suc-mul r s)
-
--- past a number that it is not: for the last arm of a match
-pub past : (n j : ℕ) → n ≤ j → (j ≡ n → ⊥) → suc n ≤ j
-past n j h g = omega arith
-
-pub last : (n j : ℕ) → n ≤ j → j < suc n → j ≡ n
-last n j h g = omega arith

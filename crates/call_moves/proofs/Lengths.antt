@@ -1,22 +1,18 @@
 -- How many moves the lists have that calls are made of. Assumes nothing.
 use mathlib.Core.List.{List, [], ◌∷◌}
-use mathlib.Core.Path.{◌≡◌, refl, sym, ap, ◌∙◌}
-use Prim.Native.Nat.{ℕ, zero, suc, ◌+◌, ◌*◌, ◌/◌}
+use mathlib.Core.Path.{◌≡◌, refl, sym, ◌∙◌}
+use Prim.Native.Nat.{ℕ, ◌+◌, ◌*◌, ◌/◌}
 use native.Mathlib.Omega.{arith}
 use lib.ListN.{length, length-append}
 use Rattle.call_moves.specs.MoveAt.{opening_count}
 use Rattle.flow.proofs.Counting.{length-words}
-use Rattle.flow.specs.Sequence.{key, write, read, call, writes, listed, imo_call, acquire, silicon, privileged, latch_list, opening}
+use Rattle.flow.specs.Sequence.{write, read, call, writes, listed, imo_call, acquire, silicon, privileged, latch_list, opening}
 use Rattle.flow.specs.Session.{bare}
 use Rattle.flow.specs.declared.Purpose.{Purpose}
 use Rattle.flow.specs.declared.Purpose.TheVariants.{EntryLevel}
 use Rattle.image.specs.Image.{Image}
 use Rattle.parts.specs.Sizes.{imo_of, PARAMS}
 use Rattle.parts.specs.declared.Geometry.{Geometry}
-
-pub length-write : (s a w : ℕ) → length (write s a w) ≡ 2
-unfolding write
-length-write s a w = refl
 
 pub length-read : (s a : ℕ) (u : Purpose) → length (read s a u) ≡ 3
 unfolding read
@@ -50,17 +46,12 @@ pub length-acquire : (g : Geometry) → length (acquire g) ≡ 14 + length (imo_
 unfolding acquire write read
 length-acquire g = omega arith
 
-pub imo-some : (g : Geometry) (n : ℕ) → (n ≡ 0 → ⊥) → imo_call g n ≡ call g 1 0x15 (key 0x15)
-unfolding imo_call
-imo-some g zero h = absurd (h refl)
-imo-some g (suc n) h = refl
-
-pub length-imo : (g : Geometry) (n : ℕ) → (n ≡ 0 → ⊥) → length (imo_call g n) ≡ 10
-length-imo g n h = ap length (imo-some g n h) ∙ length-call g 1 0x15 (key 0x15)
-
 pub length-opening : (i : Image) → length (opening i) ≡ 30 + length (imo_call i.geometry (imo_of i.geometry))
 unfolding opening
 length-opening i = simp length-append (omega (arith, length-acquire i.geometry, length-silicon i.geometry EntryLevel))
 
 pub opening-counted : (i : Image) → length (opening i) ≡ opening_count i.geometry
 opening-counted i = length-opening i ∙ sym (length-opening (bare i.geometry))
+
+pub opening_length : (g : Geometry) → opening_count g ≡ 30 + length (imo_call g (imo_of g))
+opening_length g = length-opening (bare g)

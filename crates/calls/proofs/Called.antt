@@ -22,21 +22,19 @@ use Rattle.image.specs.Checks.{fault_in, image_fault}
 use Rattle.image.specs.Refusals.{first_refusal}
 use Rattle.lent.specs.Words.{low_first}
 use Rattle.image.specs.declared.Header.{Header}
-use Rattle.parts.specs.Parts.{lookup_of}
-use Rattle.parts.specs.declared.Lookup.{Lookup}
-use Rattle.parts.specs.declared.Lookup.TheVariants.{Found, Refused as NotFound}
+use Rattle.parts.specs.Parts.{Lookup, lookup_of}
+use Rattle.refusals.specs.Refusals.{refusal_number}
+use Rattle.refusals.specs.declared.Refusal.{Refusal}
 use Rattle.session.specs.Given.{start_refused, start_of, refusing, step_with}
+use Rattle.session.specs.Outcomes.{Given, Refused}
 use Rattle.session.specs.Possible.{possible}
 use Rattle.session.specs.Sessions.{no_session}
-use Rattle.session.specs.declared.Given.{Given}
-use Rattle.session.specs.declared.Outcome.TheVariants.{Refused}
 use Rattle.session.specs.declared.Session.{Session}
 use Rattle.text.proofs.Entries.{refused-eleven}
-use Rattle.text.specs.Reading.{Untouched, read_for, answer_of, buffer_after}
+use Rattle.text.specs.Reading.{ReadAnswer, Untouched, read_for, answer_of, buffer_after}
 use Rattle.storing.specs.Storing.{cleared}
-use Rattle.text.specs.Writing.{Unwritten, write_for}
-use Rattle.text.specs.declared.ReadAnswer.{ReadAnswer}
-use Rattle.text.specs.declared.WriteAnswer.{WriteAnswer}
+use Rattle.text.specs.Writing.{WriteAnswer, Unwritten, write_for}
+use Rattle.std.specs.Prelude.{Ok, Err}
 
 -- what a contract says: the number, and both buffers
 abbrev pub Leaves : CallResult → (number : ℕ) (first second : List ℕ) → Type 0
@@ -50,6 +48,10 @@ leaves-as x y n f s e l =
 -- 11 is past, or 12 is not come to
 abbrev pub eleven_or12 : (part macros : ℕ) → ℕ
 eleven_or12 part macros = cond (in_table part macros) 12 11
+
+-- what the look-up refuses is 11
+pub not_found : (part macros : ℕ) (r : Refusal) → lookup_of part macros ≡ Err r → refusal_number r ≡ eleven_or12 part macros
+not_found part macros r e = rw e (ap refusal_number (refused-eleven part macros r e))
 
 -- ---- reading
 
@@ -71,8 +73,8 @@ module _ (part macros : ℕ) (text image header : List ℕ) where
       by : (l : Lookup) → lookup_of part macros ≡ l
           → read_into (refused_or (cond (is_found l) 0 11) Untouched (read_for l part macros (length image) (content_of text))) image header
           ≡ read_into (read_for l part macros (length image) (content_of text)) image header
-      by (NotFound n) e = rw (refused-eleven part macros n e)
-      by (Found g) e = refl
+      by (Err n) e = rw (refused-eleven part macros n e)
+      by (Ok g) e = refl
 
   -- the reader's answer, and its header put
   pub read_done : (answer : ReadAnswer) (image' header' : List ℕ) → 17 ≤ length header → answer ≡ answer_of (hex_reading part macros text (length image))
@@ -107,8 +109,8 @@ module _ (header image text length_bytes : List ℕ) where
         by : (l : Lookup) → lookup_of (header_in header).part (header_in header).macros ≡ l
             → write_into (refused_or (cond (is_found l) 0 11) Unwritten (write_for intel_hex l (header_in header) image (length text))) text length_bytes
             ≡ write_into (write_for intel_hex l (header_in header) image (length text)) text length_bytes
-        by (NotFound k) e = rw (refused-eleven (header_in header).part (header_in header).macros k e)
-        by (Found g) e = refl
+        by (Err k) e = rw (refused-eleven (header_in header).part (header_in header).macros k e)
+        by (Ok g) e = refl
 
     -- the writer's answer, and its length put
     pub write_done : (h : Header) (answer : WriteAnswer) (text' length_bytes' : List ℕ) → 8 ≤ length length_bytes → h ≡ header_in header → answer ≡ write_of h image text
@@ -128,10 +130,10 @@ unfolding start_of
 start-eleven h bytes leave = by (lookup_of h.part h.macros) refl
   where
     by : (l : Lookup) → lookup_of h.part h.macros ≡ l → is_found l ≡ false → start_of h bytes leave ≡ start_refused 11
-    by (NotFound n) e z =
-        let is : image_fault h bytes ≡ 11 = ap (λ (k : Lookup). fault_in k h bytes) e ∙ refused-eleven h.part h.macros n e in
+    by (Err n) e z =
+        let is : image_fault h bytes ≡ 11 = ap (λ (k : Lookup). fault_in k h bytes) e ∙ ap refusal_number (refused-eleven h.part h.macros n e) in
         rw is
-    by (Found g) e z = absurd (false≢true (sym z))
+    by (Ok g) e z = absurd (false≢true (sym z))
 
 -- 'A record, session or length given with a refusal is all 0.'
 pub zero-session : (b : List ℕ) → cleared 45 b ≡ put_into b (session_bytes no_session)

@@ -19,19 +19,16 @@ use Rattle.flow.specs.declared.Answer.{Answer}
 use Rattle.image.specs.Checks.{image_fault}
 use Rattle.image.specs.Image.{Image, image_of}
 use Rattle.image.specs.declared.Header.{Header}
-use Rattle.parts.specs.Parts.{lookup_of}
+use Rattle.parts.specs.Parts.{Lookup, lookup_of}
 use Rattle.parts.specs.Sizes.{image_size}
 use Rattle.parts.specs.declared.Geometry.{Geometry}
-use Rattle.parts.specs.declared.Lookup.{Lookup}
-use Rattle.parts.specs.declared.Lookup.TheVariants.{Found, Refused as NotFound}
 use Rattle.session.proofs.Stepping.{looked-up, not-refused}
 use Rattle.session.specs.Given.{start_refused, started_on, wants_leave, start_of, refusing, outcome_at, giving, step_on, step_for, step_with}
 use Rattle.session.specs.Kept.{Unrefused}
+use Rattle.session.specs.Outcomes.{Given, Outcome, Refused, Ask, Reported}
 use Rattle.session.specs.Possible.{possible_in, possible_for, possible}
 use Rattle.session.specs.Sessions.{stand_of, resumed}
-use Rattle.session.specs.declared.Given.{Given}
-use Rattle.session.specs.declared.Outcome.{Outcome}
-use Rattle.session.specs.declared.Outcome.TheVariants.{Refused, Ask, Reported}
+use Rattle.std.specs.Prelude.{Ok, Err}
 use Rattle.session.specs.declared.Session.{Session}
 
 pub either : (P : Given → Type 0) (t : Bool) (r r' : Given) → P r → P r' → P (cond t r r')
@@ -78,8 +75,8 @@ unfolding Free
 free-giving i s z n e = not-refused i (stand_of s) n e
 
 free-for : (l : Lookup) (s : Session) (bytes : List ℕ) (a : Answer) → Free (step_for l s bytes a)
-free-for (NotFound n) s bytes a = free-refusing s 13 (λ z. omega arith)
-free-for (Found g) s bytes a =
+free-for (Err n) s bytes a = free-refusing s 13 (λ z. omega arith)
+free-for (Ok g) s bytes a =
     either Free (possible_in g s) _ _
     (sized-ways Free g s bytes a (free-giving (image_of g s.header bytes)) (free-refusing s 14 (λ z. omega arith)) (free-refusing s 12 (λ z. omega arith)))
     (free-refusing s 13 (λ z. omega arith))
@@ -126,9 +123,9 @@ unfolding Not13
 not-thirteen s bytes a can = by (lookup_of s.header.part s.header.macros) refl
   where
     by : (l : Lookup) → lookup_of s.header.part s.header.macros ≡ l → Not13 (step_with s bytes a)
-    by (NotFound n) e = absurd (false≢true (sym (ap (λ (l : Lookup). possible_for l s) e) ∙ can))
-    by (Found g) e =
+    by (Err n) e = absurd (false≢true (sym (ap (λ (l : Lookup). possible_for l s) e) ∙ can))
+    by (Ok g) e =
         let is : possible_in g s ≡ true = sym (ap (λ (l : Lookup). possible_for l s) e) ∙ can in
-        let to : step_with s bytes a ≡ cond (eqb (length bytes) (image_size g)) (step_on g s bytes a) (refusing s 12) = looked-up s bytes a (Found g) e ∙ simp is in
+        let to : step_with s bytes a ≡ cond (eqb (length bytes) (image_size g)) (step_on g s bytes a) (refusing s 12) = looked-up s bytes a (Ok g) e ∙ simp is in
         subst Not13 (sym to)
         (sized-ways Not13 g s bytes a (not13-giving (image_of g s.header bytes)) (not13-refusing s 14 (λ z. omega arith)) (not13-refusing s 12 (λ z. omega arith)))

@@ -20,13 +20,12 @@ use Rattle.flow.specs.declared.Position.{Position}
 use Rattle.image.specs.declared.Header.{Header}
 use Rattle.layout.proofs.Bytes.{low-less}
 use Rattle.flow.specs.Session.{move_count}
-use Rattle.parts.specs.Parts.{lookup_of}
+use Rattle.parts.specs.Parts.{Lookup, lookup_of}
 use Rattle.parts.specs.declared.Geometry.{Geometry}
-use Rattle.parts.specs.declared.Lookup.{Lookup}
-use Rattle.parts.specs.declared.Lookup.TheVariants.{Found, Refused as NotFound}
 use Rattle.session.proofs.Possibility.{Parts, parts, whole}
 use Rattle.session.specs.Possible.{header_fits, running_fits, report_fits, possible_in, possible_for, possible}
 use Rattle.session.specs.Given.{step_with}
+use Rattle.std.specs.Prelude.{Ok, Err}
 use Rattle.session.specs.declared.Session.{Session}
 
 -- tests that smaller numbers pass too
@@ -71,10 +70,10 @@ near-possible : (s d : Session) → Near s d → possible s ≡ true → possibl
 near-possible s d k can = by (lookup_of s.header.part s.header.macros) refl
   where
     by : (l : Lookup) → lookup_of s.header.part s.header.macros ≡ l → possible d ≡ true
-    by (NotFound n) e = absurd (false≢true (sym (ap (λ (l : Lookup). possible_for l s) e) ∙ can))
-    by (Found g) e =
+    by (Err n) e = absurd (false≢true (sym (ap (λ (l : Lookup). possible_for l s) e) ∙ can))
+    by (Ok g) e =
         let is : possible_in g s ≡ true = sym (ap (λ (l : Lookup). possible_for l s) e) ∙ can in
-        let found : lookup_of d.header.part d.header.macros ≡ Found g = ap (λ (h : Header). lookup_of h.part h.macros) k.header ∙ e in
+        let found : lookup_of d.header.part d.header.macros ≡ Ok g = ap (λ (h : Header). lookup_of h.part h.macros) k.header ∙ e in
         ap (λ (l : Lookup). possible_for l d) found ∙ whole g d (near_parts g s d k (parts g s is))
 
 -- the next step on bytes that begin with a possible session's

@@ -25,15 +25,14 @@ use Rattle.sections.specs.Sections.{sections_of, header_of}
 use Rattle.lent.specs.Words.{low_first}
 use Rattle.image.specs.declared.Header.{Header}
 use Rattle.sections.specs.declared.Location.TheVariants.{InHeader}
-use Rattle.parts.specs.Parts.{lookup_of}
+use Rattle.parts.specs.Parts.{Lookup, lookup_of}
 use Rattle.parts.specs.Sizes.{image_size}
 use Rattle.parts.specs.declared.Geometry.{Geometry}
-use Rattle.parts.specs.declared.Lookup.{Lookup}
-use Rattle.parts.specs.declared.Lookup.TheVariants.{Found}
 use Rattle.text.proofs.Placing.{sections-length}
 use Rattle.text.proofs.Taken.{taken-from, each-byte}
 use Rattle.text.specs.Placing.{gathered}
 use Rattle.text.specs.Reading.{Reading, Untouched, Cleared, Taken, answer_of}
+use Rattle.std.specs.Prelude.{Ok}
 use Rattle.text.specs.Writing.{Writing, Unwritten, Written, write_for, answer_to, left_by}
 
 -- ---- what is read has twelve metadata bytes
@@ -98,7 +97,7 @@ module _ (part macros : ℕ) (text image header : List ℕ) where
   unfolding after_read_call first_refusal
   read-eleven e = rw e (refl, refl)
 
-  read-lacks : (g : Geometry) → lookup_of part macros ≡ Found g → ¬ ((17 ≤ length header) × (image_size g ≤ length image))
+  read-lacks : (g : Geometry) → lookup_of part macros ≡ Ok g → ¬ ((17 ≤ length header) × (image_size g ≤ length image))
       → Untouched-with 12 (after_read_call part macros text image header)
   read-lacks g e lacks = by (leb 17 (length header)) refl
     where
@@ -130,17 +129,17 @@ module _ (header image text length_bytes : List ℕ) where
 
   -- the core's own 12
   other-sizes : (g : Geometry) (h : Header) → ¬ ((length image ≡ image_size g) × (text_length g ≤ length text))
-      → (answer_to (write_for intel_hex (Found g) h image (length text))).number ≡ 12
+      → (answer_to (write_for intel_hex (Ok g) h image (length text))).number ≡ 12
   unfolding first_refusal
   other-sizes g h lacks = by (eqb (length image) (image_size g)) refl
     where
-      by : (t : Bool) → eqb (length image) (image_size g) ≡ t → (answer_to (write_for intel_hex (Found g) h image (length text))).number ≡ 12
+      by : (t : Bool) → eqb (length image) (image_size g) ≡ t → (answer_to (write_for intel_hex (Ok g) h image (length text))).number ≡ 12
       by true e =
           let f = lt-leb (text_length g) (length text) (over (text_length g) (length text) (λ k. lacks (eqb-true (length image) (image_size g) e, k))) in
           rw (e, f)
       by false e = rw e
 
-  write-lacks : (g : Geometry) → 17 ≤ length header → lookup_of (get_or header 0 0) (get_or header 1 0) ≡ Found g
+  write-lacks : (g : Geometry) → 17 ≤ length header → lookup_of (get_or header 0 0) (get_or header 1 0) ≡ Ok g
       → ¬ ((8 ≤ length length_bytes) × (length image ≡ image_size g) × (text_length g ≤ length text))
       → (after_write_call header image text length_bytes).number ≡ 12
   unfolding header_in

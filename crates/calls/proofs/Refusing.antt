@@ -9,14 +9,13 @@ use lib.Dec.{ltb}
 use lib.ListN.{length}
 use Rattle.flow.specs.declared.Answer.{Answer}
 use Rattle.parts.proofs.Table.{everywhere, at-found}
-use Rattle.parts.specs.Parts.{part_table, lookup_of}
+use Rattle.parts.specs.Parts.{Lookup, part_table, lookup_of}
 use Rattle.parts.specs.Sizes.{rows_of, flash_size, lock_total, image_size}
 use Rattle.parts.specs.declared.Geometry.{Geometry}
-use Rattle.parts.specs.declared.Lookup.{Lookup}
-use Rattle.parts.specs.declared.Lookup.TheVariants.{Found, Refused as NotFound}
 use Rattle.session.proofs.Stepping.{looked-up}
 use Rattle.session.specs.Given.{refusing, step_with}
 use Rattle.session.specs.Possible.{possible_in, possible_for, possible}
+use Rattle.std.specs.Prelude.{Ok, Err}
 use Rattle.session.specs.declared.Session.{Session}
 
 -- no image of the table is empty
@@ -33,23 +32,23 @@ module _ (s : Session) (bytes : List ℕ) (a : Answer) where
   impossible = by (lookup_of s.header.part s.header.macros) refl
     where
       by : (l : Lookup) → lookup_of s.header.part s.header.macros ≡ l → possible_for l s ≡ false → step_with s bytes a ≡ refusing s 13
-      by (NotFound n) e z = looked-up s bytes a (NotFound n) e
-      by (Found g) e z = looked-up s bytes a (Found g) e ∙ simp z
+      by (Err n) e z = looked-up s bytes a (Err n) e
+      by (Ok g) e z = looked-up s bytes a (Ok g) e ∙ simp z
 
   -- '.. 12, ..'
-  pub other-image : (g : Geometry) → lookup_of s.header.part s.header.macros ≡ Found g → possible s ≡ true → ¬ (length bytes ≡ image_size g)
+  pub other-image : (g : Geometry) → lookup_of s.header.part s.header.macros ≡ Ok g → possible s ≡ true → ¬ (length bytes ≡ image_size g)
       → step_with s bytes a ≡ refusing s 12
   other-image g e z n =
       let can : possible_in g s ≡ true = sym (ap (λ (l : Lookup). possible_for l s) e) ∙ z in
-      looked-up s bytes a (Found g) e ∙ simp (can, ne_eqb (length bytes) (image_size g) n)
+      looked-up s bytes a (Ok g) e ∙ simp (can, ne_eqb (length bytes) (image_size g) n)
 
 -- no answer goes on with no byte of an image
 pub no-image : (s : Session) (a : Answer) → step_with s [] a ≡ refusing s (cond (possible s) 12 13)
 no-image s a = by (possible s) refl
   where
     found : (l : Lookup) → lookup_of s.header.part s.header.macros ≡ l → possible s ≡ true → step_with s [] a ≡ refusing s 12
-    found (NotFound n) e z = absurd (false≢true (sym (ap (λ (k : Lookup). possible_for k s) e) ∙ z))
-    found (Found g) e z =
+    found (Err n) e z = absurd (false≢true (sym (ap (λ (k : Lookup). possible_for k s) e) ∙ z))
+    found (Ok g) e z =
         let some = ltb-true 0 (image_size g) (at-found sizeable all-sizeable s.header.part s.header.macros e) in
         other-image s [] a g e z (λ n. omega arith)
 

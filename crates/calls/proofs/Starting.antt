@@ -22,14 +22,13 @@ use Rattle.encoding.specs.Sessions.{session_bytes}
 use Rattle.image.specs.Checks.{fault_in, image_fault}
 use Rattle.image.specs.Refusals.{first_refusal}
 use Rattle.image.specs.declared.Header.{Header}
-use Rattle.parts.specs.Parts.{lookup_of}
+use Rattle.parts.specs.Parts.{Lookup, lookup_of}
 use Rattle.parts.specs.Sizes.{image_size}
 use Rattle.parts.specs.declared.Geometry.{Geometry}
-use Rattle.parts.specs.declared.Lookup.{Lookup}
-use Rattle.parts.specs.declared.Lookup.TheVariants.{Found}
 use Rattle.session.proofs.Kept.{session-claims}
 use Rattle.session.specs.Given.{start_refused, started_on, wants_leave, start_of}
-use Rattle.session.specs.declared.Given.{Given}
+use Rattle.session.specs.Outcomes.{Given}
+use Rattle.std.specs.Prelude.{Ok}
 
 start-twelve : (h : Header) (bytes : List ℕ) (leave : Bool) → Twelve h → Twelve (start_of h bytes leave).session.header
 unfolding start_of
@@ -53,7 +52,7 @@ none-start h bytes leave =
     (none-refused (image_fault h bytes))
 
 -- the core's own 12
-start-other : (g : Geometry) (h : Header) (bytes : List ℕ) (leave : Bool) → lookup_of h.part h.macros ≡ Found g → ¬ (length bytes ≡ image_size g)
+start-other : (g : Geometry) (h : Header) (bytes : List ℕ) (leave : Bool) → lookup_of h.part h.macros ≡ Ok g → ¬ (length bytes ≡ image_size g)
     → start_of h bytes leave ≡ start_refused 12
 unfolding start_of first_refusal
 start-other g h bytes leave e lacks =
@@ -80,7 +79,7 @@ module _ (header image : List ℕ) (leave : ℕ) (session outcome : List ℕ) wh
   unfolding after_start_call first_refusal header_in
   start-eleven n e = rw (le-leb 17 (length header) n, e)
 
-  start-lacks : (g : Geometry) → 17 ≤ length header → lookup_of (get_or header 0 0) (get_or header 1 0) ≡ Found g
+  start-lacks : (g : Geometry) → 17 ≤ length header → lookup_of (get_or header 0 0) (get_or header 1 0) ≡ Ok g
       → ¬ ((45 ≤ length session) × (8 ≤ length outcome) × (length image ≡ image_size g))
       → (after_start_call header image leave session outcome).number ≡ 12
   unfolding header_in

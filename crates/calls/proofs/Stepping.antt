@@ -28,11 +28,11 @@ use Rattle.image.specs.declared.Header.{Header}
 use Rattle.parts.specs.Parts.{lookup_of}
 use Rattle.parts.specs.Sizes.{image_size}
 use Rattle.parts.specs.declared.Geometry.{Geometry}
-use Rattle.parts.specs.declared.Lookup.TheVariants.{Found}
 use Rattle.session.proofs.Kept.{session-claims, header-stays}
 use Rattle.session.specs.Given.{refusing, step_with}
+use Rattle.session.specs.Outcomes.{Given}
 use Rattle.session.specs.Possible.{possible}
-use Rattle.session.specs.declared.Given.{Given}
+use Rattle.std.specs.Prelude.{Ok}
 
 session-header : (bs : List ℕ) → (session_in bs).header ≡ header_in bs
 unfolding session_in
@@ -56,7 +56,7 @@ module _ (session image : List ℕ) (a : Answer) (outcome : List ℕ) where
   unfolding after_step_call first_refusal
   step-thirteen n e = rw (le-leb 45 (length session) n, e)
 
-  step-lacks : (g : Geometry) → 45 ≤ length session → lookup_of (get_or session 0 0) (get_or session 1 0) ≡ Found g
+  step-lacks : (g : Geometry) → 45 ≤ length session → lookup_of (get_or session 0 0) (get_or session 1 0) ≡ Ok g
       → (is_session session && possible (session_in session)) ≡ true
       → ¬ ((8 ≤ length outcome) × (length image ≡ image_size g))
       → (after_step_call session image a outcome).number ≡ 12

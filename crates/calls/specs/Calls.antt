@@ -1,6 +1,6 @@
 -- What the calls over bytes return, and what they leave in the bytes lent to them: document 01, 'Who brings a number about', last paragraph.
 -- A header has 17 bytes, a session 45, an outcome and a length 8. What is lent for one may be longer. Assumes nothing.
-use Rattle.std.specs.Prelude.{Bool, true, false, ◌&&◌, not, cond, List, [], ◌∷◌, ℕ, eqb, leb, length}
+use Rattle.std.specs.Prelude.{Bool, true, false, ◌&&◌, not, cond, List, [], ◌∷◌, ℕ, eqb, leb, length, Ok, Err}
 use Rattle.encoding.specs.Buffers.{put_into}
 use Rattle.encoding.specs.Outcomes.{outcome_bytes, number_of}
 use Rattle.encoding.specs.Headers.{header_bytes, header_in}
@@ -11,12 +11,10 @@ use Rattle.hex_format.specs.Texts.{hex_reading}
 use Rattle.hex_writer.specs.Writing.{writing}
 use Rattle.image.specs.Refusals.{◌unless◌, first_refusal}
 use Rattle.lent.specs.Words.{low_first}
-use Rattle.parts.specs.Parts.{lookup_of}
-use Rattle.parts.specs.declared.Lookup.{Lookup}
-use Rattle.parts.specs.declared.Lookup.TheVariants.{Found, Refused}
+use Rattle.parts.specs.Parts.{Lookup, lookup_of}
 use Rattle.session.specs.Given.{start_of, start_refused, step_with, refusing}
+use Rattle.session.specs.Outcomes.{Given}
 use Rattle.session.specs.Possible.{possible}
-use Rattle.session.specs.declared.Given.{Given}
 use Rattle.text.specs.Reading.{Reading, Untouched, answer_of, buffer_after}
 use Rattle.text.specs.Writing.{Writing, Unwritten, answer_to, left_by}
 
@@ -37,8 +35,8 @@ holds size buffer = leb size (length buffer)
 
 -- '11 part or M'
 abbrev pub is_found : Lookup → Bool
-is_found (Found g) = true
-is_found (Refused n) = false
+is_found (Ok g) = true
+is_found (Err n) = false
 
 abbrev pub in_table : (part macros : ℕ) → Bool
 in_table part macros = is_found (lookup_of part macros)

@@ -1,6 +1,6 @@
 -- What the bytes promise: nothing is lost either way, a refusal leaves zeros, numbers come in document 01's order, and a session that a call
 -- wrote is never refused as none. Assumes nothing.
-use Rattle.std.specs.Prelude.{true, false, ◌&&◌, List, ◌++◌, ◌≡◌, ℕ, ◌≤◌, ◌<◌, length, get_or, take, replicate}
+use Rattle.std.specs.Prelude.{true, false, ◌&&◌, List, ◌++◌, ◌≡◌, ℕ, ◌≤◌, ◌<◌, length, get_or, take, replicate, Ok}
 use Rattle.calls.specs.Calls.{CallResult, in_table, yes, after_read_call, after_write_call, after_start_call, after_step_call}
 use Rattle.encoding.specs.Buffers.{Kept}
 use Rattle.encoding.specs.Outcomes.{outcome_bytes, outcome_in, number_of}
@@ -17,11 +17,9 @@ use Rattle.layout.specs.Bytes.{Word}
 use Rattle.parts.specs.Parts.{lookup_of}
 use Rattle.parts.specs.Sizes.{image_size}
 use Rattle.parts.specs.declared.Geometry.{Geometry}
-use Rattle.parts.specs.declared.Lookup.TheVariants.{Found}
 use Rattle.session.specs.Given.{start_of, step_with}
+use Rattle.session.specs.Outcomes.{Outcome, Refused}
 use Rattle.session.specs.Possible.{possible}
-use Rattle.session.specs.declared.Outcome.{Outcome}
-use Rattle.session.specs.declared.Outcome.TheVariants.{Refused}
 use Rattle.session.specs.declared.Session.{Session}
 use Rattle.text.specs.Reading.{answer_of, buffer_after}
 
@@ -44,7 +42,7 @@ Never13 session = (image : List ℕ) (a : Answer) (outcome : List ℕ) → ¬ ((
 pub record ReadClaims (part macros : ℕ) (text image header : List ℕ) (r : CallResult) : Type 0 where
   -- 'Reading checks 11, 12, ..': 11 whatever the lengths are; 'Other refusals write nothing'
   pub eleven : in_table part macros ≡ false → (r.number ≡ 11) × (r.first ≡ image)
-  pub twelve : (g : Geometry) → lookup_of part macros ≡ Found g → ¬ ((17 ≤ length header) × (image_size g ≤ length image)) → (r.number ≡ 12) × (r.first ≡ image)
+  pub twelve : (g : Geometry) → lookup_of part macros ≡ Ok g → ¬ ((17 ≤ length header) × (image_size g ≤ length image)) → (r.number ≡ 12) × (r.first ≡ image)
   pub zeroed : Zeroed r.number 17 header r.second
   pub kept : Kept 17 header r.second
   -- with room for the header it is the core's reading
@@ -57,7 +55,7 @@ pub record WriteClaims (header image text length_bytes : List ℕ) (r : CallResu
   pub partless : length header < 17 → r.number ≡ 12
   -- 'Writing and starting check 11, 12, 6 to 10'
   pub eleven : 17 ≤ length header → in_table (get_or header 0 0) (get_or header 1 0) ≡ false → r.number ≡ 11
-  pub twelve : (g : Geometry) → 17 ≤ length header → lookup_of (get_or header 0 0) (get_or header 1 0) ≡ Found g
+  pub twelve : (g : Geometry) → 17 ≤ length header → lookup_of (get_or header 0 0) (get_or header 1 0) ≡ Ok g
       → ¬ ((8 ≤ length length_bytes) × (length image ≡ image_size g) × (text_length g ≤ length text))
       → r.number ≡ 12
   -- 'Other refusals write nothing'
@@ -73,7 +71,7 @@ pub record StartClaims (header image : List ℕ) (leave : ℕ) (session outcome 
   pub partless : length header < 17 → r.number ≡ 12
   -- 'Writing and starting check 11, 12, 6 to 10; starting then 15'
   pub eleven : 17 ≤ length header → in_table (get_or header 0 0) (get_or header 1 0) ≡ false → r.number ≡ 11
-  pub twelve : (g : Geometry) → 17 ≤ length header → lookup_of (get_or header 0 0) (get_or header 1 0) ≡ Found g
+  pub twelve : (g : Geometry) → 17 ≤ length header → lookup_of (get_or header 0 0) (get_or header 1 0) ≡ Ok g
       → ¬ ((45 ≤ length session) × (8 ≤ length outcome) × (length image ≡ image_size g))
       → r.number ≡ 12
   pub zeroed : Zeroed r.number 45 session r.first
@@ -91,7 +89,7 @@ pub record StepClaims (session image : List ℕ) (a : Answer) (outcome : List �
   pub sessionless : length session < 45 → r.number ≡ 12
   -- 'A step checks 13, 12, 14': 13 whatever outcome and image are
   pub thirteen : 45 ≤ length session → (is_session session && possible (session_in session)) ≡ false → r.number ≡ 13
-  pub twelve : (g : Geometry) → 45 ≤ length session → lookup_of (get_or session 0 0) (get_or session 1 0) ≡ Found g
+  pub twelve : (g : Geometry) → 45 ≤ length session → lookup_of (get_or session 0 0) (get_or session 1 0) ≡ Ok g
       → (is_session session && possible (session_in session)) ≡ true
       → ¬ ((8 ≤ length outcome) × (length image ≡ image_size g))
       → r.number ≡ 12

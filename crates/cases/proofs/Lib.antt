@@ -1,3 +1,2 @@
 pub mod Fnv
-pub mod Parts
 pub mod Taking

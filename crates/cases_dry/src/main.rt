@@ -1,17 +1,10 @@
 // Reads texts on standard input and prints, for each, the line of its dry run (tests/vectors/README.md).
 #![tactic(auto)]
 
-ghost use Rattle.std.specs.Prelude.{◌≡◌, ◌≤◌, length};
+ghost use Rattle.std.specs.Prelude.{◌≤◌};
 
 use std::io;
 use std::io::Read;
-
-// Room for a text. Its contract keeps the prover from writing out so long an array.
-fn blank() -> [u8; 524288]
-    ensures { 524288 ≡ length result }
-{
-    [0; 524288]
-}
 
 fn print_case(rt: &impl Print, text: &[u8]) -> io::Result<()> {
     let mut line = [0u8; 32];
@@ -23,7 +16,7 @@ fn print_case(rt: &impl Print, text: &[u8]) -> io::Result<()> {
 fn take_case(rt: &impl Print, input: &mut impl Read, length: usize) -> io::Result<()>
     requires { length ≤ 524288 }
 {
-    let mut text = blank();
+    let mut text = cases::filled::<524288>(0);
     cases::read_full(input, &mut text[..length])?;
     // The line feed: a number without digits.
     cases::read_number(input, 0)?;
@@ -41,11 +34,13 @@ fn next_case(rt: &impl Print, input: &mut impl Read) -> io::Result<bool> {
 }
 
 // Nothing says that the input ends, so the turns are counted.
+// Kept: no plainer: a main for all would take a closure over standard input, of which a public function's contract can say nothing.
 fn main(rt: HostRuntime) -> io::Result<()> {
     let mut input = rt.stdin();
-    let mut turns = u64::MAX;
-    while turns > 0 && next_case(&rt, &mut input)? {
-        turns -= 1;
+    for _ in 0..u64::MAX {
+        if !next_case(&rt, &mut input)? {
+            break;
+        }
     }
     Ok(())
 }

@@ -1,80 +1,55 @@
 // Reads cases of hex text on standard input and prints, for each, what hex_reader::read gives (tests/vectors/README.md).
 #![tactic(auto)]
 
-ghost use Rattle.std.specs.Prelude.{◌≡◌, ◌≤◌, length};
+ghost use Rattle.std.specs.Prelude.{◌≤◌};
 
 use image::Header;
-use std::io;
+use refusals::Refusal;
 use std::io::Read;
-use text::ReadAnswer;
+use std::{fmt, io};
 
-fn print_space(rt: &impl Print) -> io::Result<()> {
-    rt.write_all(b" ")
-}
+// A header, as the line of a case ends with it.
+#[derive(Clone, Copy)]
+struct Fields(Header);
 
-fn print_number(rt: &impl Print, n: u64) -> io::Result<()> {
-    print_space(rt)?;
-    print!(rt; "{n}")
-}
-
-fn print_pair(rt: &impl Print, b: u8) -> io::Result<()> {
-    print!(rt; "{b:02x}")
-}
-
-fn print_metadata(rt: &impl Print, metadata: [u8; 12]) -> io::Result<()> {
-    print_space(rt)?;
-    let mut i: usize = 0;
-    while i < 12 {
-        print_pair(rt, metadata[i])?;
-        i += 1;
+impl fmt::Display for Fields {
+    fn fmt<W: fmt::Write>(&self, f: &mut fmt::Formatter<W>) -> fmt::Result {
+        let Header {
+            part,
+            macros,
+            sum,
+            metadata,
+            level,
+        } = self.0;
+        write!(f, "{part} {macros} {sum} ")?;
+        for b in metadata {
+            write!(f, "{b:02x}")?;
+        }
+        write!(f, " {level}")
     }
-    Ok(())
-}
-
-fn print_header(rt: &impl Print, header: Header) -> io::Result<()> {
-    let metadata = header.metadata;
-    print_number(rt, header.part as u64)?;
-    print_number(rt, header.macros as u64)?;
-    print_number(rt, header.sum as u64)?;
-    print_metadata(rt, metadata)?;
-    print_number(rt, header.level as u64)
 }
 
 // The line of a case: the number, the digest of the whole buffer and, where the text is taken, the header.
-fn print_line(rt: &impl Print, answer: ReadAnswer, digest: u64) -> io::Result<()> {
-    let number = answer.number;
-    print!(rt; "{number}")?;
-    print_space(rt)?;
-    print!(rt; "{digest:016x}")?;
-    if number == 0 {
-        let header = answer.header;
-        print_header(rt, header)?;
+fn print_line(rt: &impl Print, read: Result<Header, Refusal>, digest: u64) -> io::Result<()> {
+    match read {
+        Ok(header) => {
+            let fields = Fields(header);
+            println!(rt; "0 {digest:016x} {fields}")
+        }
+        Err(refusal) => {
+            let number = refusal.number();
+            println!(rt; "{number} {digest:016x}")
+        }
     }
-    rt.write_all(b"\n")
-}
-
-// The buffer of a case, before the call. Its contract keeps the prover from writing out so long an array.
-fn filled() -> [u8; 139264]
-    ensures { 139264 ≡ length result }
-{
-    [165; 139264]
-}
-
-// Room for a text.
-fn blank() -> [u8; 524288]
-    ensures { 524288 ≡ length result }
-{
-    [0; 524288]
 }
 
 // Reads a text into the first `room` bytes of a fresh buffer, and prints what that gives.
 fn print_case(rt: &impl Print, part: u8, macros: u8, room: usize, text: &[u8]) -> io::Result<()>
     requires { room ≤ 139264 }
 {
-    let mut buffer = filled();
-    let answer = hex_reader::read(part, macros, text, &mut buffer[..room]);
-    let digest = cases::digest(&buffer);
-    print_line(rt, answer, digest)
+    let mut buffer = cases::filled::<139264>(165);
+    let read = hex_reader::read(part, macros, text, &mut buffer[..room]);
+    print_line(rt, read, cases::digest(&buffer))
 }
 
 // Takes a text of so many bytes from the input, and prints its line.
@@ -88,7 +63,7 @@ fn take_case(
 ) -> io::Result<()>
     requires { (room ≤ 139264) × (length ≤ 524288) }
 {
-    let mut text = blank();
+    let mut text = cases::filled::<524288>(0);
     cases::read_full(input, &mut text[..length])?;
     // The line feed: a number without digits.
     cases::read_number(input, 0)?;
@@ -116,11 +91,13 @@ fn next_case(rt: &impl Print, input: &mut impl Read) -> io::Result<bool> {
 }
 
 // Nothing says that the input ends, so the turns are counted.
+// Kept: no plainer: a main for all would take a closure over standard input, of which a public function's contract can say nothing.
 fn main(rt: HostRuntime) -> io::Result<()> {
     let mut input = rt.stdin();
-    let mut turns = u64::MAX;
-    while turns > 0 && next_case(&rt, &mut input)? {
-        turns -= 1;
+    for _ in 0..u64::MAX {
+        if !next_case(&rt, &mut input)? {
+            break;
+        }
     }
     Ok(())
 }

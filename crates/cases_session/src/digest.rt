@@ -1,21 +1,13 @@
 // The digest of all packets, with the steps that must be refused among them.
 use flow::{Answer, Packet, Reply};
-use session::{Given, Outcome, Session};
+use session::{Given, Session};
 
 pub(crate) fn is_transfer(packet: Packet) -> bool {
-    match packet {
-        Packet::Xres => false,
-        Packet::LineReset => false,
-        Packet::Read(_) => true,
-        Packet::Write(_, _, _) => true,
-    }
+    matches!(packet, Packet::Read(_) | Packet::Write(_, _, _))
 }
 
 fn mixed_word(h: u64, w: u32) -> u64 {
-    let one = cases::mixed(h, (w % 256) as u8);
-    let two = cases::mixed(one, (w / 256 % 256) as u8);
-    let three = cases::mixed(two, (w / 0x10000 % 256) as u8);
-    cases::mixed(three, (w / 0x1000000) as u8)
+    w.to_le_bytes().iter().fold(h, |h, b| cases::mixed(h, *b))
 }
 
 // The digest after a packet more.
@@ -32,14 +24,13 @@ fn mixed_packet(h: u64, packet: Packet) -> u64 {
 }
 
 // The digest after a step that is refused; any other outcome leaves a 0 there.
+// Kept: what may not change: the 0 goes into the digest that is printed.
 fn mixed_refusal(h: u64, given: Given) -> u64 {
-    let o = given.outcome;
-    let marked = cases::mixed(h, 240);
-    match o {
-        Outcome::Refused(n) => cases::mixed(marked, n),
-        Outcome::Ask(_) => cases::mixed(marked, 0),
-        Outcome::Reported(_) => cases::mixed(marked, 0),
-    }
+    let number = match given.outcome {
+        Ok(_) => 0,
+        Err(refusal) => refusal.number(),
+    };
+    cases::mixed(cases::mixed(h, 240), number)
 }
 
 // An answer of the wrong kind.
@@ -67,10 +58,8 @@ pub(crate) fn after_request(
     if turn % 509 != 0 {
         return asked;
     }
-    let cut = crate::at_most(1, image.len());
+    let cut = image.len().min(1);
     let short = session::step(s, &image[cut..], a);
-    let once = mixed_refusal(asked, short);
-    let wrong = wrong_kind(packet);
-    let other = session::step(s, image, wrong);
-    mixed_refusal(once, other)
+    let other = session::step(s, image, wrong_kind(packet));
+    mixed_refusal(mixed_refusal(asked, short), other)
 }

@@ -2,16 +2,15 @@
 
 // The next state of the sequence that images are made of.
 fn drawn(x: u32) -> u32 {
-    (((x as u64) * 1664525 + 1013904223) % 0x100000000) as u32
+    x.wrapping_mul(1664525).wrapping_add(1013904223)
 }
 
 fn fill_drawn(image: &mut [u8], seed: u32) {
     let mut x = seed;
-    let mut i: usize = 0;
-    while i < image.len() {
+    for b in image.iter_mut() {
         x = drawn(x);
-        image[i] = (x / 0x1000000) as u8;
-        i += 1;
+        let [_, _, _, high] = x.to_le_bytes();
+        *b = high;
     }
 }
 
@@ -24,6 +23,7 @@ fn fill_cancelling(image: &mut [u8]) {
 }
 
 // Fills an image, which is zeros, by its seed.
+// Kept: no plainer: seeds 0 and 1 are numbers of the input (tests/vectors/README.md).
 pub(crate) fn fill(image: &mut [u8], seed: u32) {
     match seed {
         0 => {}

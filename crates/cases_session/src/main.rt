@@ -8,23 +8,8 @@ mod play;
 mod printing;
 mod reading;
 
-ghost use Rattle.std.specs.Prelude.{◌≡◌, ◌≤◌, length};
-
 use std::io;
 use std::io::Read;
-
-// Room for an image, or the flash of any part.
-pub(crate) fn blank_image() -> [u8; 131200]
-    ensures { 131200 ≡ length result }
-{
-    [0; 131200]
-}
-
-pub(crate) fn at_most(n: usize, most: usize) -> usize
-    ensures { result ≤ most }
-{
-    if n < most { n } else { most }
-}
 
 // Reads a case and prints its line; false where the input has ended.
 fn next_case(rt: &impl Print, input: &mut impl Read) -> io::Result<bool> {
@@ -33,19 +18,21 @@ fn next_case(rt: &impl Print, input: &mut impl Read) -> io::Result<bool> {
         return Ok(false);
     }
     let c = reading::read_case(input, part.value as u8)?;
-    let mut image = blank_image();
+    let mut image = cases::filled::<131200>(0);
     filling::fill(&mut image, c.seed);
-    let size = at_most(c.length as usize, 131200);
+    let size = (c.length as usize).min(131200);
     play::print_case(rt, c, &image[..size])?;
     Ok(true)
 }
 
 // Nothing says that the input ends, so the turns are counted.
+// Kept: no plainer: a main for all would take a closure over standard input, of which a public function's contract can say nothing.
 fn main(rt: HostRuntime) -> io::Result<()> {
     let mut input = rt.stdin();
-    let mut turns = u64::MAX;
-    while turns > 0 && next_case(&rt, &mut input)? {
-        turns -= 1;
+    for _ in 0..u64::MAX {
+        if !next_case(&rt, &mut input)? {
+            break;
+        }
     }
     Ok(())
 }

@@ -1,129 +1,113 @@
 // A session played to its report, on the board of its part.
-ghost use Rattle.std.specs.Prelude.{◌≡◌, ◌≤◌, length};
+ghost use Rattle.std.specs.Prelude.{◌≤◌};
 
-use crate::reading::{Case, Overrides};
+use crate::reading::{Case, Override};
 use crate::{answering, digest, printing};
 use bench_board::Met;
-use bench_calls::Registers;
+use bench_calls::{CallOutcome, Registers};
+use bench_memory::{Memory, Residue};
 use flow::{Answer, Packet};
-use parts::{Geometry, Lookup};
+use parts::Geometry;
 use session::{Given, Outcome, Session};
 use std::io;
 
-// A session, its board's registers and its standing request.
+// A session, its board's registers and its standing request; none once the session has ended.
 #[derive(Clone, Copy)]
 struct Bench {
     registers: Registers,
     session: Session,
-    packet: Packet,
+    packet: Option<Packet>,
     digest: u64,
     transfers: u32,
-    finished: bool,
 }
 
 fn transfers_after(transfers: u32, packet: Packet) -> u32 {
-    if digest::is_transfer(packet) {
-        return std::num::wrapping_add_u32(transfers, 1);
-    }
-    transfers
+    transfers.wrapping_add(u32::from(digest::is_transfer(packet)))
 }
 
 // What stands after a step.
-fn bench_after(given: Given, r: Registers, h: u64, transfers: u32) -> Bench {
-    let s = given.session;
-    let o = given.outcome;
-    match o {
-        Outcome::Ask(packet) => Bench {
-            registers: r,
-            session: s,
-            packet: packet,
-            digest: h,
-            transfers: transfers,
-            finished: false,
+fn bench_after(given: Given, registers: Registers, digest: u64, transfers: u32) -> Bench {
+    let ended = Bench {
+        registers,
+        session: given.session,
+        packet: None,
+        digest,
+        transfers,
+    };
+    match given.outcome {
+        Ok(Outcome::Ask(packet)) => Bench {
+            packet: Some(packet),
+            ..ended
         },
-        Outcome::Refused(_) => Bench {
-            registers: r,
-            session: s,
-            packet: Packet::Xres,
-            digest: 0,
-            transfers: transfers,
-            finished: true,
-        },
-        Outcome::Reported(_) => Bench {
-            registers: r,
-            session: s,
-            packet: Packet::Xres,
-            digest: h,
-            transfers: transfers,
-            finished: true,
-        },
+        Ok(Outcome::Reported(_)) => ended,
+        Err(_) => Bench { digest: 0, ..ended },
     }
 }
 
 // The step with the answer that is heard.
-fn stepped(bench: Bench, met: Met, overrides: Overrides, image: &[u8], turn: u32) -> Bench {
-    let s = bench.session;
-    let packet = bench.packet;
-    let r = met.registers;
-    let own = met.answer;
-    let a = answering::heard(overrides, packet, bench.transfers, own);
-    let h = digest::after_request(bench.digest, s, image, packet, a, turn);
-    let given = session::step(s, image, a);
-    bench_after(given, r, h, transfers_after(bench.transfers, packet))
+fn stepped(
+    bench: Bench,
+    packet: Packet,
+    met: Met,
+    put: Option<Override>,
+    image: &[u8],
+    turn: u32,
+) -> Bench {
+    let Bench {
+        session,
+        transfers,
+        ..
+    } = bench;
+    let a = answering::heard(put, met.answer);
+    let h = digest::after_request(bench.digest, session, image, packet, a, turn);
+    let given = session::step(session, image, a);
+    bench_after(given, met.registers, h, transfers_after(transfers, packet))
 }
 
 // Steps to the report; the turns are counted, for nothing here says that it comes.
 fn played(
     first: Bench,
     g: Geometry,
-    overrides: Overrides,
+    overrides: [Option<Override>; 2],
     image: &[u8],
     flash: &mut [u8],
     locks: &mut [u8],
     latch: &mut [u8],
     params: &mut [u32],
-    residue: &[u8],
 ) -> Bench {
     let mut bench = first;
-    let mut turn: u32 = 0;
-    while turn < 4000000000 && !bench.finished {
-        let r = bench.registers;
-        let packet = bench.packet;
-        let e = answering::line_at(overrides, packet, bench.transfers);
-        let o = answering::calm_call();
-        let met = bench_board::meet(
-            g, r, flash, locks, latch, params, residue, residue, residue, packet, e, o,
-        );
-        bench = stepped(bench, met, overrides, image, turn);
-        turn += 1;
+    for turn in 0..4000000000u32 {
+        let Some(packet) = bench.packet else {
+            break;
+        };
+        let put = answering::override_of(overrides, packet, bench.transfers);
+        let e = answering::line_at(put);
+        // Past the calls' list a call succeeds without busy reads; the rest counts where XRES drops it.
+        let o = CallOutcome::calm(0xF0000001);
+        let memory = Memory {
+            flash,
+            locks,
+            latch,
+            params,
+        };
+        let nothing = Residue {
+            flash: b"",
+            locks: b"",
+            latch: b"",
+        };
+        let met = bench_board::meet(g, bench.registers, memory, nothing, packet, e, o);
+        bench = stepped(bench, packet, met, put, image, turn);
     }
     bench
 }
 
 // One step more after the report: what it gives is printed.
 fn print_last(rt: &impl Print, bench: Bench, image: &[u8]) -> io::Result<()> {
-    let s = bench.session;
-    let given = session::step(s, image, Answer::ResetDone);
-    let o = given.outcome;
-    match o {
-        Outcome::Reported(r) => printing::print_report(rt, r, bench.digest),
-        Outcome::Refused(n) => printing::print_refusal(rt, n),
-        Outcome::Ask(_) => printing::print_refusal(rt, 0),
+    match session::step(bench.session, image, Answer::ResetDone).outcome {
+        Ok(Outcome::Reported(r)) => printing::print_report(rt, r, bench.digest),
+        Ok(Outcome::Ask(_)) => printing::print_refusal(rt, 0),
+        Err(refusal) => printing::print_refusal(rt, refusal.number()),
     }
-}
-
-// Room for the locks, or the latch, of any part.
-fn blank_bytes() -> [u8; 128]
-    ensures { 128 ≡ length result }
-{
-    [0; 128]
-}
-
-// Room for the PARAMS of any part.
-fn blank_words() -> [u32; 34]
-    ensures { 34 ≡ length result }
-{
-    [0; 34]
 }
 
 // The sizes of a board's memory.
@@ -138,11 +122,10 @@ struct Sizes {
 fn sizes_of(g: Geometry) -> Sizes
     ensures { (result.flash ≤ 131072) × ((result.locks ≤ 128) × ((result.latch ≤ 128) × (result.params ≤ 34))) }
 {
-    let p = g.part;
-    let row = crate::at_most(p.row_bytes as usize, 128);
+    let row = usize::from(g.part.row_bytes).min(128);
     Sizes {
-        flash: crate::at_most(parts::flash_size(g), 131072),
-        locks: crate::at_most(parts::lock_total(g), 128),
+        flash: parts::flash_size(g).min(131072),
+        locks: parts::lock_total(g).min(128),
         latch: row,
         params: 2 + row / 4,
     }
@@ -153,59 +136,54 @@ fn play_from(
     rt: &impl Print,
     first: Bench,
     g: Geometry,
-    overrides: Overrides,
+    overrides: [Option<Override>; 2],
     image: &[u8],
 ) -> io::Result<()> {
     let sizes = sizes_of(g);
-    let size = sizes.flash;
-    let total = sizes.locks;
-    let row = sizes.latch;
-    let words = sizes.params;
-    let mut flash = crate::blank_image();
-    let mut locks = blank_bytes();
-    let mut latch = blank_bytes();
-    let mut params = blank_words();
+    let mut flash = cases::filled::<131072>(0);
+    let mut locks = [0u8; 128];
+    let mut latch = [0u8; 128];
+    let mut params = [0u32; 34];
     let last = played(
         first,
         g,
         overrides,
         image,
-        &mut flash[..size],
-        &mut locks[..total],
-        &mut latch[..row],
-        &mut params[..words],
-        b"",
+        &mut flash[..sizes.flash],
+        &mut locks[..sizes.locks],
+        &mut latch[..sizes.latch],
+        &mut params[..sizes.params],
     );
     print_last(rt, last, image)
 }
 
 // A session that has started, on the board of its part.
-fn play_on(rt: &impl Print, c: Case, s: Session, packet: Packet, image: &[u8]) -> io::Result<()> {
+fn play_on(
+    rt: &impl Print,
+    c: Case,
+    session: Session,
+    packet: Packet,
+    image: &[u8],
+) -> io::Result<()> {
     let h = c.header;
-    let overrides = c.overrides;
-    let found = parts::find(h.part, h.macros);
     let first = Bench {
-        registers: answering::blank(h, c.stored, c.privileged),
-        session: s,
-        packet: packet,
-        digest: 0xCBF29CE484222325,
+        registers: Registers::blank(h.metadata, c.stored, c.privileged),
+        session,
+        packet: Some(packet),
+        digest: cases::digest(b""),
         transfers: 0,
-        finished: false,
     };
-    match found {
-        Lookup::Found(g) => play_from(rt, first, g, overrides, image),
-        Lookup::Refused(n) => printing::print_refusal(rt, n),
+    match parts::find(h.part, h.macros) {
+        Ok(g) => play_from(rt, first, g, c.overrides, image),
+        Err(refusal) => printing::print_refusal(rt, refusal.number()),
     }
 }
 
 pub(crate) fn print_case(rt: &impl Print, c: Case, image: &[u8]) -> io::Result<()> {
-    let h = c.header;
-    let given = session::start(h, image, c.leave);
-    let s = given.session;
-    let o = given.outcome;
-    match o {
-        Outcome::Refused(n) => printing::print_refusal(rt, n),
-        Outcome::Ask(packet) => play_on(rt, c, s, packet, image),
-        Outcome::Reported(_) => printing::print_refusal(rt, 0),
+    let given = session::start(c.header, image, c.leave);
+    match given.outcome {
+        Ok(Outcome::Ask(packet)) => play_on(rt, c, given.session, packet, image),
+        Ok(Outcome::Reported(_)) => printing::print_refusal(rt, 0),
+        Err(refusal) => printing::print_refusal(rt, refusal.number()),
     }
 }

@@ -1,4 +1,5 @@
 // The cases, read from standard input (tests/vectors/README.md).
+use flow::Reply;
 use image::Header;
 use std::io;
 use std::io::Read;
@@ -10,15 +11,7 @@ pub struct Override {
     pub stride: u32,
     pub count: u32,
     pub carried: bool,
-    pub ack: u8,
-    pub word: u32,
-    pub parity: u8,
-}
-
-#[derive(Clone, Copy)]
-pub struct Overrides {
-    pub first: Override,
-    pub second: Override,
+    pub reply: Reply,
 }
 
 #[derive(Clone, Copy)]
@@ -29,7 +22,7 @@ pub struct Case {
     pub leave: bool,
     pub stored: u8,
     pub privileged: u32,
-    pub overrides: Overrides,
+    pub overrides: [Option<Override>; 2],
 }
 
 fn number(input: &mut impl Read) -> io::Result<u32> {
@@ -42,76 +35,63 @@ fn small(input: &mut impl Read) -> io::Result<u8> {
     Ok(n.value as u8)
 }
 
-// An override that covers no transfer.
-pub(crate) fn no_override() -> Override {
-    Override {
-        at: 0,
-        stride: 1,
-        count: 0,
-        carried: true,
-        ack: 0,
-        word: 0,
-        parity: 0,
-    }
-}
-
 // The next override of a case, where it has one more.
-fn read_override(input: &mut impl Read, there: bool) -> io::Result<Override> {
+fn read_override(input: &mut impl Read, there: bool) -> io::Result<Option<Override>> {
     if !there {
-        return Ok(no_override());
+        return Ok(None);
     }
-    Ok(Override {
+    Ok(Some(Override {
         at: number(input)?,
         stride: number(input)?,
         count: number(input)?,
         carried: number(input)? == 1,
-        ack: small(input)?,
-        word: number(input)?,
-        parity: small(input)?,
-    })
+        reply: Reply {
+            ack: small(input)?,
+            word: number(input)?,
+            parity: small(input)?,
+        },
+    }))
 }
 
 // The metadata: version, high byte first, silicon ID, six bytes 0.
 fn read_metadata(input: &mut impl Read) -> io::Result<[u8; 12]> {
-    let version = number(input)?;
-    let mut metadata = [0u8; 12];
-    metadata[0] = (version / 256 % 256) as u8;
-    metadata[1] = (version % 256) as u8;
-    metadata[2] = small(input)?;
-    metadata[3] = small(input)?;
-    metadata[4] = small(input)?;
-    metadata[5] = small(input)?;
+    let [_, _, high, low] = number(input)?.to_be_bytes();
+    let mut metadata = [0; 12];
+    metadata[0] = high;
+    metadata[1] = low;
+    for b in metadata[2..6].iter_mut() {
+        *b = small(input)?;
+    }
     Ok(metadata)
 }
 
 pub(crate) fn read_case(input: &mut impl Read, part: u8) -> io::Result<Case> {
     let macros = small(input)?;
-    let size = cases::read_number(input, 131200)?;
+    let length = cases::read_number(input, 131200)?.value;
     let seed = number(input)?;
-    let sum = cases::read_number(input, 65535)?;
+    let sum = cases::read_number(input, 65535)?.value as u16;
     let metadata = read_metadata(input)?;
-    let header = Header {
-        part: part,
-        macros: macros,
-        sum: sum.value as u16,
-        metadata: metadata,
-        level: small(input)?,
-    };
+    let level = small(input)?;
     let leave = number(input)? == 1;
     let stored = small(input)?;
     let privileged = number(input)?;
     let count = number(input)?;
-    let overrides = Overrides {
-        first: read_override(input, 1 <= count)?,
-        second: read_override(input, 2 <= count)?,
-    };
     Ok(Case {
-        header: header,
-        length: size.value,
-        seed: seed,
-        leave: leave,
-        stored: stored,
-        privileged: privileged,
-        overrides: overrides,
+        header: Header {
+            part,
+            macros,
+            sum,
+            metadata,
+            level,
+        },
+        length,
+        seed,
+        leave,
+        stored,
+        privileged,
+        overrides: [
+            read_override(input, 1 <= count)?,
+            read_override(input, 2 <= count)?,
+        ],
     })
 }

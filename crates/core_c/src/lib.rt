@@ -5,8 +5,10 @@ ghost use Rattle.std.specs.Prelude.{◌≡◌};
 ghost use Rattle.calls.specs.Calls.{answer_in, after_read_call, after_write_call, after_start_call, after_step_call};
 
 use decoding::header_in;
-use encoding::{put_header, put_length};
+use encoding::{number_of, put_header, put_length};
 use flow::{Answer, Reply};
+use image::Header;
+use refusals::Refusal;
 use start_call::{start_into, under_size};
 use step_call::step_into;
 
@@ -15,17 +17,14 @@ fn answer_in(reset: u8, ack: u8, word: u32, parity: u8) -> Answer
     ensures { result ≡ answer_in reset ack word parity }
 {
     if reset == 0 {
-        Answer::Transferred(Reply {
-            ack: ack,
-            word: word,
-            parity: parity,
-        })
+        Answer::Transferred(Reply { ack, word, parity })
     } else {
         Answer::ResetDone
     }
 }
 
 // Takes the answer to the standing request; gives the next request or the report.
+// Kept: the C interface: include/halzuqeen.h declares these four, so each parameter stands alone, and a number comes back.
 #[unsafe(no_mangle)]
 pub extern "C" fn halzuqeen_step(
     session: &mut [u8],
@@ -41,7 +40,7 @@ pub extern "C" fn halzuqeen_step(
     ensures outcome { outcome.new ≡ (after_step_call session.old image.now (answer_in reset_done ack word parity) outcome.old).second }
 {
     let a = answer_in(reset_done, ack, word, parity);
-    step_into(session, image, a, outcome)
+    number_of(step_into(session, image, a, outcome))
 }
 
 // Starts a session on an image.
@@ -57,7 +56,7 @@ pub extern "C" fn halzuqeen_start(
     ensures session { session.new ≡ (after_start_call header.now image.now leave session.old outcome.old).first }
     ensures outcome { outcome.new ≡ (after_start_call header.now image.now leave session.old outcome.old).second }
 {
-    start_into(header, image, leave, session, outcome)
+    number_of(start_into(header, image, leave, session, outcome))
 }
 
 // Reads a hex text: the image's bytes and its header.
@@ -74,12 +73,11 @@ pub extern "C" fn halzuqeen_read(
     ensures header { header.new ≡ (after_read_call part macros text.now image.old header.old).second }
 {
     if header.len() < 17 {
-        return under_size(part, macros) as u32;
+        return number_of::<()>(Err(under_size(part, macros)));
     }
-    let answer = hex_reader::read(part, macros, text, image);
-    let h = answer.header;
-    put_header(header, h);
-    answer.number as u32
+    let read = hex_reader::read(part, macros, text, image);
+    put_header(header, read.unwrap_or(Header::ZERO));
+    number_of(read)
 }
 
 // Writes an image's hex text and its length.
@@ -96,13 +94,13 @@ pub extern "C" fn halzuqeen_write(
 {
     if header.len() < 17 {
         put_length(length, 0);
-        return 12;
+        return number_of::<()>(Err(Refusal::Size));
     }
     let h = header_in(header);
     if length.len() < 8 {
-        return under_size(h.part, h.macros) as u32;
+        return number_of::<()>(Err(under_size(h.part, h.macros)));
     }
-    let answer = hex_writer::write(h, image, text);
-    put_length(length, answer.length);
-    answer.number as u32
+    let written = hex_writer::write(h, image, text);
+    put_length(length, written.unwrap_or(0));
+    number_of(written)
 }

@@ -22,8 +22,7 @@ use Rattle.layout.specs.Bytes.{flag_byte, Word}
 use Rattle.flow.specs.Packets.{word_in}
 use Rattle.flow.specs.declared.Packet.{Packet}
 use Rattle.flow.specs.declared.Packet.TheVariants.{Xres, LineReset, Read, Write}
-use Rattle.session.specs.declared.Outcome.{Outcome}
-use Rattle.session.specs.declared.Outcome.TheVariants.{Refused, Ask, Reported}
+use Rattle.session.specs.Outcomes.{Outcome, Refused, Ask, Reported}
 use Rattle.session.specs.declared.Session.{Session}
 
 -- the same with this metadata

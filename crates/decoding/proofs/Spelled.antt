@@ -7,13 +7,15 @@ use native.Mathlib.Omega.{arith}
 use borrow.Author.Tests.{eqb-true, eqb-false, leb-true, le-leb}
 use lib.Dec.{eqb, leb}
 use lib.ListN.{length, get_or, take}
+use Rattle.std.proofs.Common.{drop, get_or-take}
+use Rattle.std.proofs.lemmas.List.{drop-take, take-take}
 use Rattle.encoding.specs.Values.{Bytes}
 use Rattle.encoding.specs.Headers.{header_bytes, header_in, header_found}
 use Rattle.encoding.specs.Sessions.{entry_byte, entry_in, singles, standing_bytes, counters_in, session_bytes, session_of, session_in, session_found, is_session}
 use Rattle.flow.specs.declared.Entry.{Entry}
 use Rattle.flow.specs.declared.Entry.TheVariants.{FromOpen, FromProtected}
 use Rattle.image.specs.declared.Header.{Header}
-use Rattle.sections.proofs.Sections.{spread, spread-part, spread-all}
+use Rattle.sections.proofs.Sections.{spread, spread-part, spread-all, header_with}
 use Rattle.lent.specs.Words.{word_at, low_first}
 use Rattle.layout.specs.Bytes.{flag_byte}
 
@@ -56,6 +58,20 @@ module _ (a b c d : ℕ) (ha : a < 256) (hb : b < 256) (hc : c < 256) (hd : d < 
 pub word-whole : (bs : List ℕ) (o : ℕ) → Bytes bs → low_first 4 (word_at bs o) ≡ get_or bs o 0 ∷ get_or bs (o + 1) 0 ∷ get_or bs (o + 2) 0 ∷ get_or bs (o + 3) 0 ∷ []
 unfolding word_at
 word-whole bs o h = four (get_or bs o 0) (get_or bs (o + 1) 0) (get_or bs (o + 2) 0) (get_or bs (o + 3) 0) (h o) (h (o + 1)) (h (o + 2)) (h (o + 3))
+
+-- the header of the first 17 bytes, as they are lent
+pub header-chunk : (bs row m : List ℕ) (sum : ℕ) → row ≡ take 17 bs → sum ≡ get_or row 2 0 + get_or row 3 0 * 256 → m ≡ take 12 (drop 4 row)
+    → header_with (get_or row 0 0) (get_or row 1 0) sum m (get_or row 16 0) ≡ header_in bs
+unfolding header_in
+header-chunk bs row m sum e f g =
+    let n : sum ≡ get_or bs 2 0 + 256 * get_or bs 3 0 = omega (arith, f, byte 2 (omega arith), byte 3 (omega arith)) in
+    rw (n, twelve, byte 0 (omega arith), byte 1 (omega arith), byte 16 (omega arith))
+  where
+    byte : (k : ℕ) → k < 17 → get_or row k 0 ≡ get_or bs k 0
+    byte k h = ap (λ (l : List ℕ). get_or l k 0) e ∙ get_or-take 17 bs k 0 h
+
+    twelve : m ≡ take 12 (drop 4 bs)
+    twelve = g ∙ ap (λ (l : List ℕ). take 12 (drop 4 l)) e ∙ ap (take 12) (drop-take 4 13 bs) ∙ take-take 12 13 (drop 4 bs) (omega arith)
 
 -- a header's bytes, found at the start
 header-start : (bs : List ℕ) → 17 ≤ length bs → Bytes bs → header_bytes (header_in bs) ≡ spread 0 17 bs

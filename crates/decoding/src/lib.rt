@@ -1,7 +1,8 @@
 // Headers and sessions found in a caller's bytes, at fixed offsets (include/halzuqeen.h).
+// Kept: the C interface: the offsets are those of include/halzuqeen.h.
 #![tactic(auto)]
 
-ghost use Rattle.std.specs.Prelude.{◌≡◌, ◌<◌};
+ghost use Rattle.std.specs.Prelude.{◌≡◌};
 ghost use Rattle.encoding.specs.Headers.{header_found};
 ghost use Rattle.encoding.specs.Sessions.{entry_in, counters_in, session_found, is_session};
 
@@ -10,36 +11,21 @@ use image::Header;
 use lent::{byte_at, word_at};
 use session::Session;
 
-fn wide(b: u8) -> u16
-    ensures { (result ≡ b) × (result < 256) }
-{
-    b as u16
-}
-
 // The header that bytes hold from their start on, and all 0 where they are too few.
 pub fn header_in(bytes: &[u8]) -> Header
     ensures found { result ≡ header_found bytes.now }
 {
-    if bytes.len() < 17 {
-        return Header {
-            part: 0,
-            macros: 0,
-            sum: 0,
-            metadata: [0u8; 12],
-            level: 0,
-        };
-    }
-    let metadata = [
-        bytes[4], bytes[5], bytes[6], bytes[7], bytes[8], bytes[9], bytes[10], bytes[11],
-        bytes[12], bytes[13], bytes[14], bytes[15],
-    ];
-    let sum = wide(bytes[2]) + 256 * wide(bytes[3]);
+    let Some(row) = bytes.first_chunk::<17>() else {
+        return Header::ZERO;
+    };
+    let mut metadata = [0u8; 12];
+    metadata.copy_from_slice(&row[4..16]);
     Header {
-        part: bytes[0],
-        macros: bytes[1],
-        sum: sum,
-        metadata: metadata,
-        level: bytes[16],
+        part: row[0],
+        macros: row[1],
+        sum: u16::from_le_bytes([row[2], row[3]]),
+        metadata,
+        level: row[16],
     }
 }
 
@@ -47,19 +33,17 @@ pub fn header_in(bytes: &[u8]) -> Header
 pub fn is_session(bytes: &[u8]) -> bool
     ensures session { result ≡ is_session bytes.now }
 {
-    if byte_at(bytes, 17) <= 1 {
-        return byte_at(bytes, 18) <= 1;
-    }
-    false
+    byte_at(bytes, 17) <= 1 && byte_at(bytes, 18) <= 1
 }
 
+// The entry that a session's byte says.
+// Kept: no plainer: `From<u8> for Entry` would have to stand in flow, which knows no byte of an entry.
 fn entry_in(n: u8) -> Entry
     ensures { result ≡ entry_in n }
 {
-    if n == 0 {
-        Entry::FromOpen
-    } else {
-        Entry::FromProtected
+    match n {
+        0 => Entry::FromOpen,
+        _ => Entry::FromProtected,
     }
 }
 
@@ -79,16 +63,14 @@ fn counters_in(bytes: &[u8]) -> Counters
 pub fn session_in(bytes: &[u8]) -> Session
     ensures found { result ≡ session_found bytes.now }
 {
-    let h = header_in(bytes);
-    let y = entry_in(byte_at(bytes, 17));
-    let at = word_at(bytes, 21);
-    let c = counters_in(bytes);
-    let transfers = word_at(bytes, 41);
     Session {
-        header: h,
-        position: Position { entry: y, at: at },
-        counters: c,
-        transfers: transfers,
+        header: header_in(bytes),
+        position: Position {
+            entry: entry_in(byte_at(bytes, 17)),
+            at: word_at(bytes, 21),
+        },
+        counters: counters_in(bytes),
+        transfers: word_at(bytes, 41),
         finished: byte_at(bytes, 18) == 1,
         number: byte_at(bytes, 19),
         step: byte_at(bytes, 20),

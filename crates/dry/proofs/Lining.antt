@@ -7,37 +7,10 @@ use native.Mathlib.Nat.{le_trans, zero-lt-suc, pow-le-pow_right}
 use native.Mathlib.Omega.{arith}
 use borrow.Author.Tests.{leb-true, leb-false}
 use lib.Dec.{leb}
-use lib.ListN.{length, take, drop, length-append}
-use lib.Seq.{sets, sets-eq, length-take-le, take-length, drop_at, drop-drop}
+use lib.ListN.{take, drop}
+use lib.Seq.{drop-drop}
 use Rattle.dry.specs.Runs.{Spells}
 use Rattle.io.specs.Digits.{last_digits, IsDigitCount}
-use Rattle.storing.proofs.Storing.{stored}
-use Rattle.storing.specs.Storing.{stored_at}
-
-take-front : (a b : List ℕ) (n : ℕ) → length a ≡ n → take n (a ++ b) ≡ a
-take-front [] b n e = rw (sym e) refl
-take-front (x ∷ a) b n e = rw (sym e) (ap (λ (l : List ℕ). x ∷ l) (take-front a b (length a) refl))
-
-pub put_on : (line bytes line' : List ℕ) (at : ℕ) → at + length bytes ≤ length line → line' ≡ stored_at line at bytes 0 (length bytes)
-    → take (at + length bytes) line' ≡ take at line ++ bytes
-put_on line bytes line' at k f =
-    let n = length bytes in
-    let t : length (take at line) ≡ at = length-take-le at line (omega arith) in
-    let e : stored_at line at bytes 0 n ≡ sets line at bytes
-    = sym (stored line at bytes 0 n (omega arith) k) ∙ ap (sets line at) (take-length bytes) in
-    ap (take (at + n)) (f ∙ e ∙ sets-eq bytes line at k)
-    ∙ take-front (take at line ++ bytes) (drop (at + n) line) (at + n) (omega (arith, length-append (take at line) bytes))
-
--- what stands behind them stays
-pub put_rest : (line bytes line' : List ℕ) (at : ℕ) → at + length bytes ≤ length line → line' ≡ stored_at line at bytes 0 (length bytes)
-    → drop (at + length bytes) line' ≡ drop (at + length bytes) line
-put_rest line bytes line' at k f =
-    let n = length bytes in
-    let t : length (take at line) ≡ at = length-take-le at line (omega arith) in
-    let e : stored_at line at bytes 0 n ≡ sets line at bytes
-    = sym (stored line at bytes 0 n (omega arith) k) ∙ ap (sets line at) (take-length bytes) in
-    ap (drop (at + n)) (f ∙ e ∙ sets-eq bytes line at k)
-    ∙ drop_at (take at line ++ bytes) (drop (at + n) line) (at + n) (omega (arith, length-append (take at line) bytes))
 
 -- lists that agree from a place on agree from any later one on
 rest-later : (l m : List ℕ) (a c : ℕ) → a ≤ c → drop a l ≡ drop a m → drop c l ≡ drop c m

@@ -2,12 +2,11 @@
 use mathlib.Core.Bool.{Bool, true, false, ◌&&◌, not, cond}
 use mathlib.Core.List.{List, []}
 use mathlib.Core.Path.{◌≡◌, refl, ap}
+use Rattle.std.proofs.Common.{Option, Some, None}
 use Rattle.bench_board.specs.Meets.{lists_of}
 use Rattle.dry.specs.Playing.{no_lists, nothing, calm_event, calm_outcome}
 use Rattle.flow.specs.Exchange.{Met, decode, killed, barred, met, calls_on, transferred, meet_on, meet}
 use Rattle.flow.specs.Target.{Target, Lists}
-use Rattle.flow.specs.declared.Decoded.{Decoded}
-use Rattle.flow.specs.declared.Decoded.TheVariants.{Known, Unknown}
 use Rattle.flow.specs.declared.Packet.{Packet}
 use Rattle.flow.specs.declared.Reply.{Reply}
 use Rattle.flow.specs.declared.Request.{Request}
@@ -41,15 +40,15 @@ module _ (g : Geometry) (b : Target) where
   unfolding transferred
   same-transfer q = by-outcome q (not (killed b) && not (barred g q b) && true) _
 
-  by-request : (d : Decoded) → SameMet (meet_on g d handed b) (meet_on g d no_lists b)
-  by-request (Known Xres) = record { target = refl; answer = refl; lists = refl }
-  by-request (Known LineReset) = record { target = refl; answer = refl; lists = refl }
-  by-request (Known ReadIdcode) = same-transfer ReadIdcode
-  by-request (Known ReadDrw) = same-transfer ReadDrw
-  by-request (Known (WriteTar a)) = same-transfer (WriteTar a)
-  by-request (Known (WriteDrw w)) = same-transfer (WriteDrw w)
-  by-request (Known (WriteSetup r w)) = same-transfer (WriteSetup r w)
-  by-request Unknown = record { target = refl; answer = refl; lists = refl }
+  by-request : (d : Option Request) → SameMet (meet_on g d handed b) (meet_on g d no_lists b)
+  by-request (Some Xres) = record { target = refl; answer = refl; lists = refl }
+  by-request (Some LineReset) = record { target = refl; answer = refl; lists = refl }
+  by-request (Some ReadIdcode) = same-transfer ReadIdcode
+  by-request (Some ReadDrw) = same-transfer ReadDrw
+  by-request (Some (WriteTar a)) = same-transfer (WriteTar a)
+  by-request (Some (WriteDrw w)) = same-transfer (WriteDrw w)
+  by-request (Some (WriteSetup r w)) = same-transfer (WriteSetup r w)
+  by-request None = record { target = refl; answer = refl; lists = refl }
 
   pub same_met : (p : Packet) → SameMet (meet g p handed b) (meet g p no_lists b)
   unfolding meet

@@ -24,9 +24,7 @@ use Rattle.session.proofs.Possibility.{granted}
 use Rattle.session.specs.Calls.{State, Steps, none, answer, refusal, later, begun, answered, reaction, standing}
 use Rattle.session.specs.Claim.{most, Demand3}
 use Rattle.session.specs.Given.{start_of, step_with}
-use Rattle.session.specs.declared.Given.{Given}
-use Rattle.session.specs.declared.Outcome.{Outcome}
-use Rattle.session.specs.declared.Outcome.TheVariants.{Refused, Ask, Reported}
+use Rattle.session.specs.Outcomes.{Given, Outcome, Refused, Ask, Reported}
 use Rattle.session.specs.declared.Report.{Report}
 use Rattle.session.specs.declared.Session.{Session}
 

@@ -21,33 +21,33 @@ use Rattle.image.proofs.Refusals.{Passed, all-passed}
 use Rattle.image.specs.Checks.{metadata_at, image_fault}
 use Rattle.image.specs.declared.Header.{Header}
 use Rattle.parts.proofs.Table.{both}
-use Rattle.parts.specs.Parts.{part1, look_in, lookup_of, low_fits}
+use Rattle.parts.specs.Parts.{Lookup, part1, look_in, lookup_of, low_fits}
 use Rattle.parts.specs.Sizes.{rows_of, flash_size, lock_total, image_size}
 use Rattle.parts.specs.declared.Geometry.{Geometry}
-use Rattle.parts.specs.declared.Lookup.{Lookup}
-use Rattle.parts.specs.declared.Lookup.TheVariants as Lookups
+use Rattle.refusals.specs.declared.Refusal.{Refusal}
 use Rattle.session.specs.Given.{start_of}
-use Rattle.session.specs.declared.Given.{Given}
+use Rattle.session.specs.Outcomes.{Given, Outcome}
 use Rattle.session.specs.declared.Report.{Report}
 use Rattle.pairs.proofs.Capitals.{all-bytes}
-use Rattle.text.specs.Reading.{Reading, Untouched, Cleared, Taken, answer_of, buffer_after}
-use Rattle.text.specs.declared.ReadAnswer.{ReadAnswer}
+use Rattle.text.specs.Reading.{ReadAnswer, Reading, Untouched, Cleared, Taken, answer_of, buffer_after}
+use Rattle.std.specs.Prelude.{Ok, Err, Result, IsOkAnd, MatchResult}
+use Rattle.refusals.specs.Refusals.{refusal_number}
 
 -- ---- part 1
 
-found_here : lookup_of 1 1 ≡ Lookups.Found part_one
+found_here : lookup_of 1 1 ≡ Ok part_one
 unfolding look_in
 found_here = refl
 
-pub found-one : {l : Lookup} {g : Geometry} → l ≡ lookup_of 1 1 → l ≡ Lookups.Found g → g ≡ part_one
-found-one {l} {g} e f = let z : Lookups.Found g ≡ Lookups.Found part_one = sym f ∙ e ∙ found_here in cc z
+pub found-one : {l : Lookup} {g : Geometry} → l ≡ lookup_of 1 1 → l ≡ Ok g → g ≡ part_one
+found-one {l} {g} e f = let z : Ok g ≡ Ok part_one = sym f ∙ e ∙ found_here in cc z
 
-pub always-found : {l : Lookup} {n : ℕ} → l ≡ lookup_of 1 1 → l ≡ Lookups.Refused n → ⊥
-always-found {l} {n} e f = let z : Lookups.Refused n ≡ Lookups.Found part_one = sym f ∙ e ∙ found_here in let t : false ≡ true = cc z in false≢true t
+pub always-found : {l : Lookup} {n : Refusal} → l ≡ lookup_of 1 1 → l ≡ Err n → ⊥
+always-found {l} {n} e f = let z : Err n ≡ Ok part_one = sym f ∙ e ∙ found_here in let t : false ≡ true = cc z in false≢true t
 
 -- ---- an image that passes
 
-module _ (h : Header) (bytes : List ℕ) (found : lookup_of h.part h.macros ≡ Lookups.Found part_one) (none : image_fault h bytes ≡ 0) where
+module _ (h : Header) (bytes : List ℕ) (found : lookup_of h.part h.macros ≡ Ok part_one) (none : image_fault h bytes ≡ 0) where
   passed : Passed part_one h bytes
   passed = all-passed part_one h bytes found none
 
@@ -81,7 +81,7 @@ module _ (text buffer : List ℕ) (wide : 16416 ≡ length buffer) where
     where
       taken : (h : Header) (bytes : List ℕ) → TakenWell h bytes → image ≡ bytes ++ drop (length bytes) buffer → Playable h image
       taken h bytes w k =
-          let found : lookup_of h.part h.macros ≡ Lookups.Found part_one = rw (w.part, w.macros) found_here in
+          let found : lookup_of h.part h.macros ≡ Ok part_one = rw (w.part, w.macros) found_here in
           let is : image ≡ bytes = k ∙ whole bytes (size h bytes found w.checked ∙ size_is) in
           record {
             passes = subst (λ (l : List ℕ). Passes part_one h l) (sym is) (record { found = found; checked = w.checked; small = all-bytes bytes w.image });
@@ -104,19 +104,25 @@ module _ (text buffer : List ℕ) (wide : 16416 ≡ length buffer) where
   unfolding ran_on
   ran-done a r e z d = let n : read_number text ≡ 0 = sym (number_is a e) ∙ z in rw (n, d.number, d.transfers) refl
 
+-- a session that is done as planned is no refusal
+pub done-or-none : (text : List ℕ) (x : Result Report Refusal) → ((r : Report) → DoneAsPlanned r → ran_by r ≡ ran_on text) → IsOkAnd x DoneAsPlanned
+    → MatchResult x (λ r. ran_by r ≡ ran_on text) (λ e. Refused (refusal_number e) ≡ ran_on text)
+done-or-none text (Ok r) h d = h r d
+done-or-none text (Err e) h d = absurd d
+
 -- ---- the board
 
 module _ (h : Header) (bytes : List ℕ) (p : Playable h bytes) where
-  pub staged : (f : Given) (r : Registers) (b : Buffers) → f ≡ start_of h bytes true → r ≡ open_for h
+  pub staged : (f : Given) (o : Outcome) (r : Registers) (b : Buffers) → f ≡ start_of h bytes true → f.outcome ≡ o → r ≡ open_for h
       → length b.flash ≡ 16384 → length b.locks ≡ 32 → length b.latch ≡ 64 → length b.params ≡ 18
-      → Started bytes (moment f.session f.outcome r b)
+      → Started bytes (moment f.session o r b)
   unfolding flash_size lock_total rows_of
-  staged f r b e k flash locks latch params =
-      subst (λ (x : Registers). Started bytes (moment f.session f.outcome x b)) (sym k) (record {
+  staged f o r b e q k flash locks latch params =
+      subst (λ (x : Registers). Started bytes (moment f.session o x b)) (sym k) (record {
         header = h;
         passes = p.passes;
         session = ap (λ (x : Given). x.session) e;
-        stands = ap (λ (x : Given). x.outcome) e;
+        stands = sym q ∙ ap (λ (x : Given). x.outcome) e;
         startable = record {
           flash = flash;
           locks = locks;

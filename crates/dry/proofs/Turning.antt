@@ -14,9 +14,7 @@ use Rattle.flow.specs.declared.Packet.{Packet}
 use Rattle.parts.specs.declared.Geometry.{Geometry}
 use Rattle.session.specs.Calls.{standing}
 use Rattle.session.specs.Given.{step_with}
-use Rattle.session.specs.declared.Given.{Given}
-use Rattle.session.specs.declared.Outcome.{Outcome}
-use Rattle.session.specs.declared.Outcome.TheVariants.{Ask}
+use Rattle.session.specs.Outcomes.{Given, Outcome, Ask}
 
 module _ (g : Geometry) (bytes : List ℕ) (p : Packet) (z : Moment) (b' : Buffers) (m : Code.Met) where
   -- handed an OK and a success, the board met the packet as it does without mishap

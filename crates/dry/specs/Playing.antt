@@ -1,12 +1,11 @@
 -- The board of the dry run, and how a session plays on it: document 01, 'plays an OPEN board with the image's IDs, KILL allowed,
 -- without mishap'. Assumes nothing.
-use Rattle.std.specs.Prelude.{true, false, List, [], ◌≡◌, ℕ, ◌<◌}
+use Rattle.std.specs.Prelude.{true, false, List, [], ◌≡◌, ℕ, ◌<◌, None}
 use Rattle.bench_calls.specs.Board.{Buffers, ResidueBytes, residue_bytes, target_of}
 use Rattle.bench_calls.specs.declared.CallOutcome.{CallOutcome}
 use Rattle.flow.specs.declared.LineEvent.{LineEvent}
 use Rattle.flow.specs.declared.TransferOutcome.TheVariants.{Clean}
 use Rattle.bench_calls.specs.declared.Registers.{Registers}
-use Rattle.bench_calls.specs.declared.Running.TheVariants.{Idle}
 use Rattle.flow.specs.Terms.{Passes, Startable, RightPart}
 use Rattle.flow.specs.Examples.{part_one}
 use Rattle.flow.specs.Exchange.{Met, meet}
@@ -20,8 +19,7 @@ use Rattle.image.specs.declared.Header.{Header}
 use Rattle.parts.specs.declared.Geometry.{Geometry}
 use Rattle.session.specs.Calls.{standing}
 use Rattle.session.specs.Given.{start_of, step_with}
-use Rattle.session.specs.declared.Outcome.{Outcome}
-use Rattle.session.specs.declared.Outcome.TheVariants.{Refused, Ask, Reported}
+use Rattle.session.specs.Outcomes.{Outcome, Refused, Ask, Reported}
 use Rattle.session.specs.declared.Report.{Report}
 use Rattle.session.specs.declared.Session.{Session}
 
@@ -58,7 +56,7 @@ open_for h = record {
   test_mode = 0;
   tar = 0;
   posted = 0;
-  running = Idle;
+  running = None;
 }
 
 -- between two turns: the session, what stands, and the board

@@ -12,9 +12,9 @@ fn put(line: &mut [u8], at: usize, bytes: &[u8]) -> usize
     ensures line_after { take result line.new ≡ take at line.old ++ bytes.now }
     ensures line_unchanged { drop result line.new ≡ drop result line.old }
 {
-    let n = bytes.len();
-    storing::fill(line, at, bytes, 0, n);
-    at + n
+    let end = at + bytes.len();
+    line[at..end].copy_from_slice(bytes);
+    end
 }
 
 // Puts a word, a number's digits and a line feed at the start of a line, and gives the place after them.
@@ -36,7 +36,7 @@ pub(crate) fn ran_line(ran: Ran, line: &mut [u8; 32]) -> usize
     ensures line_unchanged { drop result line.new ≡ drop result line.old }
 {
     match ran {
-        Ran::Done(n) => spell_line(b"done ", n as u64, line),
-        Ran::Refused(n) => spell_line(b"refused ", n as u64, line),
+        Ran::Done(n) => spell_line(b"done ", u64::from(n), line),
+        Ran::Refused(n) => spell_line(b"refused ", u64::from(n), line),
     }
 }

@@ -3,8 +3,7 @@ use Rattle.std.specs.Prelude.{cond, List, ◌∷◌, ℕ, eqb, get_or}
 use Rattle.flow.specs.declared.Packet.{Packet}
 use Rattle.flow.specs.declared.Packet.TheVariants.{Xres, LineReset, Read, Write}
 use Rattle.lent.specs.Words.{word_at, low_first}
-use Rattle.session.specs.declared.Outcome.{Outcome}
-use Rattle.session.specs.declared.Outcome.TheVariants.{Refused, Ask, Reported}
+use Rattle.session.specs.Outcomes.{Outcome, Refused, Ask, Reported}
 
 -- kind at 0, a number or a request byte at 1, a parity bit or a flow step at 2, 0 at 3, a word at 4
 abbrev pub eight_bytes : (kind first second word : ℕ) → List ℕ

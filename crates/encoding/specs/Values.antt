@@ -3,8 +3,7 @@ use Rattle.std.specs.Prelude.{List, ◌≡◌, ℕ, ◌<◌, length, get_or}
 use Rattle.flow.specs.Packets.{word_in}
 use Rattle.image.specs.declared.Header.{Header}
 use Rattle.layout.specs.Bytes.{Word}
-use Rattle.session.specs.declared.Outcome.{Outcome}
-use Rattle.session.specs.declared.Outcome.TheVariants.{Refused, Ask, Reported}
+use Rattle.session.specs.Outcomes.{Outcome, Refused, Ask, Reported}
 use Rattle.session.specs.declared.Session.{Session}
 
 -- each element is a byte

@@ -1,63 +1,45 @@
 // Headers, sessions, outcomes and lengths put into a caller's bytes where they fit, at fixed offsets (include/halzuqeen.h).
+// Kept: the C interface: the offsets are those of include/halzuqeen.h.
 #![tactic(auto)]
 
-ghost use Rattle.std.specs.Prelude.{[], ◌∷◌, ◌++◌, ◌≡◌, ◌≤◌, length};
-ghost use Rattle.std.proofs.lemmas.List.Edits.{sets};
+ghost use Rattle.std.specs.Prelude.{◌≡◌, length};
 ghost use Rattle.encoding.specs.Buffers.{put_into};
-ghost use Rattle.encoding.specs.Outcomes.{eight_bytes, packet_bytes, outcome_bytes, number_of};
+ghost use Rattle.encoding.specs.Outcomes.{eight_bytes, packet_bytes, outcome_bytes};
 ghost use Rattle.encoding.specs.Headers.{header_bytes};
-ghost use Rattle.encoding.specs.Sessions.{entry_byte, singles, standing_bytes, session_bytes};
+ghost use Rattle.encoding.specs.Sessions.{entry_byte, session_bytes};
 ghost use Rattle.lent.specs.Words.{low_first};
+ghost use Rattle.refusals.specs.Refusals.{number_in};
+ghost use Rattle.session.specs.Told.{outcome_told};
 
-use flow::{Counters, Entry, Packet};
+use flow::{Entry, Packet};
 use image::Header;
-use layout::{flag_byte, put_word};
+use layout::flag_byte;
+use refusals::Refusal;
 use session::{Outcome, Session};
 
-// Puts a length, the low byte first.
+// Puts a length, the low byte first; `storing::fill` leaves bytes that are too few, here and below.
 pub fn put_length(bytes: &mut [u8], n: usize)
     ensures put { bytes.new ≡ put_into bytes.old (low_first 8 n) }
 {
-    if bytes.len() < 8 {
-        return;
-    }
-    let mut rest = n;
-    let mut at: usize = 0;
-    while at < 8 {
-        bytes[at] = (rest % 256) as u8;
-        rest = rest / 256;
-        at += 1;
-    }
-}
-
-// The bytes of a header in a row.
-fn header_row(part: u8, macros: u8, low: u8, high: u8, m: [u8; 12], level: u8) -> [u8; 17]
-    ensures { result ≡ part ∷ macros ∷ low ∷ high ∷ (m ++ (level ∷ [])) }
-{
-    [
-        part, macros, low, high, m[0], m[1], m[2], m[3], m[4], m[5], m[6], m[7], m[8], m[9], m[10],
-        m[11], level,
-    ]
+    storing::fill(bytes, 0, &n.to_le_bytes(), 0, 8);
 }
 
 // The bytes of a header.
+#[tactic(auto, unfolding(crate::specs::Headers::header_bytes))]
 fn row_of(h: Header) -> [u8; 17]
-    ensures fact_1 { result ≡ header_bytes h }
-    ensures fact_2 { length (header_bytes h) ≡ 17 }
+    ensures equal { result ≡ header_bytes h }
+    ensures sized { length (header_bytes h) ≡ 17 }
 {
-    let m = h.metadata;
-    let sum = h.sum;
-    header_row(
-        h.part,
-        h.macros,
-        (sum % 256) as u8,
-        (sum / 256) as u8,
-        m,
-        h.level,
-    )
+    let mut row = [0u8; 17];
+    row[0] = h.part;
+    row[1] = h.macros;
+    row[2..4].copy_from_slice(&h.sum.to_le_bytes());
+    row[4..16].copy_from_slice(&h.metadata);
+    row[16] = h.level;
+    row
 }
 
-// Puts a header; `storing::fill` leaves bytes that are too few.
+// Puts a header.
 pub fn put_header(bytes: &mut [u8], h: Header)
     ensures put { bytes.new ≡ put_into bytes.old (header_bytes h) }
 {
@@ -65,6 +47,8 @@ pub fn put_header(bytes: &mut [u8], h: Header)
     storing::fill(bytes, 0, &row, 0, 17);
 }
 
+// The byte of an entry.
+// Kept: no plainer: `From<Entry> for u8` would have to stand in flow, which knows no byte of an entry.
 fn entry_byte(y: Entry) -> u8
     ensures { result ≡ entry_byte y }
 {
@@ -74,64 +58,46 @@ fn entry_byte(y: Entry) -> u8
     }
 }
 
-// Puts the single bytes of a session.
-fn put_singles(bytes: &mut [u8], s: Session)
-    requires { 45 ≤ length bytes.old }
-    ensures { bytes.new ≡ sets bytes.old 17 (singles s) }
+// The bytes of a session: its words and single bytes, and its header before them.
+#[tactic(auto, unfolding(crate::specs::Sessions::session_bytes))]
+fn session_row(s: Session) -> [u8; 45]
+    ensures equal { result ≡ session_bytes s }
+    ensures sized { length (session_bytes s) ≡ 45 }
 {
-    let p = s.position;
-    let y = p.entry;
-    bytes[17] = entry_byte(y);
-    bytes[18] = flag_byte(s.finished);
-    bytes[19] = s.number;
-    bytes[20] = s.step;
-}
-
-// Puts the index of the standing move and the counters.
-fn put_standing(bytes: &mut [u8], at: u32, c: Counters)
-    requires { 45 ≤ length bytes.old }
-    ensures { bytes.new ≡ sets bytes.old 21 (standing_bytes at c) }
-{
-    put_word(bytes, 21, at);
-    put_word(bytes, 25, c.waits);
-    put_word(bytes, 29, c.polls);
-    put_word(bytes, 33, c.attempts);
-    put_word(bytes, 37, c.kept);
+    let mut row = [0u8; 45];
+    row[17] = entry_byte(s.position.entry);
+    row[18] = flag_byte(s.finished);
+    row[19] = s.number;
+    row[20] = s.step;
+    row[21..25].copy_from_slice(&s.position.at.to_le_bytes());
+    row[25..29].copy_from_slice(&s.counters.waits.to_le_bytes());
+    row[29..33].copy_from_slice(&s.counters.polls.to_le_bytes());
+    row[33..37].copy_from_slice(&s.counters.attempts.to_le_bytes());
+    row[37..41].copy_from_slice(&s.counters.kept.to_le_bytes());
+    row[41..45].copy_from_slice(&s.transfers.to_le_bytes());
+    row[..17].copy_from_slice(&row_of(s.header));
+    row
 }
 
 // Puts a session.
-#[tactic(auto, using(crate::proofs::Putting::session_under))]
 pub fn put_session(bytes: &mut [u8], s: Session)
     ensures put { bytes.new ≡ put_into bytes.old (session_bytes s) }
 {
-    let h = s.header;
-    let p = s.position;
-    let c = s.counters;
-    let head = row_of(h);
-    if bytes.len() < 45 {
-        return;
-    }
-    storing::fill(bytes, 0, &head, 0, 17);
-    put_singles(bytes, s);
-    put_standing(bytes, p.at, c);
-    put_word(bytes, 41, s.transfers);
+    let row = session_row(s);
+    storing::fill(bytes, 0, &row, 0, 45);
 }
 
 // Puts the eight bytes of an outcome.
+// Kept: the C interface: its kind is a byte of include/halzuqeen.h, as the definition `outcome_bytes` has it.
 fn put_eight(bytes: &mut [u8], kind: u8, first: u8, second: u8, word: u32)
     ensures { bytes.new ≡ put_into bytes.old (eight_bytes kind first second word) }
 {
-    if bytes.len() < 8 {
-        return;
-    }
-    bytes[0] = kind;
-    bytes[1] = first;
-    bytes[2] = second;
-    bytes[3] = 0;
-    put_word(bytes, 4, word);
+    let [a, b, c, d] = word.to_le_bytes();
+    storing::fill(bytes, 0, &[kind, first, second, 0, a, b, c, d], 0, 8);
 }
 
 // Puts a packet.
+// Kept: no plainer: a closed enum, with bytes of its own for each variant.
 fn put_packet(bytes: &mut [u8], p: Packet)
     ensures { bytes.new ≡ put_into bytes.old (packet_bytes p) }
 {
@@ -144,23 +110,22 @@ fn put_packet(bytes: &mut [u8], p: Packet)
 }
 
 // Puts an outcome.
-pub fn put_outcome(bytes: &mut [u8], o: Outcome)
-    ensures put { bytes.new ≡ put_into bytes.old (outcome_bytes o) }
+pub fn put_outcome(bytes: &mut [u8], o: Result<Outcome, Refusal>)
+    ensures put { bytes.new ≡ put_into bytes.old (outcome_bytes (outcome_told o)) }
 {
     match o {
-        Outcome::Refused(n) => put_eight(bytes, 0, n, 0, 0),
-        Outcome::Ask(p) => put_packet(bytes, p),
-        Outcome::Reported(r) => put_eight(bytes, 5, r.number, r.step, r.transfers),
+        Ok(Outcome::Ask(p)) => put_packet(bytes, p),
+        Ok(Outcome::Reported(r)) => put_eight(bytes, 5, r.number, r.step, r.transfers),
+        Err(refusal) => put_eight(bytes, 0, refusal.number(), 0, 0),
     }
 }
 
-// The number of a refusal, and 0 of anything else.
-pub fn number_of(o: Outcome) -> u32
-    ensures number { result ≡ number_of o }
+// The number of a refusal, and 0 of anything else: what every call returns.
+pub fn number_of<T: Copy>(given: Result<T, Refusal>) -> u32
+    ensures number { result ≡ number_in given }
 {
-    match o {
-        Outcome::Refused(n) => n as u32,
-        Outcome::Ask(_) => 0,
-        Outcome::Reported(_) => 0,
+    match given {
+        Ok(_) => 0,
+        Err(refusal) => u32::from(refusal.number()),
     }
 }

@@ -12,7 +12,7 @@ use Rattle.flow.specs.Map.{place}
 use Rattle.flow.specs.Monitor.{no_waits, Seen, watching, Watch, noticed, notice_read, notice_store}
 use Rattle.flow.specs.Sealing.{succeeds0}
 use Rattle.flow.specs.Sequence.{move, write, read}
-use Rattle.flow.specs.Session.{position, running}
+use Rattle.flow.specs.Session.{position}
 use Rattle.flow.specs.Target.{Target, CallOutcome, next_outcome, rest, set_tar, set_sysarg, set_test_mode}
 use Rattle.flow.specs.declared.Entry.{Entry}
 use Rattle.flow.specs.declared.Move.{Move}

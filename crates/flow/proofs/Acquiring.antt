@@ -13,7 +13,7 @@ use Rattle.flow.specs.Judge.{judge}
 use Rattle.flow.specs.Monitor.{no_waits, watching, noticed, notice_read}
 use Rattle.flow.specs.Run.{Run}
 use Rattle.flow.specs.Sequence.{move, key, write, read, poll, call, imo_call, acquire}
-use Rattle.flow.specs.Session.{position, running}
+use Rattle.flow.specs.Session.{position}
 use Rattle.flow.specs.Target.{Target, Memory, idle, set_reset}
 use Rattle.flow.specs.Words.{free, succeeded, test_bit_set, ids_fit, level_in}
 use Rattle.flow.specs.declared.Entry.{Entry}

@@ -14,7 +14,7 @@ use Rattle.flow.specs.Packets.{again, verdict}
 use Rattle.flow.specs.Plan.{counting}
 use Rattle.flow.specs.Run.{Run, advance}
 use Rattle.flow.specs.Sequence.{move}
-use Rattle.flow.specs.Session.{position, heard_by, step_of, running}
+use Rattle.flow.specs.Session.{position, heard_by, step_of}
 use Rattle.flow.specs.Target.{Target, Lists, idle, set_reset}
 use Rattle.flow.specs.declared.Counters.{Counters}
 use Rattle.flow.specs.declared.Entry.{Entry}

@@ -5,11 +5,10 @@ use Prim.Native.Nat.{ℕ}
 use lib.Count.{ones, ones_in}
 use lib.Dec.{eqb}
 use borrow.Author.Tests.{eq-eqb}
+use Rattle.std.proofs.Common.{Option, Some, None}
 use Rattle.flow.specs.Exchange.{decode, transferred, meet}
 use Rattle.flow.specs.Packets.{packet_of}
 use Rattle.flow.specs.Target.{Target, Lists}
-use Rattle.flow.specs.declared.Decoded.{Decoded}
-use Rattle.flow.specs.declared.Decoded.TheVariants.{Known, Unknown}
 use Rattle.flow.specs.declared.Request.{Request}
 use Rattle.flow.specs.declared.Request.TheVariants.{ReadIdcode, ReadDrw, WriteTar, WriteDrw, WriteSetup}
 use Rattle.parts.specs.declared.Geometry.{Geometry}
@@ -30,18 +29,18 @@ pub data Wired : Request → Type 0 where
   plain : {q : Request} → Plain q → Wired q
 
 -- a write whose parity bit is its word's
-understood : (w : ℕ) (d : Decoded) → cond (eqb (parity w) (parity w)) d Unknown ≡ d
+understood : (w : ℕ) (d : Option Request) → cond (eqb (parity w) (parity w)) d None ≡ d
 understood w d = rw (eq-eqb (parity w) (parity w) refl)
 
-pub decodes : {q : Request} → Wired q → decode (packet_of q) ≡ Known q
+pub decodes : {q : Request} → Wired q → decode (packet_of q) ≡ Some q
 unfolding decode ones ones_in
 decodes attempt = refl
-decodes (plain (a_tar {a = w})) = understood w (Known (WriteTar w))
-decodes (plain (a_drw {w = w})) = understood w (Known (WriteDrw w))
+decodes (plain (a_tar {a = w})) = understood w (Some (WriteTar w))
+decodes (plain (a_drw {w = w})) = understood w (Some (WriteDrw w))
 decodes (plain a_read) = refl
-decodes (plain (a_ctrl {w = w})) = understood w (Known (WriteSetup CtrlStat w))
-decodes (plain (a_select {w = w})) = understood w (Known (WriteSetup Select w))
-decodes (plain (a_csw {w = w})) = understood w (Known (WriteSetup Csw w))
+decodes (plain (a_ctrl {w = w})) = understood w (Some (WriteSetup CtrlStat w))
+decodes (plain (a_select {w = w})) = understood w (Some (WriteSetup Select w))
+decodes (plain (a_csw {w = w})) = understood w (Some (WriteSetup Csw w))
 
 pub meets : (g : Geometry) {q : Request} → Wired q → (l : Lists) (b : Target) → meet g (packet_of q) l b ≡ transferred g q l b
 unfolding meet

@@ -13,7 +13,7 @@ use Rattle.flow.specs.Monitor.{no_waits, watching, notice_read}
 use Rattle.flow.specs.Run.{Run}
 use Rattle.flow.specs.Sealing.{HoldsImage}
 use Rattle.flow.specs.Sequence.{key, call, read, privileged, in_turn, program_row, verify_row, macro_down, lock_and_verify, program}
-use Rattle.flow.specs.Session.{position, running}
+use Rattle.flow.specs.Session.{position}
 use Rattle.flow.specs.Target.{Target, Memory}
 use Rattle.flow.specs.Words.{free, succeeded, sums_fit}
 use Rattle.flow.specs.declared.Entry.{Entry}

@@ -15,7 +15,6 @@ use Rattle.flow.specs.Session.{position, reported}
 use Rattle.flow.specs.Target.{Target, Memory, idle, Lists}
 use Rattle.flow.specs.declared.Entry.TheVariants.{FromOpen}
 use Rattle.flow.specs.declared.Move.{Move}
-use Rattle.flow.specs.declared.Next.TheVariants.{Stop}
 use Rattle.flow.specs.declared.Request.{Request}
 use Rattle.flow.specs.declared.Request.TheVariants.{Xres, LineReset, ReadIdcode, ReadDrw, WriteTar, WriteDrw, WriteSetup}
 use Rattle.flow.specs.declared.Silicon.{Silicon}

@@ -7,6 +7,7 @@ use native.Mathlib.Omega.{arith}
 use lib.Dec.{eqb}
 use lib.ListN.{length, get_or, take, drop, replicate, length-append, length-replicate}
 use lib.Seq.{length-sets, length-take-le}
+use Rattle.std.proofs.Common.{Option, Some, None}
 use Rattle.flow.specs.Calls.{reset, zeroed, effect_of, after_failure, finish, dropped, bytes_in, level_sent, macro_sent}
 use Rattle.flow.specs.Cuts.{cut_by, cut_memory}
 use Rattle.flow.specs.Exchange.{carry, killed, barred, carried_out, met, transferred, meet_on, decode, tick, fetch, begin, is_call, store, meet}
@@ -15,8 +16,6 @@ use Rattle.flow.specs.Packets.{packet_of}
 use Rattle.flow.specs.Run.{Run, advance_by, advance, run_after}
 use Rattle.flow.specs.Session.{SessionState, running, reported, move_at}
 use Rattle.flow.specs.Target.{CallOutcome, Target, Lists, next_event, next_outcome, Memory, Residue, Running, idle, busy, sized}
-use Rattle.flow.specs.declared.Decoded.{Decoded}
-use Rattle.flow.specs.declared.Decoded.TheVariants.{Known, Unknown}
 use Rattle.flow.specs.declared.Place.{Place}
 use Rattle.flow.specs.declared.Place.TheVariants.{InFlash, InLocks, InParams, AtLevel, AtSysreq, AtSysarg, AtTestMode, Elsewhere}
 use Rattle.flow.specs.declared.Reply.{Reply}
@@ -43,7 +42,7 @@ module _ (g : Geometry) (P : Target → Type 0) where
   carried_keeps q carries l b p = met-keeps (not (killed b) && not (barred g q b) && carried_out (next_event l.line).outcome) q carries l _ b p
 
   module _ (resets : (b : Target) → P b → P (reset g b)) where
-    pub request-keeps : (q : Request) → Transfers q → (l : Lists) (b : Target) → P b → P (meet_on g (Known q) l b).target
+    pub request-keeps : (q : Request) → Transfers q → (l : Lists) (b : Target) → P b → P (meet_on g (Some q) l b).target
     request-keeps Xres keeps l b p = resets b p
     request-keeps LineReset keeps l b p = p
     request-keeps ReadIdcode keeps l b p = keeps l b p
@@ -52,9 +51,9 @@ module _ (g : Geometry) (P : Target → Type 0) where
     request-keeps (WriteDrw w) keeps l b p = keeps l b p
     request-keeps (WriteSetup r w) keeps l b p = keeps l b p
 
-    pub packet-keeps : ((q : Request) → Transfers q) → (d : Decoded) (l : Lists) (b : Target) → P b → P (meet_on g d l b).target
-    packet-keeps keeps (Known q) l b p = request-keeps q (keeps q) l b p
-    packet-keeps keeps Unknown l b p = p
+    pub packet-keeps : ((q : Request) → Transfers q) → (d : Option Request) (l : Lists) (b : Target) → P b → P (meet_on g d l b).target
+    packet-keeps keeps (Some q) l b p = request-keeps q (keeps q) l b p
+    packet-keeps keeps None l b p = p
 
 -- the same sizes
 pub record Sizes (m m' : Memory) : Type 0 where

@@ -5,12 +5,12 @@ use Prim.Native.Nat.{ℕ, zero, suc, ◌+◌, ◌/◌, ◌≤◌}
 use native.Mathlib.Omega.{arith}
 use lib.Dec.{lit≤}
 use lib.ListN.{length, get_or, length-append}
+use Rattle.std.proofs.Common.{Some}
 use Rattle.flow.proofs.Decoding.{a_tar, a_drw, a_read, a_ctrl, a_select, a_csw, attempt, plain, decodes}
 use Rattle.flow.specs.Exchange.{decode}
 use Rattle.flow.specs.Packets.{packet_of}
 use Rattle.flow.specs.Sequence.{move, write, read, call, writes, listed, in_turn, imo_call, acquire, silicon, privileged, program_row, verify_row, lock_macro, verify_macro, macro_down, program, opening, afterwards, sequence, end_move, key}
 use Rattle.flow.specs.Session.{position, move_at}
-use Rattle.flow.specs.declared.Decoded.TheVariants.{Known}
 use Rattle.flow.specs.declared.Entry.{Entry}
 use Rattle.flow.specs.declared.Entry.TheVariants.{FromOpen, FromProtected}
 use Rattle.flow.specs.declared.Move.{Move}
@@ -53,7 +53,7 @@ Reports E LastSum s = s ≡ 9
 
 -- the target reads the request as it was meant
 abbrev pub Meant : Request → Type 0
-Meant q = decode (packet_of q) ≡ Known q
+Meant q = decode (packet_of q) ≡ Some q
 
 meant-xres : Meant Xres
 unfolding decode

@@ -19,7 +19,6 @@ use Rattle.flow.specs.Target.{Target, Memory, next_outcome}
 use Rattle.flow.specs.Terms.{Passes, Startable, RightPart, calm_end, calls_end}
 use Rattle.flow.specs.declared.Entry.TheVariants.{FromOpen, FromProtected}
 use Rattle.flow.specs.declared.Move.{Move}
-use Rattle.flow.specs.declared.Next.TheVariants.{Stop}
 use Rattle.flow.specs.declared.Place.TheVariants.{AtSysreq, AtSysarg}
 use Rattle.flow.specs.declared.Purpose.TheVariants.{Keep, EntryLevel, Reopened, Status}
 use Rattle.flow.proofs.Access.{admits, write-reaches, call-reaches}

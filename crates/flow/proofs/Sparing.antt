@@ -13,7 +13,6 @@ use Rattle.flow.proofs.Frames.{start-on-plan}
 use Rattle.flow.proofs.Phases.{table-facts, valid}
 use Rattle.flow.proofs.Reaches.{RightIds, Frame, going, Course, arrived, stopped, onward}
 use Rattle.image.specs.Image.{Image, image_of}
-use Rattle.flow.specs.declared.Next.TheVariants.{Stop}
 
 module _ (i : Image) (b : Target) (wrong : RightIds i b.silicon → ⊥) where
   -- the session has reported, and nothing was altered

@@ -12,8 +12,8 @@ use Rattle.parts.proofs.Locks.{Locks, table-locks}
 use Rattle.parts.proofs.Table.{both, everywhere, at-found}
 use Rattle.parts.specs.Parts.{part_table, lookup_of}
 use Rattle.parts.specs.Sizes.{row_bytes_of, macros_of, rows_of, flash_size, locks_in, imo_of, lock_start, sysreq_of, sysarg_of, PARAMS, TEST-MODE, locks_at, level_at}
+use Rattle.std.specs.Prelude.{Ok}
 use Rattle.parts.specs.declared.Geometry.{Geometry}
-use Rattle.parts.specs.declared.Lookup.TheVariants.{Found}
 
 -- two regions do not meet
 abbrev pub apart : Region → Region → Bool
@@ -57,7 +57,7 @@ all_first : (b : Bool) (bs : List Bool) → all (b ∷ bs) ≡ true → (b ≡ t
 unfolding all
 all_first b bs h = both b (all bs) h
 
-pub facts : (n m : ℕ) (g : Geometry) → lookup_of n m ≡ Found g → Facts g
+pub facts : (n m : ℕ) (g : Geometry) → lookup_of n m ≡ Ok g → Facts g
 unfolding fits
 facts n m g e =
     let t₀ = all_first _ _ (at-found fits table_fits n m e) in

@@ -7,6 +7,7 @@ use Prim.Native.Nat.{ℕ, zero, suc, ◌≤◌, ◌<◌}
 use native.Mathlib.Nat.{le_refl}
 use native.Mathlib.Omega.{arith}
 use lib.ListN.{length, length-append}
+use Rattle.std.proofs.Common.{Option, Some, None}
 use Rattle.flow.specs.Claim.{UndisturbedHolds}
 use Rattle.flow.specs.Terms.{Calm, calm_end, calls_end, Used, entries}
 use Rattle.flow.specs.Exchange.{decode, carry, store, begin, is_call, is_sysreq, killed, barred, carried_out, calls_on, silent_reply, reply_to, gives, Met, met, transferred, meet_on, meet}
@@ -15,8 +16,6 @@ use Rattle.flow.specs.Packets.{packet_of, is_read}
 use Rattle.flow.specs.Run.{Run, advance_by, advance, run_after, started}
 use Rattle.flow.specs.Session.{SessionState, running, reported, move_at}
 use Rattle.flow.specs.Target.{Target, CallOutcome, Lists, next_event, next_outcome, rest}
-use Rattle.flow.specs.declared.Decoded.{Decoded}
-use Rattle.flow.specs.declared.Decoded.TheVariants.{Known, Unknown}
 use Rattle.flow.specs.declared.LineEvent.{LineEvent}
 use Rattle.flow.specs.declared.Place.{Place}
 use Rattle.flow.specs.declared.Place.TheVariants.{InFlash, InLocks, InParams, AtLevel, AtSysreq, AtSysarg, AtTestMode, Elsewhere}
@@ -116,18 +115,18 @@ module _ (g : Geometry) where
       into (inl (rw (met-line (flag_of g q e b) g q (record { line = e ∷ es; calls = calls ++ more }) (reply_of g q e b) b) (le_refl _)))
 
 module _ (g : Geometry) (x : Lists) where
-  meet-alike : (d : Decoded) (l : Lists) (b : Target) → Alike x (meet_on g d l b) (meet_on g d (behind x l) b)
-  meet-alike (Known Xres) l b = same refl
-  meet-alike (Known LineReset) l b = same refl
-  meet-alike (Known ReadIdcode) l b = transferred-alike g ReadIdcode l.line x.line l.calls x.calls b
-  meet-alike (Known ReadDrw) l b = transferred-alike g ReadDrw l.line x.line l.calls x.calls b
-  meet-alike (Known (WriteTar a)) l b = transferred-alike g (WriteTar a) l.line x.line l.calls x.calls b
-  meet-alike (Known (WriteDrw w)) l b = transferred-alike g (WriteDrw w) l.line x.line l.calls x.calls b
-  meet-alike (Known (WriteSetup r w)) l b = transferred-alike g (WriteSetup r w) l.line x.line l.calls x.calls b
-  meet-alike Unknown l b = by l.line x.line refl
+  meet-alike : (d : Option Request) (l : Lists) (b : Target) → Alike x (meet_on g d l b) (meet_on g d (behind x l) b)
+  meet-alike (Some Xres) l b = same refl
+  meet-alike (Some LineReset) l b = same refl
+  meet-alike (Some ReadIdcode) l b = transferred-alike g ReadIdcode l.line x.line l.calls x.calls b
+  meet-alike (Some ReadDrw) l b = transferred-alike g ReadDrw l.line x.line l.calls x.calls b
+  meet-alike (Some (WriteTar a)) l b = transferred-alike g (WriteTar a) l.line x.line l.calls x.calls b
+  meet-alike (Some (WriteDrw w)) l b = transferred-alike g (WriteDrw w) l.line x.line l.calls x.calls b
+  meet-alike (Some (WriteSetup r w)) l b = transferred-alike g (WriteSetup r w) l.line x.line l.calls x.calls b
+  meet-alike None l b = by l.line x.line refl
     where
       by : (line later : List LineEvent) → x.line ≡ later
-          → Alike x (meet_on g Unknown (record { line = line; calls = l.calls }) b) (meet_on g Unknown (behind x (record { line = line; calls = l.calls })) b)
+          → Alike x (meet_on g None (record { line = line; calls = l.calls }) b) (meet_on g None (behind x (record { line = line; calls = l.calls })) b)
       by (e ∷ es) later h = same refl
       by [] [] h = same (rw h)
       by [] (e ∷ es) h = into (inl (rw h (le_refl _)))
@@ -168,15 +167,15 @@ transferred-used : (g : Geometry) (q : Request) (l : Lists) (b : Target) → Use
 unfolding transferred
 transferred-used g q l b = met-used (flag_of g q (next_event l.line) b) g q l (reply_of g q (next_event l.line) b) b
 
-meet-used : (g : Geometry) (d : Decoded) (l : Lists) (b : Target) → Used l (meet_on g d l b).lists
-meet-used g (Known Xres) l b = used (whole l.line) (whole l.calls)
-meet-used g (Known LineReset) l b = used (whole l.line) (whole l.calls)
-meet-used g (Known ReadIdcode) l b = transferred-used g ReadIdcode l b
-meet-used g (Known ReadDrw) l b = transferred-used g ReadDrw l b
-meet-used g (Known (WriteTar a)) l b = transferred-used g (WriteTar a) l b
-meet-used g (Known (WriteDrw w)) l b = transferred-used g (WriteDrw w) l b
-meet-used g (Known (WriteSetup r w)) l b = transferred-used g (WriteSetup r w) l b
-meet-used g Unknown l b = used (first l.line) (whole l.calls)
+meet-used : (g : Geometry) (d : Option Request) (l : Lists) (b : Target) → Used l (meet_on g d l b).lists
+meet-used g (Some Xres) l b = used (whole l.line) (whole l.calls)
+meet-used g (Some LineReset) l b = used (whole l.line) (whole l.calls)
+meet-used g (Some ReadIdcode) l b = transferred-used g ReadIdcode l b
+meet-used g (Some ReadDrw) l b = transferred-used g ReadDrw l b
+meet-used g (Some (WriteTar a)) l b = transferred-used g (WriteTar a) l b
+meet-used g (Some (WriteDrw w)) l b = transferred-used g (WriteDrw w) l b
+meet-used g (Some (WriteSetup r w)) l b = transferred-used g (WriteSetup r w) l b
+meet-used g None l b = used (first l.line) (whole l.calls)
 
 advance-used : (i : Image) (r : Run) → Used r.lists (advance i r).lists
 unfolding advance meet

@@ -4,6 +4,7 @@ use mathlib.Core.Bool.{Bool, true, false, false≢true, ◌&&◌, not, cond, and
 use mathlib.Core.List.{List, [], ◌∷◌}
 use mathlib.Core.Path.{◌≡◌, refl, ap, sym, ◌∙◌}
 use Prim.Native.Nat.{ℕ, zero, suc}
+use Rattle.std.proofs.Common.{Option, Some, None}
 use Rattle.flow.specs.BoardExamples.{none}
 use Rattle.flow.specs.Calls.{dropped, finish, reset}
 use Rattle.flow.specs.Exchange.{decode, carry, killed, barred, carried_out, gives, silent_reply, reply_to, Met, met, transferred, meet_on, meet}
@@ -15,8 +16,6 @@ use Rattle.flow.specs.Session.{SessionState, running, reported, move_at, act, st
 use Rattle.flow.specs.Target.{Target, CallOutcome, Running, idle, busy, next_event}
 use Rattle.flow.specs.Words.{succeeded}
 use Rattle.flow.specs.declared.Answer.TheVariants.{Transferred}
-use Rattle.flow.specs.declared.Decoded.{Decoded}
-use Rattle.flow.specs.declared.Decoded.TheVariants.{Known, Unknown}
 use Rattle.flow.specs.declared.Counters.{Counters}
 use Rattle.flow.specs.declared.Position.{Position}
 use Rattle.flow.specs.declared.LineEvent.{LineEvent}
@@ -79,7 +78,7 @@ module _ (g : Geometry) (calls : List CallOutcome) (b : Target) where
   abbrev transfer_on : Request → List LineEvent → Met
   transfer_on q line = transferred g q (record { line = line; calls = calls }) b
 
-  abbrev meet_with : Decoded → List LineEvent → Met
+  abbrev meet_with : Option Request → List LineEvent → Met
   meet_with d line = meet_on g d (record { line = line; calls = calls }) b
 
   -- a transfer, by whether the target is silent and whether it bars it
@@ -98,15 +97,15 @@ module _ (g : Geometry) (calls : List CallOutcome) (b : Target) where
       by false true = record { line = clean ∷ es; same = refl; bare = refl }
       by false false = record { line = clean ∷ es; same = refl; bare = refl }
 
-  meet-ahead : (es : List LineEvent) (d : Decoded) → Ahead es (meet_with d)
-  meet-ahead es (Known Xres) = record { line = es; same = refl; bare = refl }
-  meet-ahead es (Known LineReset) = record { line = es; same = refl; bare = refl }
-  meet-ahead es (Known ReadIdcode) = transfer-ahead es ReadIdcode
-  meet-ahead es (Known ReadDrw) = transfer-ahead es ReadDrw
-  meet-ahead es (Known (WriteTar a)) = transfer-ahead es (WriteTar a)
-  meet-ahead es (Known (WriteDrw w)) = transfer-ahead es (WriteDrw w)
-  meet-ahead es (Known (WriteSetup r w)) = transfer-ahead es (WriteSetup r w)
-  meet-ahead es Unknown = record { line = clean ∷ es; same = refl; bare = refl }
+  meet-ahead : (es : List LineEvent) (d : Option Request) → Ahead es (meet_with d)
+  meet-ahead es (Some Xres) = record { line = es; same = refl; bare = refl }
+  meet-ahead es (Some LineReset) = record { line = es; same = refl; bare = refl }
+  meet-ahead es (Some ReadIdcode) = transfer-ahead es ReadIdcode
+  meet-ahead es (Some ReadDrw) = transfer-ahead es ReadDrw
+  meet-ahead es (Some (WriteTar a)) = transfer-ahead es (WriteTar a)
+  meet-ahead es (Some (WriteDrw w)) = transfer-ahead es (WriteDrw w)
+  meet-ahead es (Some (WriteSetup r w)) = transfer-ahead es (WriteSetup r w)
+  meet-ahead es None = record { line = clean ∷ es; same = refl; bare = refl }
 
   -- XRES drops a call as failed
   reset-ends : succeeds0 b (reset g b) ≡ false
@@ -130,15 +129,15 @@ module _ (g : Geometry) (calls : List CallOutcome) (b : Target) where
       by false true h = absurd (same_ends h)
       by false false h = record { target = refl; answer = refl }
 
-  meet-unanswered : (d : Decoded) → seals b (meet_with d []).target ≡ true → Unanswered (meet_with d)
-  meet-unanswered (Known Xres) h = absurd (no (no-seal b (reset g b) reset-ends) h)
-  meet-unanswered (Known LineReset) h = absurd (same_ends h)
-  meet-unanswered (Known ReadIdcode) h = transfer-unanswered ReadIdcode h
-  meet-unanswered (Known ReadDrw) h = transfer-unanswered ReadDrw h
-  meet-unanswered (Known (WriteTar a)) h = transfer-unanswered (WriteTar a) h
-  meet-unanswered (Known (WriteDrw w)) h = transfer-unanswered (WriteDrw w) h
-  meet-unanswered (Known (WriteSetup r w)) h = transfer-unanswered (WriteSetup r w) h
-  meet-unanswered Unknown h = absurd (same_ends h)
+  meet-unanswered : (d : Option Request) → seals b (meet_with d []).target ≡ true → Unanswered (meet_with d)
+  meet-unanswered (Some Xres) h = absurd (no (no-seal b (reset g b) reset-ends) h)
+  meet-unanswered (Some LineReset) h = absurd (same_ends h)
+  meet-unanswered (Some ReadIdcode) h = transfer-unanswered ReadIdcode h
+  meet-unanswered (Some ReadDrw) h = transfer-unanswered ReadDrw h
+  meet-unanswered (Some (WriteTar a)) h = transfer-unanswered (WriteTar a) h
+  meet-unanswered (Some (WriteDrw w)) h = transfer-unanswered (WriteDrw w) h
+  meet-unanswered (Some (WriteSetup r w)) h = transfer-unanswered (WriteSetup r w) h
+  meet-unanswered None h = absurd (same_ends h)
 
   -- a read of IDCODE alters nothing
   idcode-ends : seals b (meet_with (decode (packet_of ReadIdcode)) []).target ≡ false

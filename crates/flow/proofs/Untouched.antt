@@ -2,12 +2,12 @@
 use mathlib.Core.Bool.{Bool, true, false}
 use mathlib.Core.Path.{◌≡◌, refl, ◌∙◌}
 use Prim.Native.Nat.{ℕ, zero, suc, ◌%◌}
+use Rattle.std.proofs.Common.{Some}
 use Rattle.flow.specs.Calls.{finish, dropped, reset}
 use Rattle.flow.specs.Exchange.{decode, tick, fetch, begin, is_call, store, carry, meet}
 use Rattle.flow.specs.Map.{place}
 use Rattle.flow.specs.Packets.{packet_of}
 use Rattle.flow.specs.Target.{Memory, Residue, CallOutcome, Running, idle, busy, Target, Lists}
-use Rattle.flow.specs.declared.Decoded.TheVariants.{Known}
 use Rattle.flow.specs.declared.Place.{Place}
 use Rattle.flow.specs.declared.Place.TheVariants.{InFlash, InLocks, InParams, AtLevel, AtSysreq, AtSysarg, AtTestMode, Elsewhere}
 use Rattle.flow.specs.declared.Request.{Request}
@@ -88,6 +88,6 @@ module _ (g : Geometry) {m : Memory} where
       by (busy n s r c) h = still h g false r b ∙ u.memory
 
   -- a packet that the target reads as the request that was meant
-  pub meet-untouched : (q : Request) → decode (packet_of q) ≡ Known q → Mild q → (l : Lists) (b : Target) → Untouched m b → Untouched m (meet g (packet_of q) l b).target
+  pub meet-untouched : (q : Request) → decode (packet_of q) ≡ Some q → Mild q → (l : Lists) (b : Target) → Untouched m b → Untouched m (meet g (packet_of q) l b).target
   unfolding meet
   meet-untouched q e h l b u = rw e (request-keeps g (Untouched m) reset-untouched q (carried_keeps g (Untouched m) q (carried q h)) l b u)

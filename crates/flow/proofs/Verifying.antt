@@ -13,7 +13,7 @@ use Rattle.flow.specs.Map.{place}
 use Rattle.flow.specs.Monitor.{notice_read}
 use Rattle.flow.specs.Plan.{is_poll}
 use Rattle.flow.specs.Sequence.{read, in_turn, compare_words, verify_row, lock_macro, verify_macro, macro_down, lock_and_verify}
-use Rattle.flow.specs.Session.{position, running}
+use Rattle.flow.specs.Session.{position}
 use Rattle.flow.specs.Target.{Target, idle}
 use Rattle.flow.specs.Words.{level_shown}
 use Rattle.flow.specs.declared.Entry.{Entry}

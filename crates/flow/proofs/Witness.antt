@@ -25,11 +25,10 @@ use Rattle.image.specs.Image.{image_of, flash_in}
 use Rattle.image.specs.Refusals.{first_refusal}
 use Rattle.image.specs.declared.Header.{Header}
 use Rattle.parts.proofs.Table.{both, everywhere, entry}
-use Rattle.parts.specs.Parts.{part_table, look_in, lookup_of, low_fits}
+use Rattle.parts.specs.Parts.{Lookup, part_table, look_in, lookup_of, low_fits}
 use Rattle.parts.specs.Sizes.{row_bytes_of, rows_of, flash_size, lock_total, image_size}
+use Rattle.std.specs.Prelude.{Ok}
 use Rattle.parts.specs.declared.Geometry.{Geometry}
-use Rattle.parts.specs.declared.Lookup.{Lookup}
-use Rattle.parts.specs.declared.Lookup.TheVariants.{Found}
 
 first_one : (n : ℕ) → 0 < n → ◌≡◌ {A = ℕ} (get_or (replicate n 1) 0 0) 1
 first_one zero h = absurd (omega arith)
@@ -63,7 +62,7 @@ table-listed = refl
 
 -- what a look-up gives
 record Listed (g : Geometry) : Type 0 where
-  pub found : lookup_of g.part.number g.macros ≡ Found g
+  pub found : lookup_of g.part.number g.macros ≡ Ok g
   pub ids : image_id_fits g (header_for g) ≡ true
   pub low : low_fits g.part g.part.id_low.first ≡ true
   pub high : g.part.id_high < 256
@@ -71,7 +70,7 @@ record Listed (g : Geometry) : Type 0 where
   pub family : g.part.id_family < 256
   pub flash : 0 < flash_size g
 
-looked-up : (n m : ℕ) (g : Geometry) → lookup_of n m ≡ Found g → Listed g
+looked-up : (n m : ℕ) (g : Geometry) → lookup_of n m ≡ Ok g → Listed g
 looked-up n m g e =
     let t = entry listed n m g table-listed e in
     let t₄ = both _ (ltb 0 (flash_size g)) t.passes in
@@ -244,7 +243,7 @@ pub record Both (g : Geometry) : Type 0 where
   pub from_open : Achieved g 1
   pub from_protected : Achieved g 2
 
-module _ (part macros : ℕ) (g : Geometry) (e : lookup_of part macros ≡ Found g) where
+module _ (part macros : ℕ) (g : Geometry) (e : lookup_of part macros ≡ Ok g) where
   pub witness : Both g
   witness =
       let s = looked-up part macros g e in

@@ -1,5 +1,5 @@
 -- The plain board by example: transfers, resets and calls on a board of four bytes of flash, locks and latch. Assumes nothing.
-use Rattle.std.specs.Prelude.{Bool, true, false, List, [], ◌∷◌, ◌≡◌, ℕ, ◌+◌, ◌-◌}
+use Rattle.std.specs.Prelude.{Bool, true, false, List, [], ◌∷◌, ◌≡◌, ℕ, ◌+◌, ◌-◌, Some, None}
 use Rattle.flow.specs.Calls.{finish}
 use Rattle.flow.specs.Examples.{part_one}
 use Rattle.flow.specs.Exchange.{Met, meet, decode}
@@ -8,7 +8,6 @@ use Rattle.flow.specs.Packets.{packet_of}
 use Rattle.flow.specs.Target.{Memory, Residue, CallOutcome, Running, idle, busy, Target, Lists}
 use Rattle.flow.specs.declared.Answer.{Answer}
 use Rattle.flow.specs.declared.Answer.TheVariants.{ResetDone}
-use Rattle.flow.specs.declared.Decoded.TheVariants.{Known, Unknown}
 use Rattle.flow.specs.declared.Packet.TheVariants as Packets
 use Rattle.flow.specs.declared.Request.{Request}
 use Rattle.flow.specs.declared.Request.TheVariants.{Xres, LineReset, ReadIdcode, ReadDrw, WriteTar, WriteDrw}
@@ -145,17 +144,17 @@ pub record NoiseExamples : Type 0 where
 
 -- request bytes that the target knows, and such as it answers by silence
 pub record PacketExamples : Type 0 where
-  pub idcode : decode (Packets.Read 0xA5) ≡ Known ReadIdcode
-  pub tar : decode (Packets.Write 0x8B 3 0) ≡ Known (WriteTar 3)
-  pub start_bit : decode (Packets.Read 0xA4) ≡ Unknown
-  pub parity_bit : decode (Packets.Read 0x85) ≡ Unknown
-  pub stop_bit : decode (Packets.Read 0xE5) ≡ Unknown
-  pub park_bit : decode (Packets.Read 0x25) ≡ Unknown
+  pub idcode : decode (Packets.Read 0xA5) ≡ Some ReadIdcode
+  pub tar : decode (Packets.Write 0x8B 3 0) ≡ Some (WriteTar 3)
+  pub start_bit : decode (Packets.Read 0xA4) ≡ None
+  pub parity_bit : decode (Packets.Read 0x85) ≡ None
+  pub stop_bit : decode (Packets.Read 0xE5) ≡ None
+  pub park_bit : decode (Packets.Read 0x25) ≡ None
   -- 0xA5 asks for a read, 0x8B for a write
-  pub not_write : decode (Packets.Write 0xA5 3 0) ≡ Unknown
-  pub not_read : decode (Packets.Read 0x8B) ≡ Unknown
+  pub not_write : decode (Packets.Write 0xA5 3 0) ≡ None
+  pub not_read : decode (Packets.Read 0x8B) ≡ None
   -- a write whose parity bit is not its word's
-  pub word_parity : decode (Packets.Write 0x8B 3 1) ≡ Unknown
+  pub word_parity : decode (Packets.Write 0x8B 3 1) ≡ None
   pub met : meet part_one (Packets.Write 0x8B 3 1) (on_line Clean) (board 1 0 7) ≡ becomes (board 1 0 7) (answer 7 13 1)
 
 -- 'XRES puts the stored level in effect, clears SYSREQ and drops a running call as failed.'

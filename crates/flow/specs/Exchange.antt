@@ -1,5 +1,5 @@
 -- How the target meets a packet: document 01, 'The plain board'. It reads the wire by itself. Assumes nothing.
-use Rattle.std.specs.Prelude.{Bool, true, false, ◌&&◌, not, cond, [], ◌∷◌, ℕ, zero, suc, ◌+◌, ◌*◌, ◌-◌, ◌/◌, ◌%◌, eqb, leb, get_or}
+use Rattle.std.specs.Prelude.{Bool, true, false, ◌&&◌, not, cond, [], ◌∷◌, ℕ, zero, suc, ◌+◌, ◌*◌, ◌-◌, ◌/◌, ◌%◌, eqb, leb, get_or, Option, Some, None}
 use Rattle.std.proofs.lemmas.List.Edits.{sets}
 use Rattle.flow.specs.Calls.{finish, reset}
 use Rattle.flow.specs.Map.{place}
@@ -7,8 +7,6 @@ use Rattle.flow.specs.Packets.{is_read}
 use Rattle.flow.specs.Target.{Target, CallOutcome, Running, idle, busy, Lists, next_event, next_outcome, rest, set_tar, set_posted, set_params, set_sysarg, set_test_mode, set_sysreq}
 use Rattle.flow.specs.declared.Answer.{Answer}
 use Rattle.flow.specs.declared.Answer.TheVariants.{ResetDone, Transferred}
-use Rattle.flow.specs.declared.Decoded.{Decoded}
-use Rattle.flow.specs.declared.Decoded.TheVariants.{Known, Unknown}
 use Rattle.flow.specs.declared.Packet as Packets
 use Rattle.flow.specs.declared.Packet.{Packet}
 use Rattle.flow.specs.declared.Place.{Place}
@@ -31,22 +29,22 @@ abbrev pub well_formed : (byte : ℕ) → Bool
 well_formed r = eqb (r % 2) 1 && eqb (r / 64) 2 && eqb (r / 32 % 2) ((r / 2 % 2 + r / 4 % 2 + r / 8 % 2 + r / 16 % 2) % 2)
 
 -- 004, Table 3-2, by APnDP and the two address bits
-abbrev pub read_at : (ap address : ℕ) → Decoded
-read_at ap a = cond (eqb ap 0) (cond (eqb a 0) (Known ReadIdcode) Unknown) (cond (eqb a 3) (Known ReadDrw) Unknown)
+abbrev pub read_at : (ap address : ℕ) → Option Request
+read_at ap a = cond (eqb ap 0) (cond (eqb a 0) (Some ReadIdcode) None) (cond (eqb a 3) (Some ReadDrw) None)
 
-abbrev pub write_at : (ap address word : ℕ) → Decoded
+abbrev pub write_at : (ap address word : ℕ) → Option Request
 write_at ap a w =
     cond (eqb ap 0)
-    (cond (eqb a 1) (Known (WriteSetup CtrlStat w)) (cond (eqb a 2) (Known (WriteSetup Select w)) Unknown))
-    (cond (eqb a 0) (Known (WriteSetup Csw w)) (cond (eqb a 1) (Known (WriteTar w)) (cond (eqb a 3) (Known (WriteDrw w)) Unknown)))
+    (cond (eqb a 1) (Some (WriteSetup CtrlStat w)) (cond (eqb a 2) (Some (WriteSetup Select w)) None))
+    (cond (eqb a 0) (Some (WriteSetup Csw w)) (cond (eqb a 1) (Some (WriteTar w)) (cond (eqb a 3) (Some (WriteDrw w)) None)))
 
 -- RnW is 1 on a read; a write whose parity bit is not its word's is not understood
-unfoldable pub decode : Packet → Decoded
-decode Packets.TheVariants.Xres = Known Xres
-decode Packets.TheVariants.LineReset = Known LineReset
-decode (Packets.TheVariants.Read r) = cond (well_formed r && eqb (r / 4 % 2) 1) (read_at (r / 2 % 2) (r / 8 % 4)) Unknown
+unfoldable pub decode : Packet → Option Request
+decode Packets.TheVariants.Xres = Some Xres
+decode Packets.TheVariants.LineReset = Some LineReset
+decode (Packets.TheVariants.Read r) = cond (well_formed r && eqb (r / 4 % 2) 1) (read_at (r / 2 % 2) (r / 8 % 4)) None
 decode (Packets.TheVariants.Write r w p) =
-    cond (well_formed r && eqb (r / 4 % 2) 0 && eqb p (parity w)) (write_at (r / 2 % 2) (r / 8 % 4) w) Unknown
+    cond (well_formed r && eqb (r / 4 % 2) 0 && eqb p (parity w)) (write_at (r / 2 % 2) (r / 8 % 4) w) None
 
 -- ---- transfers
 
@@ -222,15 +220,15 @@ transferred g q l b =
     (cond (killed b) (silent_reply e.filler) (reply_to e.outcome (barred g q b) (is_read q) (gives q b) e.filler))
     b
 
-abbrev pub meet_on : Geometry → Decoded → Lists → Target → Met
-meet_on g (Known Xres) l b = record { target = reset g b; answer = ResetDone; lists = l }
-meet_on g (Known LineReset) l b = record { target = b; answer = ResetDone; lists = l }
-meet_on g (Known ReadIdcode) l b = transferred g ReadIdcode l b
-meet_on g (Known ReadDrw) l b = transferred g ReadDrw l b
-meet_on g (Known (WriteTar a)) l b = transferred g (WriteTar a) l b
-meet_on g (Known (WriteDrw w)) l b = transferred g (WriteDrw w) l b
-meet_on g (Known (WriteSetup r w)) l b = transferred g (WriteSetup r w) l b
-meet_on g Unknown l b =
+abbrev pub meet_on : Geometry → Option Request → Lists → Target → Met
+meet_on g (Some Xres) l b = record { target = reset g b; answer = ResetDone; lists = l }
+meet_on g (Some LineReset) l b = record { target = b; answer = ResetDone; lists = l }
+meet_on g (Some ReadIdcode) l b = transferred g ReadIdcode l b
+meet_on g (Some ReadDrw) l b = transferred g ReadDrw l b
+meet_on g (Some (WriteTar a)) l b = transferred g (WriteTar a) l b
+meet_on g (Some (WriteDrw w)) l b = transferred g (WriteDrw w) l b
+meet_on g (Some (WriteSetup r w)) l b = transferred g (WriteSetup r w) l b
+meet_on g None l b =
     record { target = b; answer = Transferred (silent_reply (next_event l.line).filler); lists = record { line = rest l.line; calls = l.calls } }
 
 -- 'The board meets every request once, in order, and nothing else.'

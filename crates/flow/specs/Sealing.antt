@@ -3,7 +3,6 @@
 use Rattle.std.specs.Prelude.{Bool, true, false, ◌&&◌, not, ◌≡◌, ℕ, eqb}
 use Rattle.flow.specs.Calls.{level_sent, macro_sent}
 use Rattle.flow.specs.Cuts.{CutTo}
-use Rattle.flow.specs.Session.{running}
 use Rattle.flow.specs.Target.{Target, Memory, Running, idle, busy}
 use Rattle.image.specs.Image.{Image}
 use Rattle.flow.specs.Words.{succeeded}

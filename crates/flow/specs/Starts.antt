@@ -1,5 +1,5 @@
 -- What demand 3 leaves free and what it allows at most: nobody asks more of an image, a board or a list than stands here. Assumes nothing.
-use Rattle.std.specs.Prelude.{true, List, [], ◌⊎◌, ◌≡◌, ℕ, ◌+◌, ◌/◌, ◌≤◌, ◌<◌, length, get_or}
+use Rattle.std.specs.Prelude.{true, List, [], ◌⊎◌, ◌≡◌, ℕ, ◌+◌, ◌/◌, ◌≤◌, ◌<◌, length, get_or, Ok}
 use Rattle.flow.specs.Terms.{Passes, Startable, Calm}
 use Rattle.flow.specs.Examples.{part_one, two_macros}
 use Rattle.flow.specs.Plan.{most_traffic}
@@ -12,7 +12,6 @@ use Rattle.image.specs.declared.Header.{Header}
 use Rattle.parts.specs.Parts.{lookup_of}
 use Rattle.parts.specs.Sizes.{row_bytes_of, flash_size, lock_total}
 use Rattle.parts.specs.declared.Geometry.{Geometry}
-use Rattle.parts.specs.declared.Lookup.TheVariants.{Found}
 
 pub record ByteIDs (x : Silicon) : Type 0 where
   pub high : x.high < 256
@@ -32,7 +31,7 @@ pub record FreeStarts : Type 0 where
       → b.running ≡ idle
       → Startable g b
   -- 'an image that document 01's checks let pass'
-  pub image : (g : Geometry) (h : Header) (bytes : List ℕ) → lookup_of h.part h.macros ≡ Found g → image_fault h bytes ≡ 0
+  pub image : (g : Geometry) (h : Header) (bytes : List ℕ) → lookup_of h.part h.macros ≡ Ok g → image_fault h bytes ≡ 0
       → ((j : ℕ) → get_or bytes j 0 < 256)
       → Passes g h bytes
   -- 'nothing waits or is busy': lists of any length, whatever else is free in their entries

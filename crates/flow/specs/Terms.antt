@@ -1,5 +1,5 @@
 -- What demand 3 speaks of: an image that passes, a target that may start, the right part, calm lists, the entries used. Assumes nothing.
-use Rattle.std.specs.Prelude.{true, cond, List, [], ◌∷◌, ◌++◌, ◌⊎◌, ◌≡◌, ℕ, ◌+◌, ◌/◌, ◌≤◌, ◌<◌, eqb, length, get_or}
+use Rattle.std.specs.Prelude.{true, cond, List, [], ◌∷◌, ◌++◌, ◌⊎◌, ◌≡◌, ℕ, ◌+◌, ◌/◌, ◌≤◌, ◌<◌, eqb, length, get_or, Ok}
 use Rattle.flow.specs.Monitor.{Monitor, watching, link_error, delayed}
 use Rattle.flow.specs.Target.{Target, idle, CallOutcome, Lists}
 use Rattle.flow.specs.declared.Entry.{Entry}
@@ -13,11 +13,10 @@ use Rattle.image.specs.declared.Header.{Header}
 use Rattle.parts.specs.Parts.{lookup_of, low_fits}
 use Rattle.parts.specs.Sizes.{row_bytes_of, flash_size, lock_total}
 use Rattle.parts.specs.declared.Geometry.{Geometry}
-use Rattle.parts.specs.declared.Lookup.TheVariants.{Found}
 
 -- an image that the checks let pass: 11, 12, 6 to 10; the lent bytes are bytes
 pub record Passes (g : Geometry) (h : Header) (bytes : List ℕ) : Type 0 where
-  pub found : lookup_of h.part h.macros ≡ Found g
+  pub found : lookup_of h.part h.macros ≡ Ok g
   pub checked : image_fault h bytes ≡ 0
   pub small : (j : ℕ) → get_or bytes j 0 < 256
 

@@ -1,5 +1,5 @@
 -- The counts of the sequence are document 01's. Assumes nothing.
-use Rattle.std.specs.Prelude.{List, ◌≡◌, ℕ, ◌+◌, ◌*◌, ◌/◌, length}
+use Rattle.std.specs.Prelude.{List, ◌≡◌, ℕ, ◌+◌, ◌*◌, ◌/◌, length, Ok}
 use Rattle.flow.specs.Plan.{traffic_in, polls_in, from_protected, plan, loops, acquisitions}
 use Rattle.flow.specs.Sequence.{sequence}
 use Rattle.flow.specs.Session.{move_count}
@@ -9,7 +9,6 @@ use Rattle.image.specs.declared.Header.{Header}
 use Rattle.parts.specs.Parts.{lookup_of}
 use Rattle.parts.specs.Sizes.{row_bytes_of, macros_of, rows_of, locks_in, imo_of}
 use Rattle.parts.specs.declared.Geometry.{Geometry}
-use Rattle.parts.specs.declared.Lookup.TheVariants.{Found}
 
 -- the reads and writes of an image's sequence are the plan, its polls the loops, its resets one of each kind for an acquisition
 pub record SequenceCounted (i : Image) (y : Entry) : Type 0 where
@@ -30,5 +29,5 @@ PlanMultiplied =
 -- for every part and M that the table offers, whatever the header and the bytes
 abbrev pub SequenceCounts : Type 0
 SequenceCounts =
-    (part macros : ℕ) (g : Geometry) → lookup_of part macros ≡ Found g → (h : Header) (bytes : List ℕ) (y : Entry)
+    (part macros : ℕ) (g : Geometry) → lookup_of part macros ≡ Ok g → (h : Header) (bytes : List ℕ) (y : Entry)
     → SequenceCounted (image_of g h bytes) y

@@ -85,7 +85,7 @@ pub enum Way {
     Enter(Entry),
 }
 
-// Where an answer leads: on with these counters, or to a report with this number.
+// Where an answer leads: on with these counters, or to a report with this number. Kept: no plainer: no Result, since number 0 is done.
 #[derive(Clone, Copy)]
 pub enum Next {
     Go(Way, Counters),
@@ -160,11 +160,4 @@ pub struct LineEvent {
     pub outcome: TransferOutcome,
     pub filler: Reply,
     pub other: u32,
-}
-
-// A request that the target knows, or none.
-#[derive(Clone, Copy)]
-pub enum Decoded {
-    Known(Request),
-    Unknown,
 }

@@ -1,7 +1,7 @@
 -- What the record at a position does to the content. Assumes nothing.
 use mathlib.Core.Bool.{Bool, true, false, ◌&&◌, cond}
 use mathlib.Core.List.{List, [], ◌∷◌}
-use mathlib.Core.Path.{◌≡◌, refl, sym, ap, ◌∙◌}
+use mathlib.Core.Path.{◌≡◌, refl, ap, ◌∙◌}
 use Prim.Native.Nat.{ℕ, suc, ◌+◌, ◌*◌, ◌≤◌}
 use native.Mathlib.Omega.{arith}
 use borrow.Author.Tests.{eqb-true, eqb-false, leb-true}
@@ -10,12 +10,13 @@ use lib.ListN.{length, get_or, drop, drop_of_length-le}
 use lib.Seq.{drop-cons}
 use Rattle.hex_records.specs.Records.{Record, BadRecord, DataRecord, ExtendedAddress, EndRecord}
 use Rattle.hex_format.specs.Turns.{content_at, data_turn, end_turn, turn_on, turn_of, TurnAt}
-use Rattle.hex_records.specs.Places.{LineAt, LineTo, FoundAt, located_of, located_row}
+use Rattle.hex_records.specs.Places.{LineAt, LineTo, located_of}
 use Rattle.hex_format.specs.Texts.{upper_after, event_of, events}
 use Rattle.hex_records.specs.declared.Located.{Located}
-use Rattle.hex_records.specs.declared.Found.{Found}
-use Rattle.hex_records.specs.declared.Found.TheVariants.{Missing, Refused, Payload, Extended, Ended}
-use Rattle.hex_format.specs.declared.Turn.TheVariants.{Stop, Done, Moved, Store}
+use Rattle.hex_format.specs.declared.Turn.TheVariants.{Done, Store}
+use Rattle.refusals.specs.declared.Refusal.{Refusal as Reason}
+use Rattle.refusals.specs.declared.Refusal.TheVariants.{DataPlace, EndRecord}
+use Rattle.std.specs.Prelude.{Option, Result, Ok, Err}
 use Rattle.sections.specs.declared.Section.{Section}
 use Rattle.pairs.specs.Lines.{Line, lines_of}
 use Rattle.text.specs.Placing.{Event, Data, Refusal, Stream, placing}
@@ -24,18 +25,17 @@ use Rattle.pairs.proofs.Lines.{some-line}
 use Rattle.hex_records.proofs.Bodies.{payload_in, payload-length}
 
 -- what is found leads where the definition says
-pub turned : (s : List ℕ) (at u : ℕ) (due : Section) (row : List ℕ) (l : Located) (row' : List ℕ) → (l ≡ located_of s at row) × (row' ≡ located_row s at row)
-    → (r : Found) → l.found ≡ r → (turn_on due u (length s) l.next r ≡ turn_of s at u due row) × (row' ≡ located_row s at row)
+pub turned : (s : List ℕ) (at u : ℕ) (due : Section) (row : List ℕ) (l : Result (Option Located) Reason) → l ≡ located_of s at row
+    → turn_on due u (length s) l ≡ turn_of s at u due row
 unfolding turn_of
-turned s at u due row l row' is r e =
-    (ap (turn_on due u (length s) l.next) (sym e) ∙ ap (λ (x : Located). turn_on due u (length s) x.next x.found) is.0, is.1)
+turned s at u due row l is = ap (turn_on due u (length s)) is
 
 -- nothing is left
 no_lines : (s : List ℕ) (at : ℕ) → length s ≤ at → lines_of (drop at s) ≡ []
 unfolding lines_of
 no_lines s at h = ap lines_of (drop_of_length-le s {i = at} h)
 
-at-end : (s : List ℕ) (at u : ℕ) (ds : List Section) → length s ≤ at → content_at s at u ds ≡ Refusal 5
+pub at-end : (s : List ℕ) (at u : ℕ) (ds : List Section) → length s ≤ at → content_at s at u ds ≡ Refusal 5
 unfolding events placing
 at-end s at u ds h = rw (no_lines s at h)
 
@@ -80,7 +80,7 @@ module _ (s : List ℕ) (at next u low count : ℕ) (due : Section) (row : List 
   no_place false h ss = rw size (rw h)
 
   by_tests : (a b c : Bool) → leb (low + count) 0x10000 ≡ a → eqb (0x10000 * u + low) due.address ≡ b → leb count due.size ≡ c
-      → TurnAt s at u due (cond (a && (b && c)) (Store count next) (Stop 4)) row
+      → TurnAt s at u due (cond (a && (b && c)) (Ok (Store count next)) (Err DataPlace)) row
   unfolding placing rest
   by_tests true true true p q r =
       (λ ss. fits_line p (due ∷ ss) ∙ rw size (rw (q, r)), l.more, l.inside, some, small, room, leb-true count due.size r)
@@ -114,7 +114,7 @@ module _ (s : List ℕ) (at next u : ℕ) (due : Section) (row : List ℕ) (l : 
   unfolding event_of placing
   early ss = ends (due ∷ ss)
 
-  by_end : (a b : Bool) → eqb due.size 0 ≡ a → eqb next (length s) ≡ b → TurnAt s at u due (cond (a && b) Done (Stop 5)) row
+  by_end : (a b : Bool) → eqb due.size 0 ≡ a → eqb next (length s) ≡ b → TurnAt s at u due (cond (a && b) (Ok Done) (Err EndRecord)) row
   by_end true true p q =
       ((λ ss. ap (λ (t : Bool). content_at s at u (cond t [] (due ∷ ss))) p ∙ last (eqb-true next (length s) q)), eqb-true due.size 0 p)
   by_end true false p q = λ ss. ap (λ (t : Bool). content_at s at u (cond t [] (due ∷ ss))) p ∙ followed (eqb-false next (length s) q)
@@ -123,27 +123,3 @@ module _ (s : List ℕ) (at next u : ℕ) (due : Section) (row : List ℕ) (l : 
   pub end-turn : TurnAt s at u due (end_turn due next (length s)) row
   unfolding end_turn
   end-turn = by_end (eqb due.size 0) (eqb next (length s)) refl refl
-
--- what a record that was found does
-module _ (s : List ℕ) (at next u : ℕ) (due : Section) (r : Found) (row : List ℕ) (h : FoundAt s at next r row) where
-  pub found-missing : r ≡ Missing → (ss : List Section) → content_at s at u (dues due ss) ≡ Refusal 5
-  found-missing e ss = at-end s at u (dues due ss) (rw e at h)
-
-  pub found-refused : (n : ℕ) → r ≡ Refused n → (ss : List Section) → content_at s at u (dues due ss) ≡ Refusal n
-  found-refused n e ss = stopped s at u n (dues due ss) (rw e at h)
-
-  pub found-bounds : (low count : ℕ) → r ≡ Payload low count → (1 ≤ count) × (count ≤ 255) × (4 + count ≤ length row)
-  found-bounds low count e = let x = rw e at h in (x.1, x.2, x.3)
-
-  pub found-payload : (low count : ℕ) → r ≡ Payload low count → TurnAt s at u due (data_turn due u low count next) row
-  found-payload low count e =
-      let b = found-bounds low count e in
-      data-turn s at next u low count due row (rw e at h).0 b.0 b.1 b.2
-
-  pub found-extended : (new : ℕ) → r ≡ Extended new → TurnAt s at u due (Moved next new) row
-  found-extended new e =
-      let l = rw e at h in
-      ((λ ss. moved s at next u new ss l), l.more, l.inside)
-
-  pub found-end : r ≡ Ended → TurnAt s at u due (end_turn due next (length s)) row
-  found-end e = end-turn s at next u due row (rw e at h)

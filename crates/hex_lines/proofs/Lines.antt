@@ -1,9 +1,11 @@
 -- Laws of lines: their lengths, and where they are put. Assumes nothing.
+use mathlib.Core.Bool.{Bool, cond, ◌&&◌}
 use mathlib.Core.List.{List, [], ◌∷◌, ◌++◌}
 use mathlib.Core.Path.{◌≡◌, refl, ◌∙◌}
 use Prim.Native.Nat.{ℕ, ◌+◌, ◌*◌, ◌/◌, ◌%◌, ◌≤◌, ◌<◌}
 use native.Mathlib.Omega.{arith}
 use borrow.Author.Tests.{le-leb, lt-leb}
+use lib.Dec.{leb}
 use lib.ListN.{length, length-append}
 use lib.Seq.{sets}
 use Rattle.hex_format.specs.Written.{sum_byte, line_text, data_line, extended_line, end_line}
@@ -55,11 +57,19 @@ module _ (text : List ℕ) (at low : ℕ) (payload : List ℕ) where
     pub data-room : at + 13 + 2 * length payload ≤ length text → sets text at (data_line low payload) ≡ data_put text at low payload
     data-room h = in-room text at (data_line low payload) (omega (arith, data-length low payload)) ∙ is-put
 
+-- a line, by the test of its room; and a data record, by the test of its bytes
+pub line-by : (text : List ℕ) (at : ℕ) (line : List ℕ) (n : ℕ) (room : Bool) → length line ≡ n → room ≡ leb (at + n) (length text)
+    → line_put text at line ≡ cond room (sets text at line) text
+unfolding line_put
+line-by text at line n room e r = rw (r, e) refl
+
+pub data-by : (text : List ℕ) (at low : ℕ) (payload : List ℕ) (counts : Bool) → counts ≡ (leb (length payload) 255 && leb 1 (length payload))
+    → data_put text at low payload ≡ cond counts (line_put text at (data_line low payload)) text
+unfolding data_put
+data-by text at low payload counts e = rw e refl
+
 -- of a type 4 record, and of the end record
 module _ (text : List ℕ) (at upper : ℕ) where
-  pub upper_short : length text < at + 17 → text ≡ line_put text at (extended_line upper)
-  upper_short h = no_room text at (extended_line upper) (omega (arith, extended-length upper))
-
   pub upper-room : at + 17 ≤ length text → sets text at (extended_line upper) ≡ line_put text at (extended_line upper)
   upper-room h = in-room text at (extended_line upper) (omega (arith, extended-length upper))
 

@@ -1,11 +1,11 @@
 -- Laws of digit pairs that are put. Assumes nothing.
 use mathlib.Core.List.{List, [], ◌∷◌, ◌++◌, append_assoc}
 use mathlib.Core.Path.{◌≡◌, refl, sym, ap, ◌∙◌}
-use Prim.Native.Nat.{ℕ, zero, suc, ◌+◌, ◌-◌, ◌*◌, ◌/◌, ◌%◌, ◌≤◌, ◌<◌}
+use Prim.Native.Nat.{ℕ, zero, suc, ◌+◌, ◌-◌, ◌*◌, ◌/◌, ◌%◌, ◌<◌}
 use native.Mathlib.Omega.{arith}
-use native.Mathlib.Nat.{add-zero}
-use lib.ListN.{length, get_or, set, drop, length-set, drop_of_length-le}
-use lib.Seq.{sets, drop-cons}
+use lib.ListN.{length, get_or, set, take}
+use lib.Seq.{sets}
+use Rattle.std.proofs.lemmas.List.{take_more, length-take-le}
 use Rattle.hex_lines.specs.Lines.{capitals_from}
 use Rattle.hex_format.specs.Written.{sum_byte, line_text}
 use Rattle.lent.specs.Words.{total}
@@ -18,58 +18,6 @@ unfolding capitals_from
 capitals-at zero i k h = absurd (omega arith)
 capitals-at (suc n) i zero h = ap capital (omega arith)
 capitals-at (suc n) i (suc k) h = capitals-at n (i + 1) k (omega arith) ∙ ap capital (omega arith)
-
--- the loop's own: the sum so far, the place in the text and among the bytes
-pub record Cursor : Type 0 where
-  pub sum : ℕ
-  pub q : ℕ
-  pub i : ℕ
-
-abbrev pub cursor : (sum q i : ℕ) → Cursor
-cursor sum q i = record { sum = sum; q = q; i = i }
-
--- how far the loop has come: what is left is still to be put and added
-pub record Putting (text₀ : List ℕ) (at : ℕ) (bytes text : List ℕ) (t : Cursor) : Type 0 where
-  pub within : t.i ≤ length bytes
-  pub room : t.q + 2 * (length bytes - t.i) ≤ length text
-  pub kept : length text ≡ length text₀
-  pub small : t.sum ≤ 255 * t.i
-  pub summed : total bytes ≡ t.sum + total (drop t.i bytes)
-  pub put : sets text₀ at (pairs_of bytes) ≡ sets text t.q (pairs_of (drop t.i bytes))
-
-pub start : (text : List ℕ) (at : ℕ) (bytes : List ℕ) → at + 2 * length bytes ≤ length text → Putting text at bytes text (cursor 0 at 0)
-start text at bytes h = record {
-  within = omega arith;
-  room = omega arith;
-  kept = refl;
-  small = omega arith;
-  summed = omega arith;
-  put = refl;
-}
-
-module _ {text₀ : List ℕ} {at : ℕ} {bytes text : List ℕ} {sum q i : ℕ} (v : Putting text₀ at bytes text (cursor sum q i)) where
-  pub turn : (h l : ℕ) → i < length bytes → get_or bytes i 0 < 256 → h ≡ capital (get_or bytes i 0 / 16) → l ≡ capital (get_or bytes i 0 % 16)
-      → Putting text₀ at bytes (set (set text q h) (q + 1) l) (cursor (sum + get_or bytes i 0) (q + 2) (i + 1))
-  unfolding total pairs_of
-  turn h l some byte eh el =
-      let n : i + 1 ≡ suc i = omega arith in
-      let d : drop i bytes ≡ get_or bytes i 0 ∷ drop (i + 1) bytes = rw n (drop-cons bytes i 0 some) in
-      let p : q + 1 ≡ suc q = omega arith in
-      let p₂ : q + 2 ≡ suc (suc q) = omega arith in
-      record {
-        within = omega arith;
-        room = simp length-set (omega (arith, v.room));
-        kept = simp length-set v.kept;
-        small = omega (arith, v.small);
-        summed = omega (arith, v.summed, ap total d);
-        put = v.put ∙ ap (λ (l : List ℕ). sets text q (pairs_of l)) d ∙ rw (eh, el, p, p₂);
-      }
-
-  pub ended : length bytes ≤ i → (sum ≡ total bytes) × (text ≡ sets text₀ at (pairs_of bytes))
-  unfolding total pairs_of
-  ended h =
-      let d = drop_of_length-le bytes {i = i} h in
-      (sym (v.summed ∙ ap (λ (l : List ℕ). sum + total l) d ∙ add-zero sum), sym (v.put ∙ ap (λ (l : List ℕ). sets text q (pairs_of l)) d))
 
 pub total-append : (a b : List ℕ) → total (a ++ b) ≡ total a + total b
 unfolding total
@@ -85,6 +33,21 @@ pub length_pairs : (a : List ℕ) → length (pairs_of a) ≡ 2 * length a
 unfolding pairs_of
 length_pairs [] = refl
 length_pairs (x ∷ a) = let e = length_pairs a in omega arith
+
+-- a turn of the loop: a byte's pair after the pairs before it
+pub pairs-more : (text₀ text : List ℕ) (at i : ℕ) (bytes : List ℕ) → (h l : ℕ) → i < length bytes → text ≡ sets text₀ at (pairs_of (take i bytes))
+    → h ≡ capital (get_or bytes i 0 / 16) → l ≡ capital (get_or bytes i 0 % 16)
+    → set (set text (at + 2 * i) h) (at + 2 * i + 1) l ≡ sets text₀ at (pairs_of (take (i + 1) bytes))
+unfolding pairs_of
+pairs-more text₀ text at i bytes h l some e eh el =
+    let n : at + length (pairs_of (take i bytes)) ≡ at + 2 * i = omega (arith, length_pairs (take i bytes), length-take-le i bytes (omega arith)) in
+    let m : at + 2 * i + 1 ≡ suc (at + 2 * i) = omega arith in
+    rw (e, eh, el, m) (sym (rw (take_more bytes i 0 some, pairs-append, sets-append, n) refl))
+
+-- and its value in the sum
+pub total-more : (i : ℕ) (bytes : List ℕ) → i < length bytes → total (take (i + 1) bytes) ≡ total (take i bytes) + get_or bytes i 0
+unfolding total
+total-more i bytes some = rw (take_more bytes i 0 some, total-append) (omega arith)
 
 pub sum_is : (head payload : List ℕ) (a b c : ℕ) → a ≡ total head → b ≡ total payload → c ≡ (256 - (a + b) % 256) % 256 → c ≡ sum_byte (head ++ payload)
 sum_is head payload a b c ea eb e = e ∙ rw (total-append, ea, eb)

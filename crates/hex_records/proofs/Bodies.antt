@@ -9,11 +9,13 @@ use lib.Dec.{eqb, leb}
 use lib.ListN.{length, get_or, take, drop, length-drop}
 use lib.Seq.{length-take-le, take-take, get_or-take, get_or-drop}
 use Rattle.hex_records.specs.Records.{Record, BadRecord, DataRecord, ExtendedAddress, EndRecord, high_first, typed, record_of}
-use Rattle.hex_records.specs.Places.{LineAt, LineTo, Spelled, FrameAt, found_of, found_in, FoundAt}
+use Rattle.hex_records.specs.Places.{LineAt, LineTo, Spelled, FrameAt, found_of, found_in, located, FoundAt}
 use Rattle.hex_records.specs.declared.Found.{Found}
-use Rattle.hex_records.specs.declared.Found.TheVariants.{Refused, Payload, Extended, Ended}
+use Rattle.hex_records.specs.declared.Found.TheVariants.{Payload, Extended, Ended}
 use Rattle.hex_records.specs.declared.Frame.{Frame}
-use Rattle.hex_records.specs.declared.Frame.TheVariants.{Broken, Framed}
+use Rattle.refusals.specs.declared.Refusal.{Refusal}
+use Rattle.refusals.specs.declared.Refusal.TheVariants.{RecordType}
+use Rattle.std.specs.Prelude.{Option, Some, None, Result, Ok, Err}
 use Rattle.lent.specs.Words.{total}
 
 -- the low half of a record's address, and its payload
@@ -80,9 +82,10 @@ module _ (s : List ℕ) (at next : ℕ) (row : List ℕ) (kind low count upper :
         (cond a (cond b (DataRecord low (payload_in row count)) (BadRecord 3))
         (cond c (cond (d && e) (ExtendedAddress (high_first (payload_in row count))) (BadRecord 3))
         (cond f (cond (g && e) EndRecord (BadRecord 3)) (BadRecord 3))))
-        → FoundAt s at next
-        (cond a (cond b (Payload low count) (Refused 3))
-        (cond c (cond (d && e) (Extended upper) (Refused 3)) (cond f (cond (g && e) Ended (Refused 3)) (Refused 3)))) row
+        → FoundAt s at
+        (located
+        (cond a (cond b (Ok (Payload low count)) (Err RecordType))
+        (cond c (cond (d && e) (Ok (Extended upper)) (Err RecordType)) (cond f (cond (g && e) (Ok Ended) (Err RecordType)) (Err RecordType)))) next) row
     by-type true true c d e f g p q l = (l, leb-true 1 count p, small, room)
     by-type true false c d e f g p q l = line_at s at next (BadRecord 3) l
     by-type false b true true true f g p q l =
@@ -96,25 +99,25 @@ module _ (s : List ℕ) (at next : ℕ) (row : List ℕ) (kind low count upper :
     by-type false b false d e true false p q l = line_at s at next (BadRecord 3) l
     by-type false b false d e false g p q l = line_at s at next (BadRecord 3) l
 
-    pub found_at : LineTo s at next (typed kind low (payload_in row count)) → FoundAt s at next (found_of kind low count upper) row
+    pub found_at : LineTo s at next (typed kind low (payload_in row count)) → FoundAt s at (located (found_of kind low count upper) next) row
     unfolding typed found_of
     found_at l =
         by-type (eqb kind 0) (leb 1 count) (eqb kind 4) (eqb count 2) (eqb low 0) (eqb kind 1) (eqb count 0) refl refl (rw (payload-length row count room) at l)
 
 -- what a frame says of the line
-module _ (s : List ℕ) (at : ℕ) (f : Frame) (row : List ℕ) (h : FrameAt s at f row) where
-  pub frame-broken : f ≡ Broken → LineAt s at (BadRecord 1)
+module _ (s : List ℕ) (at : ℕ) (f : Option Frame) (row : List ℕ) (h : FrameAt s at f row) where
+  pub frame-broken : f ≡ None → LineAt s at (BadRecord 1)
   frame-broken e = rw e at h
 
-  module _ (n sum next : ℕ) (e : f ≡ Framed n sum next) (wide : length row ≡ 260) where
-    line : LineTo s at next (record_of (take (n + 5) row)) × Spelled row n sum
+  module _ (fr : Frame) (e : f ≡ Some fr) (wide : length row ≡ 260) where
+    line : LineTo s at fr.next (record_of (take (fr.count + 5) row)) × Spelled row fr.count fr.sum
     line = rw e at h
 
-    pub frame-sum : (sum % 256 ≡ 0 → ⊥) → LineAt s at (BadRecord 2)
-    frame-sum i = line_at s at next (BadRecord 2) (rw (bad_sum row n sum wide line.1 i) at line.0)
+    pub frame-sum : (fr.sum % 256 ≡ 0 → ⊥) → LineAt s at (BadRecord 2)
+    frame-sum i = line_at s at fr.next (BadRecord 2) (rw (bad_sum row fr.count fr.sum wide line.1 i) at line.0)
 
-    pub frame_found : (r : Found) → r ≡ found_in row n → sum % 256 ≡ 0 → FoundAt s at next r row
+    pub frame_found : (r : Result Found Refusal) → r ≡ found_in row fr.count → fr.sum % 256 ≡ 0 → FoundAt s at (located r fr.next) row
     frame_found r er i =
         rw er
-        (found_at s at next row (get_or row 3 0) (low_in row) n (256 * get_or row 4 0 + get_or row 5 0) line.1.small
-        (omega (arith, line.1.small)) refl (rw (right-sum row n sum wide line.1 i) at line.0))
+        (found_at s at fr.next row (get_or row 3 0) (low_in row) fr.count (256 * get_or row 4 0 + get_or row 5 0) line.1.small
+        (omega (arith, line.1.small)) refl (rw (right-sum row fr.count fr.sum wide line.1 i) at line.0))

@@ -14,12 +14,10 @@ use Rattle.hex_records.specs.Places.{LineAt, LineTo, Spelled}
 use Rattle.lent.specs.Words.{total}
 use Rattle.pairs.specs.Digits.{Spelt, Unreadable, Spells, spelt}
 use Rattle.pairs.specs.Lines.{Line, Ended, Open, lines_of, without_cr}
-use Rattle.pairs.specs.Spelling.{front, pairs_at, has_pairs, pair_run_of, row_after, line_end}
-use Rattle.pairs.specs.declared.PairRun.{PairRun}
+use Rattle.pairs.specs.Spelling.{PairRun, front, pairs_at, has_pairs, run_of, pair_run_of, row_after, line_end}
 use Rattle.pairs.proofs.Ends.{has_room}
 use Rattle.pairs.proofs.Lines.{begins, some-line, bare, spelt-length, spelt-front, lines_cut, digits-no-lf, no-lf-append, digits-bare, cr-bare, AllPairs, run-all}
 use Rattle.pairs.proofs.Positions.{head_at, tail_at, drop_more, drop_at, lf-at, cr-at, ended, first-same, first_one, row-front, row_first, Good, good-run}
-use Rattle.pairs.proofs.Spelling.{ran}
 
 -- what the code tests, of a line that the grammar takes
 record Passes (s : List ℕ) (at n : ℕ) : Type 0 where
@@ -210,7 +208,7 @@ module _ (s : List ℕ) (at n : ℕ) (row row' row'' : List ℕ) (wide : length 
   bytes : List ℕ
   bytes = front (pairs_at s (at + 1) (n + 5))
 
-  spelled : (pair_run_of s (at + 1) (n + 5) (length row') ≡ ran s (at + 1) (n + 5)) × (row'' ≡ sets row' 0 bytes)
+  spelled : (pair_run_of s (at + 1) (n + 5) (length row') ≡ run_of s (at + 1) (n + 5)) × (row'' ≡ sets row' 0 bytes)
   unfolding bytes
   spelled = let r = has_room row' s (at + 1) (n + 5) b.few b.roomy b.within in (r.0, f ∙ r.1)
 

@@ -1,4 +1,3 @@
-pub mod Types
 pub mod Finding
 pub mod Frames
 pub mod Bodies

@@ -4,135 +4,89 @@
 ghost use Rattle.std.specs.Prelude.{◌≡◌, ◌<◌, length};
 ghost use Rattle.hex_records.specs.Places.{FrameAt, frame_of, frame_row, found_in, located_of, located_row, FoundAt};
 
-// The frame of a line: it is broken, or has so many payload bytes, a sum, and a place where the next line begins.
+use refusals::Refusal;
+
+// The frame of a line: so many payload bytes, the sum of all its bytes, and where the next line begins.
 #[derive(Clone, Copy)]
-enum Frame {
-    Broken,
-    Framed { count: usize, sum: u32, next: usize },
+struct Frame {
+    count: usize,
+    sum: u32,
+    next: usize,
 }
 
-// What is found at a position: no line, or the line's record, or 1, 2 or 3; its payload is in the row, from index 4 on.
+// A line's record; its payload is in the row, from index 4 on.
 #[derive(Clone, Copy)]
 pub enum Found {
-    Missing,
-    Refused(u8),
     Payload { low: u16, count: usize },
     // The extended linear address: the upper half of the addresses that follow.
     Extended { upper: u16 },
     Ended,
 }
 
-// A record and where the next line begins: 0 where there is no record, for want of a line or by 1 or 2.
+// A record and where the next line begins.
 #[derive(Clone, Copy)]
 pub struct Located {
     pub found: Found,
     pub next: usize,
 }
 
-// The frame of the line at a position; its bytes are left in the row.
-fn frame_at(text: &[u8], at: usize, row: &mut [u8]) -> Frame
-    requires { (at < length text.now) × (length row.old ≡ 260) }
-    ensures frame_at { FrameAt text.now at result row.new }
+// The frame of the line at a position, if it has the form of one; its bytes are left in the row.
+fn frame_at(text: &[u8], at: usize, row: &mut [u8; 260]) -> Option<Frame>
+    requires { at < length text.now }
+    ensures frame { FrameAt text.now at result row.new }
     ensures value { result ≡ frame_of text.now at row.old }
-    ensures row_after { row.new ≡ frame_row text.now at row.old }
+    ensures row { row.new ≡ frame_row text.now at row.old }
 {
-    if text[at] != 58 {
-        return Frame::Broken;
+    if text[at] != b':' {
+        return None;
     }
-    let first = pairs::spell(row, text, at + 1, 1);
-    let counted = first.good;
-    if !counted {
-        return Frame::Broken;
-    }
-    let count = row[0] as usize;
-    let run = pairs::spell(row, text, at + 1, count + 5);
-    let good = run.good;
-    if !good {
-        return Frame::Broken;
-    }
+    pairs::spell(row, text, at + 1, 1)?;
+    let count = usize::from(row[0]);
+    let sum = pairs::spell(row, text, at + 1, count + 5)?;
     let end = at + 11 + 2 * count;
     let width = pairs::line_end(text, end);
     if width == 0 {
-        return Frame::Broken;
+        return None;
     }
-    let sum = run.sum;
-    Frame::Framed {
+    Some(Frame {
         count,
         sum,
         next: end + width,
-    }
-}
-
-fn wide(b: u8) -> u16
-    ensures { (result ≡ b) × (result < 256) }
-{
-    b as u16
+    })
 }
 
 // The record of a line of right form and sum, by its type.
-fn typed_in(row: &[u8], count: usize) -> Found
-    requires { length row.now ≡ 260 }
+#[tactic(auto, unfolding(crate::specs::Places::found_of))]
+fn typed_in(row: &[u8; 260], count: usize) -> Result<Found, Refusal>
     ensures { result ≡ found_in row.now count }
 {
-    let kind = row[3];
-    let low = 256 * wide(row[1]) + wide(row[2]);
-    match kind {
-        0 => {
-            if 1 <= count {
-                Found::Payload { low, count }
-            } else {
-                Found::Refused(3)
-            }
-        }
-        1 => {
-            if count == 0 {
-                if low == 0 {
-                    return Found::Ended;
-                }
-            }
-            Found::Refused(3)
-        }
-        4 => {
-            if count == 2 {
-                if low == 0 {
-                    return Found::Extended {
-                        upper: 256 * wide(row[4]) + wide(row[5]),
-                    };
-                }
-            }
-            Found::Refused(3)
-        }
-        2 | 3 | 5..=255 => Found::Refused(3),
+    let low = u16::from_be_bytes([row[1], row[2]]);
+    match row[3] {
+        0 if 1 <= count => Ok(Found::Payload { low, count }),
+        1 if count == 0 && low == 0 => Ok(Found::Ended),
+        4 if count == 2 && low == 0 => Ok(Found::Extended {
+            upper: u16::from_be_bytes([row[4], row[5]]),
+        }),
+        0..=255 => Err(Refusal::RecordType),
     }
 }
 
-// The record of the line at a position.
-pub fn record_at(text: &[u8], at: usize, row: &mut [u8; 260]) -> Located
-    ensures record { FoundAt text.now at result.next result.found row.new }
+// The record of the line at a position, if there is a line.
+pub fn record_at(text: &[u8], at: usize, row: &mut [u8; 260]) -> Result<Option<Located>, Refusal>
+    ensures record { FoundAt text.now at result row.new }
     ensures located { result ≡ located_of text.now at row.old }
     ensures row { row.new ≡ located_row text.now at row.old }
 {
     if text.len() <= at {
-        return Located {
-            found: Found::Missing,
-            next: 0,
-        };
+        return Ok(None);
     }
-    let frame = frame_at(text, at, row);
-    match frame {
-        Frame::Broken => Located {
-            found: Found::Refused(1),
-            next: 0,
-        },
-        Frame::Framed { count, sum, next } => {
-            if sum % 256 != 0 {
-                return Located {
-                    found: Found::Refused(2),
-                    next: 0,
-                };
-            }
-            let found = typed_in(row, count);
-            Located { found, next }
-        }
+    let frame = frame_at(text, at, row).ok_or(Refusal::LineForm)?;
+    if frame.sum % 256 != 0 {
+        return Err(Refusal::RecordSum);
     }
+    let found = typed_in(row, frame.count)?;
+    Ok(Some(Located {
+        found,
+        next: frame.next,
+    }))
 }

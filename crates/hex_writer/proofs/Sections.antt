@@ -1,10 +1,11 @@
 -- Laws of the pieces of a section, and of the sections. Assumes nothing.
 use mathlib.Core.List.{List, [], ◌++◌}
-use mathlib.Core.Path.{◌≡◌, sym, ap, ◌∙◌}
+use mathlib.Core.Path.{◌≡◌, refl, sym, ap, ◌∙◌}
 use Prim.Native.Nat.{ℕ, min, zero, suc, ◌+◌, ◌-◌, ◌*◌, ◌/◌, ◌≤◌, ◌<◌}
 use native.Mathlib.Omega.{arith}
-use lib.ListN.{length, take, drop, length-drop, length-take}
-use lib.Seq.{sets, drop-drop}
+use lib.ListN.{length, take, drop, length-append, length-drop, length-take}
+use lib.Seq.{sets, drop_at}
+use Rattle.std.proofs.lemmas.List.{take_at}
 use Rattle.hex_format.specs.Written.{lines_from}
 use Rattle.hex_writer.specs.Lines.{one_piece, position_after}
 use Rattle.text.specs.Sized.{Laid, pieces_of}
@@ -34,62 +35,60 @@ pub cut-none : (n a : ℕ) (bs : List ℕ) → n ≡ 0 → cut n a bs ≡ []
 unfolding cut
 cut-none n a bs e = rw e
 
--- the loop's own: where it writes, the next piece's address and first byte, the pieces left
+-- where the loop over a section's pieces writes, the next piece's address, and the bytes that are left
 pub record Cursor : Type 0 where
   pub w : Position
   pub a : ℕ
-  pub from : ℕ
-  pub left : ℕ
+  pub rest : List ℕ
 
-abbrev pub cursor : Position → (a from left : ℕ) → Cursor
-cursor w a from left = record { w = w; a = a; from = from; left = left }
+abbrev pub cursor : Position → (a : ℕ) (rest : List ℕ) → Cursor
+cursor w a rest = record { w = w; a = a; rest = rest }
+
+-- how many pieces bytes have
+abbrev pub count : List ℕ → ℕ
+count bytes = (length bytes + 63) / 64
 
 -- how far the loop over a section's pieces has come
 pub record Piecing (text₀ : List ℕ) (w₀ : Position) (address : ℕ) (bytes text : List ℕ) (t : Cursor) : Type 0 where
-  pub going : lines.Going text₀ w₀ (cut ((length bytes + 63) / 64) address bytes) text t.w (cut t.left t.a (drop t.from bytes))
-  pub within : t.from ≤ length bytes
-  pub count : t.left ≡ (length bytes - t.from + 63) / 64
-  pub high : t.a + 64 * t.left < 0x100000000
+  pub going : lines.Going text₀ w₀ (cut (count bytes) address bytes) text t.w (cut (count t.rest) t.a t.rest)
+  pub high : t.a + 64 * count t.rest < 0x100000000
 
-pub start : (text : List ℕ) (w : Position) (address : ℕ) (bytes : List ℕ)
-    → address + length bytes + 64 ≤ 0x100000000
-    → (position_after w (cut ((length bytes + 63) / 64) address bytes)).at ≤ length text
-    → Piecing text w address bytes text (cursor w address 0 ((length bytes + 63) / 64))
-start text w address bytes h r = record { going = lines.start text w _ r; within = omega arith; count = omega arith; high = omega arith }
+pub start : (text : List ℕ) (w : Position) (address : ℕ) (bytes : List ℕ) → address + length bytes + 64 ≤ 0x100000000
+    → (position_after w (cut (count bytes) address bytes)).at ≤ length text → Piecing text w address bytes text (cursor w address bytes)
+start text w address bytes h r = record { going = lines.start text w _ r; high = omega arith }
 
-module _ {text₀ : List ℕ} {w₀ : Position} {address : ℕ} {bytes text : List ℕ} {w : Position} {a from left : ℕ} (v : Piecing text₀ w₀ address bytes text (cursor w a from left)) where
-  module _ (some : 0 < left) (end : ℕ) (is : end ≡ min (from + 64) (length bytes)) where
-    part : take (end - from) (drop from bytes) ≡ take 64 (drop from bytes)
-    part =
-        let e : end - from ≡ min 64 (length (drop from bytes)) = omega (arith, length-drop from bytes, v.within) in
-        rw e (take_min 64 (drop from bytes))
+module _ {text₀ : List ℕ} {w₀ : Position} {address : ℕ} {bytes text : List ℕ} {w : Position} {a : ℕ} {rest : List ℕ} (v : Piecing text₀ w₀ address bytes text (cursor w a rest)) where
+  -- a piece comes off the bytes that are left
+  module _ (piece after : List ℕ) (parts : rest ≡ piece ++ after) (size : length piece ≡ min 64 (length rest)) (some : 0 < length rest) where
+    sum : length rest ≡ length piece + length after
+    sum = ap length parts ∙ length-append piece after
 
-    rest : drop end bytes ≡ drop 64 (drop from bytes)
-    rest =
-        let e : from + min 64 (length (drop from bytes)) ≡ end = omega (arith, length-drop from bytes, v.within) in
-        ap (λ (n : ℕ). drop n bytes) (sym e) ∙ sym (drop-drop (min 64 (length (drop from bytes))) from bytes) ∙ drop_min 64 (drop from bytes)
+    first : take 64 rest ≡ piece
+    first = sym (take_min 64 rest) ∙ ap (λ (n : ℕ). take n rest) (sym size) ∙ ap (take (length piece)) parts ∙ take_at piece after (length piece) refl
 
-    splits : cut left a (drop from bytes) ≡ one_piece a (take (end - from) (drop from bytes)) ++ cut (left - 1) (a + 64) (drop end bytes)
-    splits = rw (part, rest) (cut-turn left a (drop from bytes) some)
+    others : drop 64 rest ≡ after
+    others = sym (drop_min 64 rest) ∙ ap (λ (n : ℕ). drop n rest) (sym size) ∙ ap (drop (length piece)) parts ∙ drop_at piece after (length piece) refl
 
-    pub piece-fits : (length (take (end - from) (drop from bytes)) ≤ 64) × (1 ≤ length (take (end - from) (drop from bytes))) × ((position_after w (one_piece a (take (end - from) (drop from bytes)))).at ≤ length text)
-    piece-fits =
-        let n = length-take 64 (drop from bytes) in
-        (rw part (omega (arith, n)), rw part (omega (arith, n, length-drop from bytes, v.count, some)), lines.fits v.going _ _ splits)
+    fewer : count rest - 1 ≡ count after
+    fewer = omega (arith, sum, size)
 
-    pub turn : (text' : List ℕ) (w' : Position)
-        → w' ≡ position_after w (one_piece a (take (end - from) (drop from bytes)))
-        → text' ≡ sets text w.at (lines_from w.upper (one_piece a (take (end - from) (drop from bytes))))
-        → Piecing text₀ w₀ address bytes text' (cursor w' (a + 64) end (left - 1))
-    turn text' w' ew et = record {
-      going = lines.turn v.going _ _ splits text' w' ew et;
-      within = omega arith;
-      count = omega (arith, v.count, v.within);
-      high = omega (arith, v.high);
-    }
+    splits : cut (count rest) a rest ≡ one_piece a piece ++ cut (count after) (a + 64) after
+    splits =
+        cut-turn (count rest) a rest (omega arith)
+        ∙ ap (λ (l : List ℕ). one_piece a l ++ cut (count rest - 1) (a + 64) (drop 64 rest)) first
+        ∙ ap (λ (l : List ℕ). one_piece a piece ++ cut (count rest - 1) (a + 64) l) others
+        ∙ ap (λ (n : ℕ). one_piece a piece ++ cut n (a + 64) after) fewer
 
-  pub ended : left ≡ 0 → (w ≡ position_after w₀ (cut ((length bytes + 63) / 64) address bytes)) × (text ≡ sets text₀ w₀.at (lines_from w₀.upper (cut ((length bytes + 63) / 64) address bytes)))
-  ended e = lines.ended v.going (cut-none left a (drop from bytes) e)
+    pub piece-fits : (length piece ≤ 64) × (1 ≤ length piece) × ((position_after w (one_piece a piece)).at ≤ length text)
+    piece-fits = (omega arith, omega arith, lines.fits v.going _ _ splits)
+
+    pub turn : (text' : List ℕ) (w' : Position) → w' ≡ position_after w (one_piece a piece) → text' ≡ sets text w.at (lines_from w.upper (one_piece a piece))
+        → Piecing text₀ w₀ address bytes text' (cursor w' (a + 64) after)
+    turn text' w' ew et = record { going = lines.turn v.going _ _ splits text' w' ew et; high = omega (arith, v.high, fewer) }
+
+  pub ended : length rest ≡ 0
+      → (w ≡ position_after w₀ (cut (count bytes) address bytes)) × (text ≡ sets text₀ w₀.at (lines_from w₀.upper (cut (count bytes) address bytes)))
+  ended e = lines.ended v.going (cut-none (count rest) a rest (omega arith))
 
 -- a section's bytes, lent out of those of its location
 module _ (part : List ℕ) (s : Section) (laid : Laid part s) where

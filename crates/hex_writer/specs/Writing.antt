@@ -2,8 +2,7 @@
 use Rattle.std.specs.Prelude.{List, ℕ}
 use Rattle.hex_format.specs.HexFormat.{intel_hex}
 use Rattle.image.specs.declared.Header.{Header}
-use Rattle.text.specs.Writing.{Writing, writing_in, write_in, text_after_in}
-use Rattle.text.specs.declared.WriteAnswer.{WriteAnswer}
+use Rattle.text.specs.Writing.{WriteAnswer, Writing, writing_in, write_in, text_after_in}
 
 -- an image's header and bytes, written into a buffer of `room` bytes
 abbrev pub writing : Header → (bytes : List ℕ) (room : ℕ) → Writing

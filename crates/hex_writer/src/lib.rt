@@ -7,16 +7,15 @@ ghost use Rattle.hex_format.specs.Written.{new_upper, lines_from, text_of, text_
 ghost use Rattle.hex_writer.specs.Lines.{one_piece, position_after};
 ghost use Rattle.hex_writer.specs.Writing.{write_of, text_after};
 ghost use Rattle.sections.specs.Sections.{sections_of, header_sections, location_bytes, section_bytes};
-ghost use Rattle.parts.specs.Parts.{lookup_of};
 ghost use Rattle.parts.specs.Sizes.{flash_size};
-ghost use Rattle.parts.specs.declared.Lookup.TheVariants.{Found};
+ghost use Rattle.text.specs.Writing.{write_answer};
 ghost use Rattle.text.specs.Placing.{cut, pieces};
 ghost use Rattle.text.specs.Sized.{TableSizes, Sized, Laid, pieces_of};
 
 use image::Header;
-use parts::{Geometry, Lookup};
+use parts::Geometry;
+use refusals::Refusal;
 use sections::{Location, Section};
-use text::WriteAnswer;
 
 // How far the text has come: the next place, and the upper half of the last address.
 #[derive(Clone, Copy)]
@@ -31,12 +30,11 @@ fn put_upper(text: &mut [u8], position: Position, upper: u32) -> usize
     ensures value { result ≡ position.at + length (new_upper position.upper upper) }
     ensures text_after { text.new ≡ sets text.old position.at (new_upper position.upper upper) }
 {
-    let at = position.at;
     if upper == position.upper {
-        return at;
+        return position.at;
     }
-    hex_lines::put_extended(text, at, upper as u16);
-    at + 17
+    hex_lines::put_extended(text, position.at, upper as u16);
+    position.at + 17
 }
 
 // Puts the lines of one piece.
@@ -62,14 +60,9 @@ fn put_section(text: &mut [u8], position: Position, address: u32, bytes: &[u8]) 
 {
     let mut w = position;
     let mut a = address;
-    let mut from: usize = 0;
-    let mut left = (bytes.len() + 63) / 64;
-    while 0 < left {
-        let end = text::piece_end(from, bytes.len());
-        w = put_piece(text, w, a, &bytes[from..end]);
+    for piece in bytes.chunks(64) {
+        w = put_piece(text, w, a, piece);
         a += 64;
-        from = end;
-        left -= 1;
     }
     w
 }
@@ -81,10 +74,12 @@ fn put_part(text: &mut [u8], position: Position, s: Section, part: &[u8]) -> Pos
     ensures value { result ≡ position_after position (pieces_of part.now s) }
     ensures text_after { text.new ≡ sets text.old position.at (lines_from position.upper (pieces_of part.now s)) }
 {
-    let address = s.address;
-    let from = s.offset;
-    let end = from + s.size;
-    put_section(text, position, address, &part[from..end])
+    put_section(
+        text,
+        position,
+        s.address,
+        &part[s.offset..s.offset + s.size],
+    )
 }
 
 // Puts the lines of a section that lies in the flash, in the image's part after the flash, or in the header's bytes.
@@ -102,8 +97,7 @@ fn put_located(
     ensures text_after { text.new ≡ sets text.old position.at (lines_from position.upper (pieces_of (location_bytes g bytes.now (header_sections h) s.location) s)) }
 {
     let flash = parts::flash_size(g);
-    let location = s.location;
-    match location {
+    match s.location {
         Location::InFlash => put_part(text, position, s, &bytes[..flash]),
         Location::InProtection => put_part(text, position, s, &bytes[flash..]),
         Location::InHeader => {
@@ -114,6 +108,7 @@ fn put_located(
 }
 
 // Puts the lines of all sections.
+// Kept: no plainer: g, h and bytes stand one by one in every definition that these contracts cite, so a struct of them would be taken apart there.
 fn put_sections(
     text: &mut [u8],
     position: Position,
@@ -127,11 +122,8 @@ fn put_sections(
     ensures text_after { text.new ≡ sets text.old position.at (lines_from position.upper (pieces (section_bytes g h bytes.now) (sections_of g))) }
 {
     let mut w = position;
-    let mut k: usize = 0;
-    while k < 5 {
-        let s = sections::section_at(g, k);
-        w = put_located(text, w, s, g, h, bytes);
-        k += 1;
+    for k in 0..5 {
+        w = put_located(text, w, sections::section_at(g, k), g, h, bytes);
     }
     w
 }
@@ -150,11 +142,8 @@ fn text_length(g: Geometry) -> usize
     ensures { result ≡ text_length g }
 {
     let mut sum: usize = 13;
-    let mut k: usize = 0;
-    while k < 5 {
-        let s = sections::section_at(g, k);
-        sum += lines_length(s.size);
-        k += 1;
+    for k in 0..5 {
+        sum += lines_length(sections::section_at(g, k).size);
     }
     sum
 }
@@ -167,49 +156,24 @@ fn put_text(text: &mut [u8], g: Geometry, h: Header, bytes: &[u8])
 {
     hex_lines::put_extended(text, 0, 0);
     let w = put_sections(text, Position { at: 17, upper: 0 }, g, h, bytes);
-    let at = w.at;
-    hex_lines::put_end(text, at);
+    hex_lines::put_end(text, w.at);
 }
 
-// A refusal: its number, and the length 0.
-fn refusal(number: u8) -> WriteAnswer
-    ensures { result ≡ record { number = number; length = 0 } }
-{
-    WriteAnswer { number, length: 0 }
-}
-
-// Writes the text of an image of a geometry; the checks after the look-up.
-fn write_found(text: &mut [u8], g: Geometry, h: Header, bytes: &[u8]) -> WriteAnswer
-    requires { lookup_of h.part h.macros ≡ Found g }
-    ensures value { result ≡ write_of h bytes.now text.old }
-    ensures text_after { text.new ≡ text_after h bytes.now text.old }
-{
-    if bytes.len() != parts::image_size(g) {
-        return refusal(12);
-    }
-    let n = text_length(g);
-    if text.len() < n {
-        return refusal(12);
-    }
-    let fault = image::check(h, bytes);
-    if fault != 0 {
-        return refusal(fault);
-    }
-    put_text(text, g, h, bytes);
-    WriteAnswer {
-        number: 0,
-        length: n,
-    }
-}
-
-// Writes an image's text into the buffer: 0 and the text's length, or a refusal and the buffer as it was.
-pub fn write(header: Header, bytes: &[u8], text: &mut [u8]) -> WriteAnswer
-    ensures answer { result ≡ write_of header bytes.now text.old }
+// Writes an image's text into the buffer: the text's length, or a refusal and the buffer as it was.
+pub fn write(header: Header, bytes: &[u8], text: &mut [u8]) -> Result<usize, Refusal>
+    ensures answer { write_answer result ≡ write_of header bytes.now text.old }
     ensures text { text.new ≡ text_after header bytes.now text.old }
 {
     let found = parts::find(header.part, header.macros);
-    match found {
-        Lookup::Refused(n) => refusal(n),
-        Lookup::Found(g) => write_found(text, g, header, bytes),
+    let g = found?;
+    if bytes.len() != parts::image_size(g) {
+        return Err(Refusal::Size);
     }
+    let n = text_length(g);
+    if text.len() < n {
+        return Err(Refusal::Size);
+    }
+    image::check(header, bytes)?;
+    put_text(text, g, header, bytes);
+    Ok(n)
 }

@@ -8,10 +8,9 @@ use lib.Dec.{eqb}
 use Rattle.image.specs.Checks.{level_fits, fault_in, image_fault}
 use Rattle.image.specs.declared.Header.{Header}
 use Rattle.parts.specs.Levels.{level_of}
-use Rattle.parts.specs.Parts.{lookup_of}
+use Rattle.parts.specs.Parts.{Lookup, lookup_of}
 use Rattle.parts.specs.declared.Level.{Level}
 use Rattle.parts.specs.declared.Level.TheVariants.{Virgin, Open, Protected, Kill, Unknown}
-use Rattle.parts.specs.declared.Lookup.{Lookup}
 
 -- the levels that an image may ask for, by case
 abbrev pub may_ask : Level → Bool

@@ -10,11 +10,10 @@ use lib.ListN.{length}
 use Rattle.image.specs.Checks.{version_fits, image_id_fits, level_fits, sum_fits, fault_in, image_fault}
 use Rattle.image.specs.Refusals.{Check, ◌unless◌, first_refusal}
 use Rattle.image.specs.declared.Header.{Header}
-use Rattle.parts.specs.Parts.{lookup_of}
+use Rattle.parts.specs.Parts.{Lookup, lookup_of}
 use Rattle.parts.specs.Sizes.{image_size}
+use Rattle.std.specs.Prelude.{Ok}
 use Rattle.parts.specs.declared.Geometry.{Geometry}
-use Rattle.parts.specs.declared.Lookup.{Lookup}
-use Rattle.parts.specs.declared.Lookup.TheVariants.{Found}
 
 pub passed : (n : ℕ) (cs : List Check) {b : Bool} → b ≡ true → first_refusal (n unless b ∷ cs) ≡ first_refusal cs
 unfolding first_refusal
@@ -42,7 +41,7 @@ pub record Passed (g : Geometry) (h : Header) (bytes : List ℕ) : Type 0 where
   pub level : level_fits h.level ≡ true
   pub sum : sum_fits g h bytes ≡ true
 
-pub all-passed : (g : Geometry) (h : Header) (bytes : List ℕ) → lookup_of h.part h.macros ≡ Found g → image_fault h bytes ≡ 0 → Passed g h bytes
+pub all-passed : (g : Geometry) (h : Header) (bytes : List ℕ) → lookup_of h.part h.macros ≡ Ok g → image_fault h bytes ≡ 0 → Passed g h bytes
 all-passed g h bytes found none =
     let t₀ = passes 12 (eqb (length bytes) (image_size g)) _ (lit≤ tt) (ap (λ (x : Lookup). fault_in x h bytes) (sym found) ∙ none) in
     let t₁ = passes 6 (version_fits h) _ (lit≤ tt) t₀.1 in

@@ -1,14 +1,13 @@
 -- Checks 6 to 10 of an image, after 11 and 12: document 01, 'Who brings a number about'. Assumes nothing.
-use Rattle.std.specs.Prelude.{Bool, ◌||◌, not, List, [], ◌∷◌, ℕ, ◌+◌, ◌*◌, ◌%◌, eqb, length, get_or}
+use Rattle.std.specs.Prelude.{Bool, ◌||◌, not, List, [], ◌∷◌, ℕ, ◌+◌, ◌*◌, ◌%◌, eqb, length, get_or, Ok, Err}
 use Rattle.image.specs.Image.{flash_in}
 use Rattle.image.specs.Refusals.{Check, ◌unless◌, first_refusal}
 use Rattle.image.specs.declared.Header.{Header}
 use Rattle.lent.specs.Words.{total}
-use Rattle.parts.specs.Parts.{lookup_of, id_fits}
+use Rattle.parts.specs.Parts.{Lookup, lookup_of, id_fits}
 use Rattle.parts.specs.Sizes.{row_bytes_of, rows_of, image_size}
 use Rattle.parts.specs.declared.Geometry.{Geometry}
-use Rattle.parts.specs.declared.Lookup.{Lookup}
-use Rattle.parts.specs.declared.Lookup.TheVariants.{Found, Refused}
+use Rattle.refusals.specs.Refusals.{refusal_number}
 use Rattle.rows.specs.Cancels.{some_cancels}
 
 -- 'Metadata: version 2 (high byte first), ID hi, lo, revision, family, six bytes kept unread.'
@@ -43,8 +42,8 @@ content_checks g h bytes =
 
 -- 'Writing and starting check 11, 12, 6 to 10'; 12 is 'an image lent for reading not of exact size'
 abbrev pub fault_in : Lookup → Header → List ℕ → ℕ
-fault_in (Refused n) h bytes = n
-fault_in (Found g) h bytes = first_refusal (12 unless eqb (length bytes) (image_size g) ∷ content_checks g h bytes)
+fault_in (Err r) h bytes = refusal_number r
+fault_in (Ok g) h bytes = first_refusal (12 unless eqb (length bytes) (image_size g) ∷ content_checks g h bytes)
 
 abbrev pub image_fault : Header → List ℕ → ℕ
 image_fault h bytes = fault_in (lookup_of h.part h.macros) h bytes

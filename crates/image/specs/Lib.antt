@@ -1,3 +1,4 @@
 pub mod Image
 pub mod Refusals
 pub mod Checks
+pub mod Handed

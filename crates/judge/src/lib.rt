@@ -4,74 +4,65 @@
 ghost use Rattle.std.specs.Prelude.{cond, ◌≡◌, suc, ltb};
 ghost use Rattle.flow.specs.Packets.{is_attempt, is_read, heard, reply_in};
 ghost use Rattle.flow.specs.Session.{try_again, wait_again, settled, heard_by, next_of};
-ghost use Rattle.image.specs.Image.{image_of};
+ghost use Rattle.image.specs.Handed.{handed};
 ghost use Rattle.wire.specs.Wire.{ack_of};
 
+use failures::Failure;
 use flow::{Answer, Counters, Move, Next, Reply, Request, Way};
-use image::Header;
-use parts::Geometry;
+use image::Image;
 use purposes::on_word;
 use wire::Ack;
 
 // Another attempt, at most thirty.
+// Kept: no plainer: this and `wait_again` differ in the counter, the limit, the way and the failure.
 fn try_again(c: Counters) -> Next
     ensures { result ≡ try_again (ltb (suc c.attempts) 30) c }
 {
     if c.attempts < 29 {
-        return Next::Go(
+        Next::Go(
             Way::ToReset,
             Counters {
                 waits: 0,
-                polls: c.polls,
                 attempts: c.attempts + 1,
-                kept: c.kept,
+                ..c
             },
-        );
+        )
+    } else {
+        Next::Stop(Failure::ThirtyAttempts.number())
     }
-    Next::Stop(26)
 }
 
 // The same transfer again, at most sixteen times running.
+// Kept: no plainer: see `try_again`.
 fn wait_again(c: Counters) -> Next
     ensures { result ≡ wait_again (ltb c.waits 16) c }
 {
     if c.waits < 16 {
-        return Next::Go(
+        Next::Go(
             Way::Stay,
             Counters {
                 waits: c.waits + 1,
-                polls: c.polls,
-                attempts: c.attempts,
-                kept: c.kept,
+                ..c
             },
-        );
+        )
+    } else {
+        Next::Stop(Failure::SeventeenWaits.number())
     }
-    Next::Stop(27)
 }
 
-// A transfer that went wrong: it ends an attempt, or the session with this number.
-fn on_broken(q: Request, c: Counters, number: u8) -> Next
-    ensures { result ≡ cond (is_attempt q) (try_again (ltb (suc c.attempts) 30) c) (Next.Stop number) }
+// A transfer that went wrong: it ends an attempt, and any other leads on so.
+fn on_broken(q: Request, c: Counters, other: Next) -> Next
+    ensures { result ≡ cond (is_attempt q) (try_again (ltb (suc c.attempts) 30) c) other }
 {
     if requests::kinds::is_attempt(q) {
         try_again(c)
     } else {
-        Next::Stop(number)
-    }
-}
-
-// WAIT: it ends an attempt, or the transfer is repeated.
-fn on_wait(q: Request, c: Counters) -> Next
-    ensures { result ≡ cond (is_attempt q) (try_again (ltb (suc c.attempts) 30) c) (wait_again (ltb c.waits 16) c) }
-{
-    if requests::kinds::is_attempt(q) {
-        try_again(c)
-    } else {
-        wait_again(c)
+        other
     }
 }
 
 // The counters after a transfer that went right: no WAITs are running, and after an attempt no attempts.
+// Kept: no plainer: q and c go together here and in `on_broken` alone.
 fn settle(q: Request, c: Counters) -> Counters
     ensures { result ≡ settled (is_attempt q) c }
 {
@@ -82,46 +73,43 @@ fn settle(q: Request, c: Counters) -> Counters
     };
     Counters {
         waits: 0,
-        polls: c.polls,
-        attempts: attempts,
-        kept: c.kept,
+        attempts,
+        ..c
     }
 }
 
 // An OK: the parity of a read's word counts, and a write has no word.
 #[tactic(auto, unfolding(flow::specs::Packets::heard))]
-fn on_okay(g: Geometry, h: Header, bytes: &[u8], m: Move, r: Reply, c: Counters) -> Next
-    ensures { result ≡ heard_by (is_attempt m.request) (image_of g h bytes.now) m.purpose (heard (is_read m.request) Ack.Okay r.word r.parity) c }
+fn on_okay(i: Image, m: Move, r: Reply, c: Counters) -> Next
+    ensures { result ≡ heard_by (is_attempt m.request) (handed i.entry) m.purpose (heard (is_read m.request) Ack.Okay r.word r.parity) c }
 {
     let q = m.request;
-    let u = m.purpose;
-    let s = settle(q, c);
-    if requests::is_read(q) {
-        if r.parity == wire::parity_of(r.word) {
-            return on_word(g, h, bytes, u, s, r.word);
-        }
-        return on_broken(q, c, 30);
+    let reads = requests::is_read(q);
+    if reads && r.parity != wire::parity_of(r.word) {
+        return on_broken(q, c, Next::Stop(Failure::Parity.number()));
     }
-    on_word(g, h, bytes, u, s, 0)
+    let word = if reads { r.word } else { 0 };
+    on_word(i, m.purpose, settle(q, c), word)
 }
 
 // A reply to a transfer.
+// Kept: no plainer: a closed enum, an arm for each acknowledgement.
 #[tactic(auto, unfolding(flow::specs::Packets::heard))]
-fn on_reply(g: Geometry, h: Header, bytes: &[u8], m: Move, r: Reply, c: Counters) -> Next
-    ensures { result ≡ heard_by (is_attempt m.request) (image_of g h bytes.now) m.purpose (heard (is_read m.request) (ack_of r.ack) r.word r.parity) c }
+fn on_reply(i: Image, m: Move, r: Reply, c: Counters) -> Next
+    ensures { result ≡ heard_by (is_attempt m.request) (handed i.entry) m.purpose (heard (is_read m.request) (ack_of r.ack) r.word r.parity) c }
 {
     let q = m.request;
-    let a = wire::read_ack(r.ack);
-    match a {
-        Ack::Okay => on_okay(g, h, bytes, m, r, c),
-        Ack::Wait => on_wait(q, c),
-        Ack::Fault => on_broken(q, c, 28),
-        Ack::Silence => on_broken(q, c, 29),
-        Ack::Noise => on_broken(q, c, 33),
+    match wire::read_ack(r.ack) {
+        Ack::Okay => on_okay(i, m, r, c),
+        Ack::Wait => on_broken(q, c, wait_again(c)),
+        Ack::Fault => on_broken(q, c, Next::Stop(Failure::Fault.number())),
+        Ack::Silence => on_broken(q, c, Next::Stop(Failure::Silence.number())),
+        Ack::Noise => on_broken(q, c, Next::Stop(Failure::Noise.number())),
     }
 }
 
 // What is read of an answer.
+// Kept: no plainer: a `From` would have to stand in flow, and only the judge hears a reset as silence.
 fn reply_in(a: Answer) -> Reply
     ensures { result ≡ reply_in a }
 {
@@ -137,13 +125,12 @@ fn reply_in(a: Answer) -> Reply
 
 // Where an answer to a move leads: on by a way, or to a report. After a reset it is the next move, whatever the answer.
 #[tactic(auto, unfolding(flow::specs::Packets::verdict))]
-pub fn next(g: Geometry, h: Header, bytes: &[u8], m: Move, a: Answer, c: Counters) -> Next
-    ensures next { result ≡ next_of (image_of g h bytes.now) m a c }
+pub fn next(i: Image, m: Move, a: Answer, c: Counters) -> Next
+    ensures next { result ≡ next_of (handed i.entry) m a c }
 {
-    let q = m.request;
-    if requests::kinds::is_reset(q) {
-        return Next::Go(Way::Onward, c);
+    if requests::kinds::is_reset(m.request) {
+        Next::Go(Way::Onward, c)
+    } else {
+        on_reply(i, m, reply_in(a), c)
     }
-    let r = reply_in(a);
-    on_reply(g, h, bytes, m, r, c)
 }

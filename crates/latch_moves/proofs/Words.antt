@@ -8,12 +8,14 @@ use borrow.Author.Tests.{le-leb}
 use lib.ListN.{length, get_or, take, drop, length-take, length-drop}
 use lib.Seq.{get_or-take, get_or-drop, ext_get_or}
 use Rattle.flow.proofs.Counting.{length-words}
-use Rattle.flow.specs.Sequence.{write, call, writes, listed, latch_list, end_move}
+use Rattle.flow.specs.Sequence.{move, write, call, writes, listed, latch_list, end_move}
 use Rattle.lent.proofs.Words.{word_same}
 use Rattle.latch_moves.specs.Latched.{latched}
 use Rattle.lent.specs.Words.{word_at, words_at}
 use Rattle.call_moves.proofs.Lengths.{length-writes}
-use Rattle.call_moves.proofs.Joined.{at_first, at_second}
+use Rattle.flow.specs.declared.Purpose.TheVariants.{Sent}
+use Rattle.flow.specs.declared.Request.TheVariants.{WriteTar, WriteDrw}
+use Rattle.std.proofs.lemmas.List.{get_or_append_left, get_or-append_right}
 use Rattle.flow.specs.declared.Move.{Move}
 use Rattle.parts.specs.Sizes.{PARAMS}
 use Rattle.parts.specs.declared.Geometry.{Geometry}
@@ -76,11 +78,11 @@ module _ (bytes bs : List ℕ) (s n : ℕ) (is : bs ≡ take (s + n - s) (drop s
 
 -- ---- the list of a latch call
 
-pub latch-word : (m n : ℕ) (bytes : List ℕ) (i : ℕ) → 2 ≤ i → i < n / 4 + 2 → get_or (latch_list m n bytes 0) i 0 ≡ word_at bytes (4 * (i - 2))
-latch-word m n bytes i l h =
+pub list_word : (a b : ℕ) (bytes : List ℕ) (n i : ℕ) → 2 ≤ i → i < n + 2 → get_or (a ∷ b ∷ words_at bytes 0 n) i 0 ≡ word_at bytes (4 * (i - 2))
+list_word a b bytes n i l h =
     let e : i ≡ suc (suc (i - 2)) = omega arith in
     let z : 0 + 4 * (i - 2) ≡ 4 * (i - 2) = omega arith in
-    ap (λ (x : ℕ). get_or (latch_list m n bytes 0) x 0) e ∙ words-at bytes 0 (n / 4) (i - 2) (omega arith) ∙ ap (λ (x : ℕ). word_at bytes x) z
+    ap (λ (x : ℕ). get_or (a ∷ b ∷ words_at bytes 0 n) x 0) e ∙ words-at bytes 0 n (i - 2) (omega arith) ∙ ap (λ (x : ℕ). word_at bytes x) z
 
 writes_at : (s a : ℕ) (ws : List ℕ) (j : ℕ) → j < 2 * length ws → get_or (writes s a ws) j end_move ≡ get_or (write s (a + 4 * (j / 2)) (get_or ws (j / 2) 0)) (j % 2) end_move
 unfolding writes write
@@ -93,11 +95,22 @@ writes_at s a (w ∷ ws) (suc (suc j)) h =
     let t : a + 4 * suc (j / 2) ≡ a + 4 + 4 * (j / 2) = omega arith in
     rw (q, r, t) (writes_at s (a + 4) ws j (omega arith))
 
+-- its moves: an address and a word in turn, then the call
 module _ (g : Geometry) (s c : ℕ) (ws : List ℕ) (j : ℕ) where
-  pub listed-word : j < 2 * length ws → get_or (listed g s c ws) j end_move ≡ get_or (write s (PARAMS + 4 * (j / 2)) (get_or ws (j / 2) 0)) (j % 2) end_move
+  listed-word : j < 2 * length ws → get_or (listed g s c ws) j end_move ≡ get_or (write s (PARAMS + 4 * (j / 2)) (get_or ws (j / 2) 0)) (j % 2) end_move
   unfolding listed
-  listed-word h = at_first (writes s PARAMS ws) (call g s c PARAMS) end_move (2 * length ws) j (length-writes s PARAMS ws) h ∙ writes_at s PARAMS ws j h
+  listed-word h = get_or_append_left (writes s PARAMS ws) (call g s c PARAMS) end_move j (omega (arith, length-writes s PARAMS ws)) ∙ writes_at s PARAMS ws j h
 
-  pub listed-call : (n : ℕ) → n ≡ 2 * length ws → n ≤ j → get_or (listed g s c ws) j end_move ≡ get_or (call g s c PARAMS) (j - n) end_move
+  pub listed-address : j < 2 * length ws → j % 2 ≡ 0 → get_or (listed g s c ws) j end_move ≡ move s (WriteTar (PARAMS + 4 * (j / 2))) Sent
+  unfolding write
+  listed-address h e = listed-word h ∙ rw e
+
+  pub listed-data : j < 2 * length ws → j % 2 ≡ 1 → get_or (listed g s c ws) j end_move ≡ move s (WriteDrw (get_or ws (j / 2) 0)) Sent
+  unfolding write
+  listed-data h e = listed-word h ∙ rw e
+
+  pub listed-call : 2 * length ws ≤ j → get_or (listed g s c ws) j end_move ≡ get_or (call g s c PARAMS) (j - 2 * length ws) end_move
   unfolding listed
-  listed-call n e h = at_second (writes s PARAMS ws) (call g s c PARAMS) end_move n j (length-writes s PARAMS ws ∙ sym e) h
+  listed-call l = get_or-append_right (writes s PARAMS ws) (call g s c PARAMS) (2 * length ws) j end_move (length-writes s PARAMS ws) l
+
+pub ruleset latched_moves = (listed-address, listed-data, listed-call, length-words)

@@ -1,9 +1,8 @@
 -- Laws of words and sums. Assumes nothing.
-use Rattle.std.proofs.Common.{◌≡◌, ℕ, suc, ◌+◌, ◌-◌, ◌%◌, ◌<◌, ◌≤◌, List, [], ◌∷◌, length, get_or, take, drop, sym, ap, ◌∙◌, le_refl, add-zero, add_assoc, mod-eq_of_lt, add-one, arith, length-drop, drop_of_length-le, get_or-drop, take_all, drop-cons, get_or-take}
+use Rattle.std.proofs.Common.{◌≡◌, ℕ, ◌+◌, ◌-◌, ◌*◌, ◌%◌, ◌<◌, ◌≤◌, List, [], ◌∷◌, length, get_or, take, drop, fold, sym, ap, ◌∙◌, zero-add, add-zero, add_assoc, mod-eq_of_lt, arith, length-drop, get_or-drop, take_all, get_or-take}
 use native.Mathlib.Nat.{mod-add-mod}
 use lib.ListN.{get_or-eq_default}
-use lib.Seq.{take-nil}
-use Rattle.lent.specs.Words.{total, word_at, part_of, words_at}
+use Rattle.lent.specs.Words.{total, word_at, part_of}
 
 -- past the end every byte, and so the word, is 0
 pub word_none : (bytes : List ℕ) (o : ℕ) → length bytes ≤ o → word_at bytes o ≡ 0
@@ -20,6 +19,20 @@ word_same xs ys o p h =
     let z : get_or xs o 0 ≡ get_or ys p 0 = simp add-zero at (h 0 (omega arith)) in
     rw (z, h 1 (omega arith), h 2 (omega arith), h 3 (omega arith))
 
+-- a word by the bytes from its offset on, as they are lent
+pub word_rest : (bytes rest : List ℕ) (o : ℕ) → rest ≡ take (length bytes - o) (drop o bytes)
+    → word_at bytes o ≡ get_or rest 0 0 + 256 * get_or rest 1 0 + 0x10000 * get_or rest 2 0 + 0x1000000 * get_or rest 3 0
+unfolding word_at
+word_rest bytes rest o e =
+    let z : get_or bytes o 0 ≡ get_or rest 0 0 = simp add-zero at (same 0) in
+    rw (z, same 1, same 2, same 3)
+  where
+    whole : take (length bytes - o) (drop o bytes) ≡ drop o bytes
+    whole = take_all (length bytes - o) (drop o bytes) (omega (arith, length-drop o bytes))
+
+    same : (k : ℕ) → get_or bytes (o + k) 0 ≡ get_or rest k 0
+    same k = sym (ap (λ (l : List ℕ). get_or l k 0) (e ∙ whole) ∙ get_or-drop o bytes k 0)
+
 -- a word inside a part of bytes
 pub part-word : (bytes : List ℕ) (from n o : ℕ) → o + 4 ≤ n → word_at (part_of bytes from n) o ≡ word_at bytes (from + o)
 part-word bytes from n o h =
@@ -28,51 +41,15 @@ part-word bytes from n o h =
     let e : from + (o + k) ≡ from + o + k = omega arith in
     get_or-take n (drop from bytes) (o + k) 0 (omega arith) ∙ get_or-drop from bytes (o + k) 0 ∙ ap (λ (x : ℕ). get_or bytes x 0) e)
 
--- a part that starts past the end, one that ends past it, and one inside, as they are lent
-pub part_none : (l : List ℕ) (from n : ℕ) → length l ≤ from → take (length l - length l) (drop (length l) l) ≡ part_of l from n
-part_none l from n h = rw (drop_of_length-le l h, drop_of_length-le l (le_refl (length l))) (take-nil (length l - length l) ∙ sym (take-nil n))
-
-pub part-rest : (l : List ℕ) (from n : ℕ) → length l - from < n → take (length l - from) (drop from l) ≡ part_of l from n
-part-rest l from n h =
-    let k = length-drop from l in
-    take_all (length l - from) (drop from l) (omega arith) ∙ sym (take_all n (drop from l) (omega arith))
-
-pub part-inside : (l : List ℕ) (from n : ℕ) → take (from + n - from) (drop from l) ≡ part_of l from n
-part-inside l from n = let e : from + n - from ≡ n = omega arith in ap (λ (x : ℕ). take x (drop from l)) e
-
--- one word of a row, and none
-pub words-turn : (bytes : List ℕ) (o n : ℕ) → 0 < n → words_at bytes o n ≡ word_at bytes o ∷ words_at bytes (o + 4) (n - 1)
-unfolding words_at
-words-turn bytes o n h = let e : n ≡ suc (n - 1) = omega arith in ap (words_at bytes o) e
-
-pub words-end : (bytes : List ℕ) (o n : ℕ) → n ≡ 0 → words_at bytes o n ≡ []
-unfolding words_at
-words-end bytes o n e = rw e
-
 -- a term of a sum taken into an accumulator that is kept below m
 pub carry-in : (s b t m : ℕ) → ((s + b) % m + t) % m ≡ (s + (b + t)) % m
 carry-in s b t m = rw (mod-add-mod, add_assoc)
 
--- the accumulator at the end
-pub carried : (s t m : ℕ) → s < m → t ≡ 0 → s ≡ (s + t) % m
-carried s t m h e = rw (e, add-zero, mod-eq_of_lt h)
-
--- one more term of a sum, and none
-pub total-cons : {ws rest : List ℕ} {w : ℕ} → ws ≡ w ∷ rest → total ws ≡ w + total rest
+-- a sum by a fold that is kept below 2^32
+fold-total : (xs : List ℕ) (s : ℕ) → s < 0x100000000 → fold (λ a x. (a + x) % 0x100000000) s xs ≡ (s + total xs) % 0x100000000
 unfolding total
-total-cons e = rw e
+fold-total [] s h = rw (add-zero, mod-eq_of_lt h)
+fold-total (x ∷ xs) s h = fold-total xs ((s + x) % 0x100000000) (omega arith) ∙ carry-in s x (total xs) 0x100000000
 
-pub total-none : {ws : List ℕ} → ws ≡ [] → total ws ≡ 0
-unfolding total
-total-none e = rw e
-
--- one byte more
-pub drop-turn : (bytes : List ℕ) (at : ℕ) → at < length bytes → drop at bytes ≡ get_or bytes at 0 ∷ drop (at + 1) bytes
-drop-turn bytes at h = rw add-one (drop-cons bytes at 0 h)
-
--- one byte of a sum, and none
-pub total-turn : (bytes : List ℕ) (at : ℕ) → at < length bytes → total (drop at bytes) ≡ get_or bytes at 0 + total (drop (at + 1) bytes)
-total-turn bytes at h = total-cons (drop-turn bytes at h)
-
-pub total-end : (bytes : List ℕ) (at : ℕ) → length bytes ≤ at → total (drop at bytes) ≡ 0
-total-end bytes at h = total-none (drop_of_length-le bytes h)
+pub total_fold : (xs : List ℕ) → fold (λ a x. (a + x) % 0x100000000) 0 xs ≡ total xs % 0x100000000
+total_fold xs = rw zero-add at (fold-total xs 0 (omega arith))

@@ -94,6 +94,9 @@ module _ (i : Image) where
       simp length-append
       (omega (arith, length-call g 3 0x0D (key 0x0D + 0x10000), length-silicon g EntryLevel, length-silicon g Reopened))
 
+pub program_length : (g : Geometry) → program_count g ≡ 29 + rows_of g * (26 + 5 * (row_bytes_of g / 4)) + macros_of g * (24 + 5 * (locks_in g 0 / 4))
+program_length g = length-program (bare g)
+
 -- an image's sequence has as many moves as its geometry's
 pub program-counted : (i : Image) → length (program i) ≡ program_count i.geometry
 program-counted i = length-program i ∙ sym (length-program (bare i.geometry))
@@ -107,3 +110,5 @@ count-reopen g = omega (arith, length-sequence (bare g) FromProtected, length-re
 pub counted : (i : Image) (y : Entry) → length (sequence i y) ≡ move_count i.geometry y
 counted i FromOpen = omega (arith, length-sequence i FromOpen, length-open i, count-open i.geometry, opening-counted i, program-counted i)
 counted i FromProtected = omega (arith, length-sequence i FromProtected, length-reopen i, count-reopen i.geometry, opening-counted i, program-counted i)
+
+pub ruleset counts = (count-open, count-reopen)

@@ -10,19 +10,20 @@ use flow::Entry;
 use parts::Geometry;
 
 // The moves of steps 4 to 9.
+#[tactic(auto, using(crate::proofs::Counts::program_length))]
 fn program_moves(g: Geometry) -> usize
-    ensures fact_1 { result ≡ program_count g }
-    ensures fact_2 { result < 0x4000000000000 }
+    ensures count { result ≡ program_count g }
+    ensures bounded { result < 0x4000000000000 }
 {
-    let p = g.part;
     let rows = parts::rows(g) as usize;
-    let macros = g.macros as usize;
-    let words = (p.row_bytes as usize) / 4;
+    let words = usize::from(g.part.row_bytes) / 4;
+    let macros = usize::from(g.macros);
     let locks = parts::locks_in(g, 0) / 4;
     29 + rows * (26 + 5 * words) + macros * (24 + 5 * locks)
 }
 
 // The number of moves of the sequence.
+#[tactic(auto, using(crate::proofs::Counts::counts))]
 pub fn move_count(g: Geometry, entry: Entry) -> usize
     ensures count { result ≡ move_count g entry }
 {

@@ -10,8 +10,8 @@ use lib.Dec.{eqb, leb, ltb}
 use lib.ListN.{length, get_or, take, drop, get_or-eq_default}
 use lib.Seq.{get_or-drop, drop-drop, drop-cons, sets, sets-eq, take_at}
 use Rattle.pairs.specs.Digits.{digit_of, is_digit}
-use Rattle.pairs.specs.Spelling.{front, pairs_at, pair_run_of, line_end}
-use Rattle.pairs.proofs.Spelling.{pairs-turn, ran}
+use Rattle.pairs.specs.Spelling.{front, pairs_at, run_of, pair_run_of, line_end}
+use Rattle.pairs.proofs.Spelling.{pairs-turn}
 
 pub head_at : (s : List ℕ) (p x : ℕ) (t : List ℕ) → drop p s ≡ x ∷ t → get_or s p 0 ≡ x
 head_at s p x t e =
@@ -116,7 +116,7 @@ unfolding pair_run_of
 good-run text p k room = go (leb k 260) (leb k room) (leb (p + 2 * k) (length text)) refl refl refl
   where
     go : (a b c : Bool) → leb k 260 ≡ a → leb k room ≡ b → leb (p + 2 * k) (length text) ≡ c
-        → (cond (a && b && c) (ran text p k) (record { good = false; sum = 0 })).good ≡ true
+        → (cond (a && b && c) (run_of text p k) (record { good = false; sum = 0 })).good ≡ true
         → Good text p k room
     go true true true x y z h = record {
       few = leb-true k 260 x;

@@ -1,18 +1,16 @@
 -- Laws of digit pairs at a position of a text. Assumes nothing.
-use mathlib.Core.Bool.{true, false}
 use mathlib.Core.List.{List, [], ◌∷◌}
+use Rattle.std.specs.Prelude.{Bool, true, false, cond, Some, None}
 use mathlib.Core.Path.{◌≡◌, refl, sym, ap, ◌∙◌}
 use Prim.Native.Nat.{ℕ, zero, suc, ◌+◌, ◌-◌, ◌*◌, ◌≤◌, ◌<◌}
 use native.Mathlib.Omega.{arith}
 use native.Mathlib.Nat.{add-zero}
 use borrow.Author.Tests.{lt-ltb, le-ltb, eq-eqb, ne_eqb}
-use lib.Dec.{eqb}
 use lib.ListN.{length, get_or, take, drop, set, length-set}
 use lib.Seq.{sets, drop-cons}
 use Rattle.lent.specs.Words.{total}
 use Rattle.pairs.specs.Digits.{digit_of}
-use Rattle.pairs.specs.Spelling.{digits_from, front, pairs_at}
-use Rattle.pairs.specs.declared.PairRun.{PairRun}
+use Rattle.pairs.specs.Spelling.{PairRun, digits_from, front, pairs_at, run_of, run_sum}
 
 -- the table's entry is the digit's value
 pub digits-at : (n i k : ℕ) → k < n → get_or (digits_from i n) k 0 ≡ digit_of (i + k)
@@ -55,80 +53,83 @@ module _ (s : List ℕ) (q k h l : ℕ) (some : 0 < k) (inside : q + 2 * k ≤ l
   unfolding front
   front_low i j = rw (pairs-turn s q k some inside) (rw (← eh, ← el, lt-ltb h 16 (omega arith), le-ltb l 16 (omega arith)))
 
--- the loop's own: the place in the text and in the row, the pairs left, the sum so far
-pub record Cursor : Type 0 where
-  pub q : ℕ
-  pub i : ℕ
-  pub left : ℕ
-  pub sum : ℕ
-
-abbrev pub cursor : (q i left sum : ℕ) → Cursor
-cursor q i left sum = record { q = q; i = i; left = left; sum = sum }
-
--- how far the loop has come: what is left spells the rest
-pub record Spelling (text : List ℕ) (p k : ℕ) (row₀ row : List ℕ) (t : Cursor) : Type 0 where
-  pub inside : t.q + 2 * t.left ≤ length text
-  pub room : t.i + t.left ≤ length row
+-- how far the loop has come after i pairs: what is left spells the rest
+pub record Spelling (text row₀ row : List ℕ) (i sum : ℕ) : Type 0 where
+  pub inside : 2 * length row₀ ≤ length text
   pub kept : length row ≡ length row₀
-  pub small : t.sum + 255 * t.left ≤ 66300
-  pub count : t.i + t.left ≡ k
-  pub spelt : length (front (pairs_at text p k)) ≡ t.i + length (front (pairs_at text t.q t.left))
-  pub summed : total (front (pairs_at text p k)) ≡ t.sum + total (front (pairs_at text t.q t.left))
-  pub written : sets row₀ 0 (front (pairs_at text p k)) ≡ sets row t.i (front (pairs_at text t.q t.left))
+  pub done : i ≤ length row₀
+  pub small : sum + 255 * (length row₀ - i) ≤ 66300
+  pub spelt : length (front (pairs_at text 0 (length row₀))) ≡ i + length (front (pairs_at text (2 * i) (length row₀ - i)))
+  pub summed : total (front (pairs_at text 0 (length row₀))) ≡ sum + total (front (pairs_at text (2 * i) (length row₀ - i)))
+  pub written : sets row₀ 0 (front (pairs_at text 0 (length row₀))) ≡ sets row i (front (pairs_at text (2 * i) (length row₀ - i)))
 
-abbrev pub ran : (text : List ℕ) (p k : ℕ) → PairRun
-ran text p k = record { good = eqb (length (front (pairs_at text p k))) k; sum = total (front (pairs_at text p k)) }
-
-module _ {text : List ℕ} {p k : ℕ} {row₀ row : List ℕ} {q i left sum : ℕ} (v : Spelling text p k row₀ row (cursor q i left sum)) where
-  module _ (nil : front (pairs_at text q left) ≡ []) where
-    come : length (front (pairs_at text p k)) ≡ i
+module _ {text row₀ row : List ℕ} {i sum : ℕ} (v : Spelling text row₀ row i sum) where
+  module _ (nil : front (pairs_at text (2 * i) (length row₀ - i)) ≡ []) where
+    come : length (front (pairs_at text 0 (length row₀))) ≡ i
     come = v.spelt ∙ ap (λ (x : List ℕ). i + length x) nil ∙ add-zero i
 
-    added : total (front (pairs_at text p k)) ≡ sum
+    added : total (front (pairs_at text 0 (length row₀))) ≡ sum
     unfolding total
     added = v.summed ∙ ap (λ (x : List ℕ). sum + total x) nil ∙ add-zero sum
 
-    pub row-then : row ≡ sets row₀ 0 (front (pairs_at text p k))
+    pub row-then : row ≡ sets row₀ 0 (front (pairs_at text 0 (length row₀)))
     row-then = sym (v.written ∙ ap (sets row i) nil)
 
     -- it stops before the last pair, or after it
-    pub stops : 0 < left → record { good = false; sum = sum } ≡ ran text p k
-    stops h = rw (come, added, ne_eqb i k (λ e. absurd (omega (arith, v.count))))
+    pub stops : i < length row₀ → None ≡ run_sum (run_of text 0 (length row₀))
+    stops h = rw (come, ne_eqb i (length row₀) (λ e. absurd (omega arith)))
 
-    pub ends : left ≡ 0 → record { good = true; sum = sum } ≡ ran text p k
-    ends h = rw (come, added, eq-eqb i k (omega (arith, v.count)))
+    pub ends : i ≡ length row₀ → Some sum ≡ run_sum (run_of text 0 (length row₀))
+    ends h = rw (come, added, eq-eqb i (length row₀) h)
 
   -- one turn
-  pub turn : (h l : ℕ) → h ≡ digit_of (get_or text q 0) → l ≡ digit_of (get_or text (q + 1) 0) → 0 < left → h ≤ 15 → l ≤ 15
-      → Spelling text p k row₀ (set row i (16 * h + l)) (cursor (q + 2) (i + 1) (left - 1) (sum + (16 * h + l)))
+  pub turn : (h l : ℕ) → h ≡ digit_of (get_or text (2 * i) 0) → l ≡ digit_of (get_or text (2 * i + 1) 0) → i < length row₀ → h ≤ 15 → l ≤ 15
+      → Spelling text row₀ (set row i (16 * h + l)) (i + 1) (sum + (16 * h + l))
   unfolding total
   turn h l eh el some x y =
-      let m = front-more text q left h l some v.inside eh el x y in
+      let q : 2 * i + 2 ≡ 2 * (i + 1) = omega arith in
+      let e : length row₀ - i - 1 ≡ length row₀ - (i + 1) = omega arith in
+      let m = rw (q, e) at (front-more text (2 * i) (length row₀ - i) h l (omega arith) (omega (arith, v.inside)) eh el x y) in
       let n : i + 1 ≡ suc i = omega arith in
       record {
-        inside = omega (arith, v.inside);
-        room = simp length-set (omega (arith, v.room));
+        inside = v.inside;
         kept = simp length-set v.kept;
+        done = omega arith;
         small = omega (arith, v.small);
-        count = omega (arith, v.count);
         spelt = omega (arith, v.spelt, ap length m);
         summed = omega (arith, v.summed, ap total m);
         written = v.written ∙ ap (sets row i) m ∙ rw n;
       }
 
-pub start : (text : List ℕ) (p k : ℕ) (row : List ℕ) → p + 2 * k ≤ length text → k ≤ length row → k ≤ 260
-    → Spelling text p k row row (cursor p 0 k 0)
-start text p k row a b c = record {
-  inside = a;
-  room = omega arith;
-  kept = refl;
-  small = omega arith;
-  count = omega arith;
-  spelt = omega arith;
-  summed = omega arith;
-  written = refl;
-}
+pub start : (text row : List ℕ) → 2 * length row ≤ length text → length row ≤ 260 → Spelling text row row 0 0
+start text row a c =
+    let q : 2 * 0 ≡ 0 = omega arith in
+    let k : length row - 0 ≡ length row = omega arith in
+    record {
+      inside = a;
+      kept = refl;
+      done = omega arith;
+      small = omega arith;
+      spelt = rw (q, k) (omega arith);
+      summed = rw (q, k) (omega arith);
+      written = rw (q, k) refl;
+    }
 
 pub none_left : (text : List ℕ) (q left : ℕ) → left ≡ 0 → front (pairs_at text q left) ≡ []
 unfolding front
 none_left text q left h = rw h
+
+-- a run's sum, or none
+pub none-run : (r : PairRun) → None ≡ run_sum r → r.good ≡ false
+none-run r e = go r.good e
+  where
+    go : (b : Bool) → None ≡ cond b (Some r.sum) None → b ≡ false
+    go true f = cc
+    go false f = refl
+
+pub some-run : (r : PairRun) (sum : ℕ) → Some sum ≡ run_sum r → (r.good ≡ true) × (sum ≡ r.sum)
+some-run r sum e = go r.good e
+  where
+    go : (b : Bool) → Some sum ≡ cond b (Some r.sum) None → (b ≡ true) × (sum ≡ r.sum)
+    go true f = (refl, cc)
+    go false f = absurd (cc)

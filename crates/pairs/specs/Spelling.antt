@@ -1,9 +1,8 @@
 -- What the functions on digit pairs and line ends give, at a position of a text. Assumes nothing.
-use Rattle.std.specs.Prelude.{Bool, false, ◌&&◌, cond, List, [], ◌∷◌, ℕ, zero, suc, ◌+◌, ◌*◌, eqb, leb, length, get_or, take, drop}
+use Rattle.std.specs.Prelude.{Bool, false, ◌&&◌, cond, List, [], ◌∷◌, ℕ, zero, suc, ◌+◌, ◌*◌, eqb, leb, length, get_or, take, drop, Option, Some, None}
 use Rattle.std.proofs.lemmas.List.Edits.{sets}
 use Rattle.lent.specs.Words.{total}
 use Rattle.pairs.specs.Digits.{digit_of, is_digit}
-use Rattle.pairs.specs.declared.PairRun.{PairRun}
 
 -- the values of the n bytes from i on, as digits
 unfoldable pub digits_from : (i n : ℕ) → List ℕ
@@ -24,12 +23,21 @@ pairs_at text p k = take (2 * k) (drop p text)
 abbrev pub has_pairs : (text : List ℕ) (p k room : ℕ) → Bool
 has_pairs text p k room = leb k 260 && leb k room && leb (p + 2 * k) (length text)
 
--- whether they all are digit pairs, and the sum of those before the first that is none
+-- what a run of pairs comes to: whether they all are digit pairs, and the sum of those before the first that is none
+pub record PairRun : Type 0 where
+  pub good : Bool
+  pub sum : ℕ
+
+abbrev pub run_of : (text : List ℕ) (p k : ℕ) → PairRun
+run_of text p k = record { good = eqb (length (front (pairs_at text p k))) k; sum = total (front (pairs_at text p k)) }
+
+-- and none of them where they have no room
 unfoldable pub pair_run_of : (text : List ℕ) (p k room : ℕ) → PairRun
-pair_run_of text p k room =
-    cond (has_pairs text p k room)
-    (record { good = eqb (length (front (pairs_at text p k))) k; sum = total (front (pairs_at text p k)) })
-    (record { good = false; sum = 0 })
+pair_run_of text p k room = cond (has_pairs text p k room) (run_of text p k) (record { good = false; sum = 0 })
+
+-- the sum where all are pairs
+abbrev pub run_sum : PairRun → Option ℕ
+run_sum r = cond r.good (Some r.sum) None
 
 -- the row with what they spell from its start on
 unfoldable pub row_after : (row text : List ℕ) (p k : ℕ) → List ℕ

@@ -1,90 +1,51 @@
 // Digit pairs and line ends, at a position of a text: for every text format (document 01, 'Hex text').
 #![tactic(auto)]
 
-ghost use Rattle.std.specs.Prelude.{◌≡◌, ◌+◌, ◌*◌, ◌≤◌, length, eqb};
+ghost use Rattle.std.specs.Prelude.{◌≡◌, ◌+◌, ◌*◌, ◌≤◌, length};
 ghost use Rattle.std.proofs.lemmas.List.Edits.{sets};
-ghost use Rattle.lent.specs.Words.{total};
 ghost use Rattle.pairs.specs.Digits.{digit_of};
-ghost use Rattle.pairs.specs.Spelling.{digits_from, front, pairs_at, pair_run_of, row_after, line_end};
+ghost use Rattle.pairs.specs.Spelling.{digits_from, front, pairs_at, run_of, pair_run_of, run_sum, row_after, line_end};
 
 mod table;
-
-// What a run of pairs comes to.
-#[derive(Clone, Copy)]
-pub struct PairRun {
-    pub good: bool,
-    pub sum: u32,
-}
 
 // The value of a hex digit, by the table.
 fn digit(table: &[u8; 256], c: u8) -> u8
     requires { table.now ≡ digits_from 0 256 }
     ensures { result ≡ digit_of c }
 {
-    table[c as usize]
+    table[usize::from(c)]
 }
 
-// Spells k pairs from p on into the row, up to the first that is none.
-fn spell_pairs(row: &mut [u8], text: &[u8], p: usize, k: usize) -> PairRun
-    requires { (p + 2 * k ≤ length text.now) × (k ≤ length row.old) × (k ≤ 260) }
-    ensures value { result ≡ record { good = eqb (length (front (pairs_at text.now p k))) k; sum = total (front (pairs_at text.now p k)) } }
-    ensures row_after { row.new ≡ sets row.old 0 (front (pairs_at text.now p k)) }
+// Spells a pair into each byte of the row, up to the first that is none: the sum of the bytes where all are pairs.
+fn spell_pairs(row: &mut [u8], text: &[u8]) -> Option<u32>
+    requires { (2 * length row.old ≤ length text.now) × (length row.old ≤ 260) }
+    ensures value { result ≡ run_sum (run_of text.now 0 (length row.old)) }
+    ensures row { row.new ≡ sets row.old 0 (front (pairs_at text.now 0 (length row.old))) }
 {
     let table = table::DIGITS;
-    let mut q = p;
-    let mut i: usize = 0;
-    let mut left = k;
-    let mut sum: u32 = 0;
-    while 0 < left {
-        let h = digit(&table, text[q]);
-        let l = digit(&table, text[q + 1]);
-        if 15 < h {
-            return PairRun { good: false, sum };
+    let mut sum = 0;
+    for (i, b) in row.iter_mut().enumerate() {
+        let h = digit(&table, text[2 * i]);
+        let l = digit(&table, text[2 * i + 1]);
+        if 15 < h || 15 < l {
+            return None;
         }
-        if 15 < l {
-            return PairRun { good: false, sum };
-        }
-        let b = 16 * h + l;
-        row[i] = b;
-        sum += b as u32;
-        q += 2;
-        i += 1;
-        left -= 1;
+        *b = 16 * h + l;
+        sum += u32::from(*b);
     }
-    PairRun { good: true, sum }
+    Some(sum)
 }
 
-// Spells k pairs from p on into the row, up to the first that is none; nothing where they lie past the text or the row.
-#[tactic(auto, unfolding(crate::specs::Spelling::pair_run_of, crate::specs::Spelling::row_after))]
-pub fn spell(row: &mut [u8], text: &[u8], p: usize, k: usize) -> PairRun
-    ensures run { result ≡ pair_run_of text.now p k (length row.old) }
+// Spells k pairs from p on into the row, up to the first that is none: the sum of the bytes where all are pairs. Nothing where they lie past the
+// text or the row.
+pub fn spell(row: &mut [u8], text: &[u8], p: usize, k: usize) -> Option<u32>
+    ensures run { result ≡ run_sum (pair_run_of text.now p k (length row.old)) }
     ensures row { row.new ≡ row_after row.old text.now p k }
 {
-    if 260 < k {
-        return PairRun {
-            good: false,
-            sum: 0,
-        };
+    if 260 < k || row.len() < k || text.len() < p || text.len() - p < 2 * k {
+        return None;
     }
-    if row.len() < k {
-        return PairRun {
-            good: false,
-            sum: 0,
-        };
-    }
-    if text.len() < p {
-        return PairRun {
-            good: false,
-            sum: 0,
-        };
-    }
-    if text.len() - p < 2 * k {
-        return PairRun {
-            good: false,
-            sum: 0,
-        };
-    }
-    spell_pairs(row, text, p, k)
+    spell_pairs(&mut row[..k], &text[p..])
 }
 
 // How many characters the line end at a position has: LF 1, CR LF 2, none 0.
@@ -92,18 +53,9 @@ pub fn spell(row: &mut [u8], text: &[u8], p: usize, k: usize) -> PairRun
 pub fn line_end(text: &[u8], at: usize) -> usize
     ensures end { result ≡ line_end text.now at }
 {
-    if text.len() <= at {
-        return 0;
+    match text.get(at..) {
+        Some([b'\n', ..]) => 1,
+        Some([b'\r', b'\n', ..]) => 2,
+        _ => 0,
     }
-    if text[at] == 10 {
-        return 1;
-    }
-    if text[at] == 13 {
-        if at + 1 < text.len() {
-            if text[at + 1] == 10 {
-                return 2;
-            }
-        }
-    }
-    0
 }

@@ -10,7 +10,7 @@ use Rattle.parts.specs.LockExamples.{LockExamples}
 use Rattle.parts.specs.Parts.{part_table, lookup_of}
 use Rattle.parts.specs.Sizes.{row_bytes_of, macros_of, rows_per_macro_of, rows_of, locks_in, lock_start, lock_total}
 use Rattle.parts.specs.declared.Geometry.{Geometry}
-use Rattle.parts.specs.declared.Lookup.TheVariants.{Found}
+use Rattle.std.specs.Prelude.{Ok}
 use Rattle.parts.proofs.Table.{both, everywhere, at-found}
 
 -- ---- of every geometry
@@ -90,7 +90,7 @@ pub record Locks (g : Geometry) : Type 0 where
   pub all : lock_start g (macros_of g) ≡ lock_total g
   pub each : (m : ℕ) → m < macros_of g → MacroLocks g m
 
-pub table-locks : (n m : ℕ) (g : Geometry) → lookup_of n m ≡ Found g → Locks g
+pub table-locks : (n m : ℕ) (g : Geometry) → lookup_of n m ≡ Ok g → Locks g
 table-locks n m g e = record { all = eqb-true _ _ t.0; each = λ k low. of-macro k (at-macro (macro_fits g) (macros_of g) k t.1 low) }
   where
     t : (eqb (lock_start g (macros_of g)) (lock_total g) ≡ true) × (each_macro (macro_fits g) (macros_of g) ≡ true)

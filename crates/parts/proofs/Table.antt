@@ -6,9 +6,10 @@ use Prim.Native.Nat.{ℕ, zero, suc, ◌≤◌}
 use native.Mathlib.Omega.{arith}
 use borrow.Author.Tests.{eqb-true, leb-true, eqb-false}
 use lib.Dec.{eqb, leb}
+use Rattle.refusals.specs.declared.Refusal.TheVariants.{PartOrMacros}
 use Rattle.parts.specs.Parts.{part_table, offers, look_in, lookup_of}
 use Rattle.parts.specs.declared.Geometry.{Geometry}
-use Rattle.parts.specs.declared.Lookup.TheVariants.{Found, Refused}
+use Rattle.std.specs.Prelude.{Ok, Err}
 use Rattle.parts.specs.declared.Part.{Part}
 
 pub both : (a b : Bool) → a && b ≡ true → (a ≡ true) × (b ≡ true)
@@ -42,20 +43,20 @@ pub record Entry (test : Geometry → Bool) (n m : ℕ) (g : Geometry) : Type 0 
   pub number : g.part.number ≡ n
   pub macros : g.macros ≡ m
 
-looked : (test : Geometry → Bool) (ps : List Part) (n m : ℕ) (g : Geometry) → everywhere test ps ≡ true → look_in ps n m ≡ Found g → Entry test n m g
+looked : (test : Geometry → Bool) (ps : List Part) (n m : ℕ) (g : Geometry) → everywhere test ps ≡ true → look_in ps n m ≡ Ok g → Entry test n m g
 unfolding look_in
 looked test [] n m g h e = absurd (omega (arith, different e))
   where
-    different : Refused 11 ≡ Found g → ◌≡◌ {A = ℕ} 0 1
+    different : Err PartOrMacros ≡ Ok g → ◌≡◌ {A = ℕ} 0 1
     different e = cc
 looked test (p ∷ ps) n m g h e = by (λ h' e'. looked test ps n m g h' e') (offers p n m) refl
   where
     parts : (up_to test p p.most_macros ≡ true) × (everywhere test ps ≡ true)
     parts = both (up_to test p p.most_macros) (everywhere test ps) h
 
-    by : (everywhere test ps ≡ true → look_in ps n m ≡ Found g → Entry test n m g) → (y : Bool) → offers p n m ≡ y → Entry test n m g
+    by : (everywhere test ps ≡ true → look_in ps n m ≡ Ok g → Entry test n m g) → (y : Bool) → offers p n m ≡ y → Entry test n m g
     by rec true o =
-        let is : Found (record { part = p; macros = m }) ≡ Found g = rw o at e in
+        let is : Ok (record { part = p; macros = m }) ≡ Ok g = rw o at e in
         let geo : record { part = p; macros = m } ≡ g = cc in
         let t = both (eqb p.number n && leb 1 m) (leb m p.most_macros) o in
         let s = both (eqb p.number n) (leb 1 m) t.0 in
@@ -67,9 +68,9 @@ looked test (p ∷ ps) n m g h e = by (λ h' e'. looked test ps n m g h' e') (of
         }
     by rec false o = rec parts.1 (rw o at e)
 
-pub entry : (test : Geometry → Bool) (n m : ℕ) (g : Geometry) → everywhere test part_table ≡ true → lookup_of n m ≡ Found g → Entry test n m g
+pub entry : (test : Geometry → Bool) (n m : ℕ) (g : Geometry) → everywhere test part_table ≡ true → lookup_of n m ≡ Ok g → Entry test n m g
 entry test n m g h e = looked test part_table n m g h e
 
 -- the test at what was found
-pub at-found : (test : Geometry → Bool) → everywhere test part_table ≡ true → (n m : ℕ) {g : Geometry} → lookup_of n m ≡ Found g → test g ≡ true
+pub at-found : (test : Geometry → Bool) → everywhere test part_table ≡ true → (n m : ℕ) {g : Geometry} → lookup_of n m ≡ Ok g → test g ≡ true
 at-found test h n m {g} e = (entry test n m g h e).passes

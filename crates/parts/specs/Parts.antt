@@ -1,9 +1,10 @@
 -- Document 01, 'Parts': the part table and the look-up in it (refusal 11). Assumes nothing.
-use Rattle.std.specs.Prelude.{Bool, ◌&&◌, ◌||◌, cond, List, [], ◌∷◌, ℕ, ◌+◌, ◌*◌, ◌-◌, eqb, leb}
+use Rattle.std.specs.Prelude.{Bool, ◌&&◌, ◌||◌, cond, List, [], ◌∷◌, ℕ, ◌+◌, ◌*◌, ◌-◌, eqb, leb, Result, Ok, Err}
 use Rattle.parts.specs.declared.ByteRange.{ByteRange}
-use Rattle.parts.specs.declared.Lookup.{Lookup}
-use Rattle.parts.specs.declared.Lookup.TheVariants.{Found, Refused}
+use Rattle.parts.specs.declared.Geometry.{Geometry}
 use Rattle.parts.specs.declared.Part.{Part}
+use Rattle.refusals.specs.declared.Refusal.{Refusal}
+use Rattle.refusals.specs.declared.Refusal.TheVariants.{PartOrMacros}
 
 -- 'other parts' low bytes .. fit'
 abbrev pub any_byte : ByteRange
@@ -75,10 +76,14 @@ part_table = part1 ∷ part2 ∷ part3 ∷ []
 abbrev pub offers : Part → ℕ → ℕ → Bool
 offers p n m = eqb p.number n && leb 1 m && leb m p.most_macros
 
+-- what a part number and M are in the table: a part with its macros, or a refusal
+abbrev pub Lookup : Type 0
+Lookup = Result Geometry Refusal
+
 -- the table's entry for a part number and M; '11 part or M'
 unfoldable pub look_in : List Part → ℕ → ℕ → Lookup
-look_in [] n m = Refused 11
-look_in (p ∷ ps) n m = cond (offers p n m) (Found (record { part = p; macros = m })) (look_in ps n m)
+look_in [] n m = Err PartOrMacros
+look_in (p ∷ ps) n m = cond (offers p n m) (Ok (record { part = p; macros = m })) (look_in ps n m)
 
 abbrev pub lookup_of : ℕ → ℕ → Lookup
 lookup_of n m = look_in part_table n m

@@ -6,6 +6,8 @@ ghost use Rattle.parts.specs.Parts.{lookup_of, offers, in_range, low_fits, id_fi
 ghost use Rattle.parts.specs.Sizes.{rows_of, flash_size, locks_in, lock_start, lock_total, image_size};
 ghost use Rattle.parts.specs.Levels.{level_of, is_level};
 
+use refusals::Refusal;
+
 // Where the words of a listed call are, and the register of step 1.
 pub const PARAMS: u32 = 0x20000100;
 
@@ -47,13 +49,6 @@ pub struct Part {
 pub struct Geometry {
     pub part: Part,
     pub macros: u8,
-}
-
-// What a part number and a number of macros are in the table.
-#[derive(Clone, Copy)]
-pub enum Lookup {
-    Found(Geometry),
-    Refused(u8),
 }
 
 // A chip protection level.
@@ -136,64 +131,41 @@ const PARTS: [Part; 3] = [
 fn entry_offers(p: Part, number: u8, macros: u8) -> bool
     ensures { result ≡ offers p number macros }
 {
-    if p.number == number {
-        if 1 <= macros {
-            return macros <= p.most_macros;
-        }
-    }
-    false
+    p.number == number && 1 <= macros && macros <= p.most_macros
 }
 
 // The table's entry for a part number, with the macros in use; 11 for what is not in the table.
-pub fn find(number: u8, macros: u8) -> Lookup
+pub fn find(number: u8, macros: u8) -> Result<Geometry, Refusal>
     ensures found { result ≡ lookup_of number macros }
 {
-    let table = PARTS;
-    let mut i: usize = 0;
-    while i < 3 {
-        let p = table[i];
-        if entry_offers(p, number, macros) {
-            return Lookup::Found(Geometry {
-                part: p,
-                macros: macros,
-            });
+    for part in PARTS {
+        if entry_offers(part, number, macros) {
+            return Ok(Geometry { part, macros });
         }
-        i += 1;
     }
-    Lookup::Refused(11)
+    Err(Refusal::PartOrMacros)
 }
 
-fn in_range(r: ByteRange, b: u8) -> bool
-    ensures { result ≡ in_range r b }
-{
-    if r.first <= b {
-        return b <= r.last;
+impl ByteRange {
+    fn contains(self, b: u8) -> bool
+        ensures { result ≡ in_range self b }
+    {
+        self.first <= b && b <= self.last
     }
-    false
 }
 
 // Whether a low ID byte fits the part.
 pub fn low_fits(p: Part, low: u8) -> bool
     ensures fits { result ≡ low_fits p low }
 {
-    let one = p.id_low;
-    if in_range(one, low) {
-        return true;
-    }
-    let other = p.id_low_or;
-    in_range(other, low)
+    p.id_low.contains(low) || p.id_low_or.contains(low)
 }
 
 // Whether a silicon ID is one of the part's.
 pub fn id_fits(p: Part, high: u8, low: u8, family: u8) -> bool
     ensures fits { result ≡ id_fits p high low family }
 {
-    if high == p.id_high {
-        if family == p.id_family {
-            return low_fits(p, low);
-        }
-    }
-    false
+    high == p.id_high && family == p.id_family && low_fits(p, low)
 }
 
 // The rows of all macros in use.
@@ -201,8 +173,7 @@ pub fn id_fits(p: Part, high: u8, low: u8, family: u8) -> bool
 pub fn rows(g: Geometry) -> u32
     ensures count { result ≡ rows_of g }
 {
-    let p = g.part;
-    (g.macros as u32) * (p.rows_per_macro as u32)
+    u32::from(g.macros) * u32::from(g.part.rows_per_macro)
 }
 
 // The bytes of flash.
@@ -211,8 +182,7 @@ pub fn flash_size(g: Geometry) -> usize
     ensures size { result ≡ flash_size g }
     ensures bounded { result < 2 ^ 48 }
 {
-    let p = g.part;
-    (rows(g) as usize) * (p.row_bytes as usize)
+    (rows(g) as usize) * usize::from(g.part.row_bytes)
 }
 
 // The bytes of macro m's locks: a bit for each of its rows.
@@ -221,8 +191,7 @@ pub fn locks_in(g: Geometry, m: u32) -> usize
     ensures size { result ≡ locks_in g m }
     ensures bounded { result < 8192 }
 {
-    let p = g.part;
-    (p.rows_per_macro as usize) / 8
+    usize::from(g.part.rows_per_macro) / 8
 }
 
 // Where they start among the bytes of locks: past those of the macros below it.
@@ -250,16 +219,25 @@ pub fn image_size(g: Geometry) -> usize
     flash_size(g) + lock_total(g)
 }
 
+// What the number of a level says.
+impl From<u8> for Level {
+    ghost from_gives = { λ n l. (l ≡ level_of n) × (is_level l n ≡ true) };
+
+    fn from(n: u8) -> Level {
+        match n {
+            0 => Level::Virgin,
+            1 => Level::Open,
+            2 => Level::Protected,
+            4 => Level::Kill,
+            3 | 5..=255 => Level::Unknown,
+        }
+    }
+}
+
 // The reading of a level's number.
 pub fn read_level(n: u8) -> Level
     ensures level { result ≡ level_of n }
     ensures told { is_level result n ≡ true }
 {
-    match n {
-        0 => Level::Virgin,
-        1 => Level::Open,
-        2 => Level::Protected,
-        4 => Level::Kill,
-        3 | 5..=255 => Level::Unknown,
-    }
+    Level::from(n)
 }

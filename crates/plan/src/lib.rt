@@ -10,7 +10,8 @@ use parts::Geometry;
 
 // The addition for a target that was PROTECTED.
 fn if_protected(y: Entry, more: u64) -> u64
-    ensures { (result ≡ from_protected y more) × (result ≤ more) }
+    ensures equal { result ≡ from_protected y more }
+    ensures bounded { result ≤ more }
 {
     match y {
         Entry::FromOpen => 0,
@@ -19,7 +20,8 @@ fn if_protected(y: Entry, more: u64) -> u64
 }
 
 fn acquisitions_of(y: Entry) -> u64
-    ensures { (result ≡ acquisitions y) × (result < 3) }
+    ensures equal { result ≡ acquisitions y }
+    ensures bounded { result < 3 }
 {
     match y {
         Entry::FromOpen => 1,
@@ -29,16 +31,12 @@ fn acquisitions_of(y: Entry) -> u64
 
 // The locks' part of it, summed over the macros.
 fn lock_plan(g: Geometry) -> u64
-    ensures fact_1 { result ≡ lock_plan g (macros_of g) }
-    ensures fact_2 { result ≤ 2616810 }
+    ensures equal { result ≡ lock_plan g (macros_of g) }
+    ensures bounded { result ≤ 2616810 }
 {
-    let macros = g.macros as u32;
-    let mut sum: u64 = 0;
-    let mut m: u32 = 0;
-    while m < macros {
-        let locks = parts::locks_in(g, m) as u64;
-        sum += 24 + 5 * locks / 4;
-        m += 1;
+    let mut sum = 0;
+    for m in 0..u32::from(g.macros) {
+        sum += 24 + 5 * (parts::locks_in(g, m) as u64) / 4;
     }
     sum
 }
@@ -46,24 +44,22 @@ fn lock_plan(g: Geometry) -> u64
 // The plan: the reads and writes of the sequence.
 #[tactic(auto, unfolding(flow::specs::Plan::plan))]
 fn plan_of(g: Geometry, y: Entry) -> u64
-    ensures fact_1 { result ≡ plan g y }
-    ensures fact_2 { result < 2 ^ 54 }
+    ensures equal { result ≡ plan g y }
+    ensures bounded { result < 2 ^ 54 }
 {
-    let p = g.part;
-    let imo = p.imo as u64;
-    let row = 26 + 5 * (p.row_bytes as u64) / 4;
-    69 + 10 * imo + (parts::rows(g) as u64) * row + lock_plan(g) + if_protected(y, 26 + 10 * imo)
+    let imo = u64::from(g.part.imo);
+    let row = 26 + 5 * u64::from(g.part.row_bytes) / 4;
+    69 + 10 * imo + u64::from(parts::rows(g)) * row + lock_plan(g) + if_protected(y, 26 + 10 * imo)
 }
 
 // The poll loops of the sequence.
 #[tactic(auto, unfolding(flow::specs::Plan::loops))]
 fn loops_of(g: Geometry, y: Entry) -> u64
-    ensures fact_1 { result ≡ loops g y }
-    ensures fact_2 { result < 2 ^ 40 }
+    ensures equal { result ≡ loops g y }
+    ensures bounded { result < 2 ^ 40 }
 {
-    let p = g.part;
-    let imo = p.imo as u64;
-    5 + imo + 2 * (parts::rows(g) as u64) + 2 * (g.macros as u64) + if_protected(y, 2 + imo)
+    let imo = u64::from(g.part.imo);
+    5 + imo + 2 * u64::from(parts::rows(g)) + 2 * u64::from(g.macros) + if_protected(y, 2 + imo)
 }
 
 // The most reads and writes that a session may hand out: those from PROTECTED.

@@ -19,9 +19,8 @@ use Rattle.session.proofs.Demand.{all, start_gives, first-follows, reported-sess
 use Rattle.session.proofs.Following.{Follows, follow}
 use Rattle.session.specs.Calls.{State, begun}
 use Rattle.session.specs.Given.{start_of, outcome_at}
+use Rattle.session.specs.Outcomes.{Given, Reported}
 use Rattle.session.specs.Sessions.{most_of}
-use Rattle.session.specs.declared.Given.{Given}
-use Rattle.session.specs.declared.Outcome.TheVariants.{Reported}
 use Rattle.session.specs.declared.Report.{Report}
 use lib.ListN.{length}
 

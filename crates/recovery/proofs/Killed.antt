@@ -3,23 +3,21 @@ use mathlib.Core.List.{List}
 use mathlib.Core.Path.{◌≡◌, refl, ap, subst, ◌∙◌}
 use Prim.Native.Nat.{ℕ}
 use borrow.Author.Tests.{eq-eqb}
+use Rattle.std.proofs.Common.{Option}
 use Rattle.flow.proofs.Keeping.{packet-keeps}
 use Rattle.flow.specs.Calls.{reset}
 use Rattle.flow.specs.Exchange.{decode, transferred, meet_on, meet}
 use Rattle.flow.specs.Target.{Memory, idle, Target, Lists}
-use Rattle.flow.specs.declared.Decoded.{Decoded}
 use Rattle.flow.specs.declared.Packet.{Packet}
 use Rattle.flow.specs.declared.Packet.TheVariants as Packets
 use Rattle.flow.specs.declared.Request.{Request}
-use Rattle.flow.specs.declared.Request.TheVariants.{Xres}
 use Rattle.parts.specs.declared.Geometry.{Geometry}
 use Rattle.recovery.specs.Recovery.{Start, Leads}
 use Rattle.session.specs.Calls.{State, Steps, none, answer, refusal, later, reaction, begun}
 use Rattle.session.proofs.Demand.{start_gives}
 use Rattle.session.proofs.Following.{no-packet}
 use Rattle.session.specs.Given.{start_of}
-use Rattle.session.specs.declared.Given.{Given}
-use Rattle.session.specs.declared.Outcome.TheVariants.{Ask}
+use Rattle.session.specs.Outcomes.{Given, Ask}
 
 -- as b₀ but for what has no charge, and nothing runs
 pub record Same (b₀ b : Target) : Type 0 where
@@ -45,7 +43,7 @@ module _ (g : Geometry) (b₀ : Target) (kill : b₀.memory.stored ≡ 4) where
   unfolding transferred
   transfer-silent q l b s = rw (eq-eqb b.effect 4 s.effect) s
 
-  packet-silent : (d : Decoded) (l : Lists) (b : Target) → Silent b → Silent (meet_on g d l b).target
+  packet-silent : (d : Option Request) (l : Lists) (b : Target) → Silent b → Silent (meet_on g d l b).target
   packet-silent = packet-keeps g Silent (λ b s. reset-silent b s.same) transfer-silent
 
   -- before the first XRES the board has met nothing

@@ -16,8 +16,7 @@ use Rattle.session.proofs.Demand.{start_gives}
 use Rattle.session.proofs.Following.{no-packet}
 use Rattle.session.specs.Calls.{State, Steps, answer, refusal, later, reaction, answered, begun}
 use Rattle.session.specs.Given.{start_of, step_with}
-use Rattle.session.specs.declared.Given.{Given}
-use Rattle.session.specs.declared.Outcome.TheVariants.{Ask}
+use Rattle.session.specs.Outcomes.{Given, Ask}
 
 module _ (g : Geometry) (b : Target) where
   abbrev after : Target

@@ -16,16 +16,16 @@ use Rattle.image.specs.declared.Header.{Header}
 use Rattle.parts.specs.Parts.{lookup_of}
 use Rattle.parts.specs.Sizes.{image_size}
 use Rattle.parts.specs.declared.Geometry.{Geometry}
-use Rattle.parts.specs.declared.Lookup.TheVariants.{Found}
 use Rattle.session.specs.Calls.{State, Steps, none, answer, reaction, answered, begun}
 use Rattle.session.specs.Given.{start_of, outcome_at, step_with}
 use Rattle.session.specs.Sessions.{most_of}
-use Rattle.session.specs.declared.Outcome.TheVariants.{Refused, Ask}
 use Rattle.session.proofs.Counted.{count_in}
 use Rattle.session.proofs.Demand.{all, low, followed}
+use Rattle.std.specs.Prelude.{Ok}
 use Rattle.session.proofs.Following.{Follows, follow-answer}
+use Rattle.session.specs.Outcomes.{Refused, Ask}
 
-module _ (g : Geometry) (h : Header) (bytes : List ℕ) (found : lookup_of h.part h.macros ≡ Found g) (size : length bytes ≡ image_size g) where
+module _ (g : Geometry) (h : Header) (bytes : List ℕ) (found : lookup_of h.part h.macros ≡ Ok g) (size : length bytes ≡ image_size g) where
   abbrev i : Image
   i = image_of g h bytes
 

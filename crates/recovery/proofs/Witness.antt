@@ -15,15 +15,14 @@ use Rattle.flow.specs.CutExamples.{Reopening, powered_up}
 use Rattle.flow.specs.Cuts.{cut_memory, CutTo}
 use Rattle.flow.specs.Target.{Memory, Residue, Target}
 use Rattle.flow.specs.Terms.{Startable, RightPart}
-use Rattle.flow.specs.declared.Packet.TheVariants as Packets
 use Rattle.parts.specs.Parts.{lookup_of}
 use Rattle.parts.specs.declared.Geometry.{Geometry}
-use Rattle.parts.specs.declared.Lookup.TheVariants.{Found}
 use Rattle.recovery.specs.Recovery.{Start, image_in, Leads, Interrupted, never, cut}
 use Rattle.recovery.specs.Witness.{FreeCuts, Reloaded, ReopeningCut}
 use Rattle.recovery.proofs.Recovery.{recovery-holds}
 use Rattle.recovery.proofs.Walking.{walked}
 use Rattle.session.proofs.Possibility.{granted}
+use Rattle.std.specs.Prelude.{Ok}
 use Rattle.session.specs.Calls.{State}
 
 pub free-cuts : FreeCuts
@@ -94,5 +93,5 @@ reopening-cut g a =
     }
 
 -- every part and M
-pub reopening : (part macros : ℕ) (g : Geometry) → lookup_of part macros ≡ Found g → ReopeningCut g
+pub reopening : (part macros : ℕ) (g : Geometry) → lookup_of part macros ≡ Ok g → ReopeningCut g
 reopening part macros g e = reopening-cut g (witness part macros g e).from_protected

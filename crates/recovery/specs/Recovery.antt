@@ -11,7 +11,7 @@ use Rattle.parts.specs.declared.Geometry.{Geometry}
 use Rattle.session.specs.Calls.{State, Steps, begun}
 use Rattle.session.specs.Claim.{Demand3}
 use Rattle.session.specs.Given.{start_of}
-use Rattle.session.specs.declared.Outcome.TheVariants.{Refused, Reported}
+use Rattle.session.specs.Outcomes.{Refused, Reported}
 use Rattle.session.specs.declared.Report.{Report}
 
 -- 'an unrefused start on an image that document 01's checks let pass', of this part and M

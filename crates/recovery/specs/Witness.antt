@@ -10,7 +10,7 @@ use Rattle.parts.specs.declared.Geometry.{Geometry}
 use Rattle.recovery.specs.Recovery.{Start, image_in, Leads, Interrupted, Loaded, Ended}
 use Rattle.session.specs.Calls.{State}
 use Rattle.session.specs.Given.{start_of}
-use Rattle.session.specs.declared.Outcome.TheVariants.{Refused}
+use Rattle.session.specs.Outcomes.{Refused}
 
 -- whoever asks more of a start or of the cuts breaks these: any image that passes, any lists, any list of calls, and cuts after cuts
 pub record FreeCuts : Type 0 where

@@ -8,30 +8,14 @@ use flow::{Answer, Request};
 pub fn is_reset(q: Request) -> bool
     ensures reset { result ≡ is_reset q }
 {
-    match q {
-        Request::Xres => true,
-        Request::LineReset => true,
-        Request::ReadIdcode => false,
-        Request::ReadDrw => false,
-        Request::WriteTar(_) => false,
-        Request::WriteDrw(_) => false,
-        Request::WriteSetup(_, _) => false,
-    }
+    matches!(q, Request::Xres | Request::LineReset)
 }
 
 // Whether a request is an attempt of step 1.
 pub fn is_attempt(q: Request) -> bool
     ensures attempt { result ≡ is_attempt q }
 {
-    match q {
-        Request::Xres => false,
-        Request::LineReset => false,
-        Request::ReadIdcode => true,
-        Request::ReadDrw => false,
-        Request::WriteTar(_) => false,
-        Request::WriteDrw(_) => false,
-        Request::WriteSetup(_, _) => false,
-    }
+    matches!(q, Request::ReadIdcode)
 }
 
 // Whether an answer is one to this request: resets are answered by 'reset done', transfers by an acknowledgement (14).

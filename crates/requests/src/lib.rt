@@ -35,13 +35,5 @@ pub fn packet_of(q: Request) -> Packet
 pub fn is_read(q: Request) -> bool
     ensures reads { result ≡ is_read q }
 {
-    match q {
-        Request::Xres => false,
-        Request::LineReset => false,
-        Request::ReadIdcode => true,
-        Request::ReadDrw => true,
-        Request::WriteTar(_) => false,
-        Request::WriteDrw(_) => false,
-        Request::WriteSetup(_, _) => false,
-    }
+    matches!(q, Request::ReadIdcode | Request::ReadDrw)
 }

@@ -1,5 +1,9 @@
 -- Laws of the test whether a row is all zero. Assumes nothing.
-use Rattle.std.proofs.Common.{◌≡◌, ℕ, zero, suc, ◌+◌, ◌*◌, ◌/◌, ◌%◌, ◌≤◌, Bool, true, false, not, ◌&&◌, cond, eqb, List, [], ◌∷◌, length, get_or, take, drop, sym, refl, ap, ◌∙◌, add_assoc, zero-add, arith, drop-cons, ne_eqb, eqb-true}
+use Rattle.std.proofs.Common.{◌≡◌, ℕ, zero, suc, ◌+◌, ◌*◌, ◌/◌, ◌%◌, ◌≤◌, Bool, true, false, not, ◌&&◌, cond, eqb, List, [], ◌∷◌, length, get_or, take, drop, sym, refl, ap, ◌∙◌, zero-add, arith, drop-cons, ne_eqb, eqb-true}
+use Rattle.std.proofs.Common.{◌<◌, fold, add-zero, mod-eq_of_lt, drop-drop, get_or-drop, get_or-take}
+use Rattle.std.specs.Int.{from_le_bytes, w32}
+use Rattle.std.specs.Simd.{first_chunks}
+use Rattle.lent.proofs.Words.{carry-in}
 use mathlib.Core.Bool.{and-true, and-false}
 use borrow.Author.Tests.{eqb-false}
 use Rattle.rows.specs.Cancels.{row_words, cancels}
@@ -10,12 +14,6 @@ use Rattle.rows.specs.declared.ZeroRow.{ZeroRow}
 -- what is said of a row, from what is said of its rest after n bytes that are 0
 abbrev pub after : ℕ → ZeroRow → ZeroRow
 after n z = record { all = z.all; read = n + z.read }
-
-pub after_none : (z : ZeroRow) → after 0 z ≡ z
-after_none z = rw zero-add
-
-pub after_more : (n : ℕ) (z : ZeroRow) → after (n + 1) z ≡ after n (after 1 z)
-after_more n z = rw add_assoc
 
 -- a byte stops the test, or the rest decides
 pub zero-stop : {bytes rest : List ℕ} {b : ℕ} → bytes ≡ b ∷ rest → eqb b 0 ≡ false → zero_row bytes ≡ record { all = false; read = 1 }
@@ -75,6 +73,31 @@ pub bytes-zero : (row : List ℕ) (o n : ℕ) → o + 4 * n ≤ length row → a
 unfolding all_zero words_at
 bytes-zero row o zero h = refl
 bytes-zero row o (suc n) h = four-turn row o n (omega arith) ∙ ap (λ rest. eqb (word_at row o) 0 && rest) (bytes-zero row (o + 4) n (omega arith))
+
+-- the words of a row as four bytes each, summed by a fold that is kept below 2^32
+four-word : (row : List ℕ) (o : ℕ) → from_le_bytes w32 (take 4 (drop o row)) ≡ word_at row o
+unfolding word_at
+four-word row o =
+    let z : get_or (take 4 (drop o row)) 0 0 ≡ get_or row o 0 = simp add-zero at (byte 0 (omega arith)) in
+    omega (arith, byte 1 (omega arith), byte 2 (omega arith), byte 3 (omega arith))
+  where
+    byte : (k : ℕ) → k < 4 → get_or (take 4 (drop o row)) k 0 ≡ get_or row (o + k) 0
+    byte k h = get_or-take 4 (drop o row) k 0 h ∙ get_or-drop o row k 0
+
+abbrev add_word : ℕ → List ℕ → ℕ
+add_word a w = (a + from_le_bytes w32 w) % 0x100000000
+
+fold-words : (row : List ℕ) (o n s : ℕ) → s < 0x100000000 → fold add_word s (first_chunks 4 n (drop o row)) ≡ (s + total (words_at row o n)) % 0x100000000
+unfolding total words_at
+fold-words row o zero s h = rw (add-zero, mod-eq_of_lt h)
+fold-words row o (suc n) s h =
+    ap (λ (v : ℕ). fold add_word ((s + v) % 0x100000000) (first_chunks 4 n (drop 4 (drop o row)))) (four-word row o)
+    ∙ ap (λ (l : List ℕ). fold add_word ((s + word_at row o) % 0x100000000) (first_chunks 4 n l)) (drop-drop 4 o row)
+    ∙ fold-words row (o + 4) n ((s + word_at row o) % 0x100000000) (omega arith)
+    ∙ carry-in s (word_at row o) (total (words_at row (o + 4) n)) 0x100000000
+
+pub sum_words : (row : List ℕ) → fold add_word 0 (first_chunks 4 (length row / 4) row) ≡ total (row_words row) % 0x100000000
+sum_words row = rw zero-add at (fold-words row 0 (length row / 4) 0 (omega arith))
 
 -- the two ways of number 10's test, by the bytes of a row's whole words
 module _ (row : List ℕ) where

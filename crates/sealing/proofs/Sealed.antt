@@ -19,7 +19,7 @@ use Rattle.sealing.specs.Sealed.{Succeeds, onward, SealedCallsHold, Sealed, Done
 use Rattle.session.proofs.Demand.{followed, reported-session}
 use Rattle.session.specs.Calls.{State, Steps, none, answer, refusal, later, begun, reaction, answered}
 use Rattle.session.specs.Given.{start_of, step_with}
-use Rattle.session.specs.declared.Outcome.TheVariants.{Ask, Reported}
+use Rattle.session.specs.Outcomes.{Ask, Reported}
 use Rattle.session.specs.declared.Report.{Report}
 
 module _ (g : Geometry) (bytes : List ℕ) where

@@ -21,7 +21,6 @@ use Rattle.flow.specs.declared.Packet.{Packet}
 use Rattle.image.specs.Image.{Image}
 use Rattle.parts.specs.Parts.{lookup_of}
 use Rattle.parts.specs.declared.Geometry.{Geometry}
-use Rattle.parts.specs.declared.Lookup.TheVariants.{Found}
 use Rattle.recovery.proofs.Walking.{Walked, walked}
 use Rattle.session.proofs.Possibility.{granted}
 use Rattle.recovery.specs.Recovery.{Start, image_in, Leads}
@@ -34,8 +33,9 @@ use Rattle.session.proofs.Following.{Follows, follow-answer}
 use Rattle.session.specs.Calls.{State, begun, answer}
 use Rattle.session.specs.Calls as Calls
 use Rattle.session.specs.Given.{start_of, outcome_at}
+use Rattle.session.specs.Outcomes.{Ask, Reported}
 use Rattle.session.specs.Sessions.{most_of}
-use Rattle.session.specs.declared.Outcome.TheVariants.{Ask, Reported}
+use Rattle.std.specs.Prelude.{Ok}
 use Rattle.session.specs.declared.Report.{Report}
 
 -- a step more, at the end
@@ -156,7 +156,7 @@ module _ (g : Geometry) (level : ℕ) (a : Achieved g level) where
       }
 
 -- every part and M
-pub sealed-sessions : (part macros : ℕ) (g : Geometry) → lookup_of part macros ≡ Found g → SealedSessions g
+pub sealed-sessions : (part macros : ℕ) (g : Geometry) → lookup_of part macros ≡ Ok g → SealedSessions g
 sealed-sessions part macros g e =
     let w = witness part macros g e in
     record {

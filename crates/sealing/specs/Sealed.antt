@@ -10,7 +10,7 @@ use Rattle.parts.specs.declared.Geometry.{Geometry}
 use Rattle.recovery.specs.Recovery.{Start, image_in, Leads}
 use Rattle.session.specs.Calls.{State, Steps, reaction, answered}
 use Rattle.session.specs.Given.{step_with}
-use Rattle.session.specs.declared.Outcome.TheVariants.{Ask, Reported}
+use Rattle.session.specs.Outcomes.{Ask, Reported}
 use Rattle.session.specs.declared.Report.{Report}
 
 -- a packet stands in s, and in the board's answer to it step 7's call 0x0D for macro 0 succeeds; what the session makes of the answer

@@ -6,7 +6,7 @@ use Rattle.parts.specs.declared.Geometry.{Geometry}
 use Rattle.recovery.specs.Recovery.{Start, Leads}
 use Rattle.sealing.specs.Sealed.{Sealed}
 use Rattle.session.specs.Calls.{State}
-use Rattle.session.specs.declared.Outcome.TheVariants.{Reported}
+use Rattle.session.specs.Outcomes.{Reported}
 use Rattle.session.specs.declared.Report.{Report}
 
 -- a session on a board with this level stored that seals it, and reports this number at this step

@@ -30,24 +30,23 @@ use Rattle.flow.specs.Session.{move_count}
 use Rattle.parts.specs.Parts.{lookup_of}
 use Rattle.parts.specs.Sizes.{flash_size, image_size}
 use Rattle.parts.specs.declared.Geometry.{Geometry}
-use Rattle.parts.specs.declared.Lookup.TheVariants.{Found}
 use Rattle.session.specs.Calls.{State, Steps, begun}
 use Rattle.session.specs.Claim.{lent, Demand3, Demand3Holds}
 use Rattle.session.specs.Spared.{Spared, SparedHolds}
 use Rattle.session.specs.Given.{start_of, started_on, start_refused, wants_leave, outcome_at}
 use Rattle.session.specs.Possible.{header_fits, running_fits, possible_in}
 use Rattle.session.specs.Sessions.{most_of, first_for}
-use Rattle.session.specs.declared.Given.{Given}
-use Rattle.session.specs.declared.Outcome.TheVariants.{Refused, Reported}
 use Rattle.session.specs.declared.Report.{Report}
 use Rattle.session.proofs.Counted.{count_in, count-step}
 use Rattle.session.proofs.Following.{Follows, follow, follow-gives, follow-repeats}
 use Rattle.session.proofs.Places.{opening-in}
+use Rattle.std.specs.Prelude.{Ok}
 use Rattle.session.proofs.Possibility.{both_true, whole}
+use Rattle.session.specs.Outcomes.{Given, Refused, Reported}
 
 -- ---- what an image that passes says
 
-module _ (g : Geometry) (h : Header) (bytes : List ℕ) (found : lookup_of h.part h.macros ≡ Found g) (none : image_fault h bytes ≡ 0) where
+module _ (g : Geometry) (h : Header) (bytes : List ℕ) (found : lookup_of h.part h.macros ≡ Ok g) (none : image_fault h bytes ≡ 0) where
   pub all : Passed g h bytes
   all = all-passed g h bytes found none
 

@@ -5,6 +5,7 @@ use mathlib.Core.Path.{◌≡◌, refl, sym, ap, subst, ◌∙◌}
 use Prim.Native.Nat.{ℕ, suc, ◌≤◌}
 use native.Mathlib.Omega.{arith}
 use lib.ListN.{length}
+use Rattle.std.proofs.Common.{Some}
 use Rattle.flow.specs.Exchange.{decode, Met, meet}
 use Rattle.flow.specs.Packets.{answers, packet_of}
 use Rattle.flow.specs.Plan.{counting}
@@ -12,7 +13,6 @@ use Rattle.flow.specs.Run.{Run, served, advance_by, advance, run_after, handed_o
 use Rattle.flow.specs.Session.{running, reported, move_at, step_of}
 use Rattle.flow.specs.Session as Flow
 use Rattle.flow.specs.declared.Answer.{Answer}
-use Rattle.flow.specs.declared.Decoded.TheVariants.{Known}
 use Rattle.flow.specs.declared.Counters.{Counters}
 use Rattle.flow.specs.declared.Move.{Move}
 use Rattle.flow.specs.declared.Packet.{Packet}
@@ -22,21 +22,19 @@ use Rattle.image.specs.declared.Header.{Header}
 use Rattle.parts.specs.Parts.{lookup_of}
 use Rattle.parts.specs.Sizes.{image_size}
 use Rattle.parts.specs.declared.Geometry.{Geometry}
-use Rattle.parts.specs.declared.Lookup.TheVariants.{Found}
 use Rattle.session.specs.Calls.{Gives, asks, reports, State, Steps, none, answer, refusal, later, handing, reaction, answered, called}
 use Rattle.session.specs.Given.{outcome_at, giving, step_with}
 use Rattle.session.specs.Possible.{possible_in}
 use Rattle.session.specs.Sessions.{stand_of, most_of, resumed}
-use Rattle.session.specs.declared.Given.{Given}
-use Rattle.session.specs.declared.Outcome.{Outcome}
-use Rattle.session.specs.declared.Outcome.TheVariants.{Refused, Ask, Reported}
 use Rattle.session.specs.declared.Report.{Report}
 use Rattle.session.specs.declared.Session.{Session}
 use Rattle.session.proofs.Closed.{Within}
 use Rattle.session.proofs.Counted.{count_in, stand-resumed, count-step}
 use Rattle.flow.proofs.Moves.{proper-at}
 use Rattle.session.proofs.Possibility.{parts, stands_of, step-possible}
+use Rattle.std.specs.Prelude.{Ok}
 use Rattle.session.proofs.Stepping.{fits, handing-stands, standing-new, header-kept, step-running, step-finished, given_back}
+use Rattle.session.specs.Outcomes.{Given, Outcome, Refused, Ask, Reported}
 
 -- one packet, one request
 same-packet : (p q : Packet) (o : Outcome) → o ≡ Ask p → o ≡ Ask q → p ≡ q
@@ -70,7 +68,7 @@ is-finished s x t c e = by s.finished refl
     by true q = q
     by false q = absurd (clash (rw q at e))
 
-module _ (g : Geometry) (h : Header) (bytes : List ℕ) (found : lookup_of h.part h.macros ≡ Found g)
+module _ (g : Geometry) (h : Header) (bytes : List ℕ) (found : lookup_of h.part h.macros ≡ Ok g)
     (size : length bytes ≡ image_size g) where
   abbrev i : Image
   i = image_of g h bytes
@@ -87,7 +85,7 @@ module _ (g : Geometry) (h : Header) (bytes : List ℕ) (found : lookup_of h.par
     pub traffic : s.traffic ≡ handed_out i r
     pub count : count_in r.session ≡ r.traffic.transfers
 
-  found_of : (s : State) (r : Run) → Follows s r → lookup_of s.session.header.part s.session.header.macros ≡ Found g
+  found_of : (s : State) (r : Run) → Follows s r → lookup_of s.session.header.part s.session.header.macros ≡ Ok g
   found_of s r f = rw f.header found
 
   -- the standing move is met as the run meets it
@@ -101,7 +99,7 @@ module _ (g : Geometry) (h : Header) (bytes : List ℕ) (found : lookup_of h.par
     inside : Within i p c
     inside = rw (f.session ∙ is) at (stands_of g h bytes s.session (parts g s.session f.can))
 
-    meant : decode (packet_of m.request) ≡ Known m.request
+    meant : decode (packet_of m.request) ≡ Some m.request
     meant = (proper-at i p.entry p.at).meant
 
     fitting : answers m.request x.answer ≡ true

@@ -1,6 +1,6 @@
 -- The claims on every session that a call gave. Assumes nothing.
 use mathlib.Core.Bool.{Bool, true, false, cond}
-use mathlib.Core.List.{List, [], ◌∷◌}
+use mathlib.Core.List.{List}
 use mathlib.Core.Path.{◌≡◌, refl, sym, ap, subst, ◌∙◌}
 use Prim.Native.Nat.{ℕ, ◌≤◌}
 use native.Mathlib.Omega.{arith}
@@ -13,39 +13,23 @@ use Rattle.flow.specs.declared.Answer.{Answer}
 use Rattle.image.specs.Checks.{fault_in, image_fault}
 use Rattle.image.specs.Image.{Image, image_of}
 use Rattle.image.specs.declared.Header.{Header}
-use Rattle.parts.specs.Parts.{part_table, offers, look_in, lookup_of}
+use Rattle.parts.specs.Parts.{Lookup, lookup_of}
 use Rattle.parts.specs.Sizes.{image_size}
 use Rattle.parts.specs.declared.Geometry.{Geometry}
-use Rattle.parts.specs.declared.Lookup.{Lookup}
-use Rattle.parts.specs.declared.Lookup.TheVariants.{Found, Refused as NotFound}
-use Rattle.parts.specs.declared.Part.{Part}
 use Rattle.flow.specs.Packets.{answers}
+use Rattle.refusals.proofs.Numbers.{some_number}
 use Rattle.session.specs.Given.{start_refused, start_of, refusing, outcome_at, giving, step_on, step_for, step_with}
 use Rattle.session.specs.Kept.{Unrefused, SessionClaims}
 use Rattle.session.specs.Possible.{possible_in, possible_for, possible}
 use Rattle.session.specs.Sessions.{stand_of, most_of, first_for, resumed}
-use Rattle.session.specs.declared.Given.{Given}
-use Rattle.session.specs.declared.Outcome.{Outcome}
-use Rattle.session.specs.declared.Outcome.TheVariants.{Refused, Reported}
 use Rattle.session.specs.declared.Report.{Report}
 use Rattle.session.specs.declared.Session.{Session}
 use Rattle.session.proofs.Counted.{count_in}
 use Rattle.session.proofs.Demand.{first-possible, start_gives}
 use Rattle.session.proofs.Possibility.{parts, step-possible}
+use Rattle.std.specs.Prelude.{Ok, Err}
 use Rattle.session.proofs.Stepping.{looked-up, header-kept, on-finished, on-fit, on-misfit, given_back}
-
--- a part that is not in the table is 11
-eleven : (ps : List Part) (k m n : ℕ) → look_in ps k m ≡ NotFound n → n ≡ 11
-unfolding look_in
-eleven [] k m n e = cc
-eleven (p ∷ ps) k m n e = by (λ f. eleven ps k m n f) (offers p k m) refl
-  where
-    by : (look_in ps k m ≡ NotFound n → n ≡ 11) → (t : Bool) → offers p k m ≡ t → n ≡ 11
-    by rest true o = let is : Found (record { part = p; macros = m }) ≡ NotFound n = rw o at e in let z : ◌≡◌ {A = ℕ} 0 1 = cc in absurd (omega arith)
-    by rest false o = rest (rw o at e)
-
-not-zero : (n k m : ℕ) → lookup_of k m ≡ NotFound n → n ≡ 0 → ⊥
-not-zero n k m e z = omega (arith, eleven part_table k m n e)
+use Rattle.session.specs.Outcomes.{Given, Outcome, Refused, Reported}
 
 start-faulty : (h : Header) (bytes : List ℕ) (leave : Bool) → eqb (image_fault h bytes) 0 ≡ false → start_of h bytes leave ≡ start_refused (image_fault h bytes)
 unfolding start_of
@@ -55,7 +39,7 @@ start-faulty h bytes leave e = simp e
 possible-by : (s : Session) {l : Lookup} → lookup_of s.header.part s.header.macros ≡ l → possible s ≡ possible_for l s
 possible-by s e = ap (λ (k : Lookup). possible_for k s) e
 
-module _ (g : Geometry) (s : Session) (bytes : List ℕ) (a : Answer) (found : lookup_of s.header.part s.header.macros ≡ Found g) where
+module _ (g : Geometry) (s : Session) (bytes : List ℕ) (a : Answer) (found : lookup_of s.header.part s.header.macros ≡ Ok g) where
   -- what an unrefused step gave is possible, and its count within the formula
   Kept : Given → Type 0
   Kept r = Unrefused r → possible_in g r.session ≡ true
@@ -72,13 +56,13 @@ module _ (g : Geometry) (s : Session) (bytes : List ℕ) (a : Answer) (found : l
       subst Kept (sym (on-fit g s bytes a e f)) (λ h. step-possible g bytes s a can)
   kept_on can false false e f = subst Kept (sym (on-misfit g s bytes a e f)) (kept-refusing 14)
 
-  kept_for : (t u : Bool) → possible_in g s ≡ t → eqb (length bytes) (image_size g) ≡ u → Kept (step_for (Found g) s bytes a)
+  kept_for : (t u : Bool) → possible_in g s ≡ t → eqb (length bytes) (image_size g) ≡ u → Kept (step_for (Ok g) s bytes a)
   kept_for true true e f = subst Kept (sym (simp (e, f))) (kept_on e s.finished _ refl refl)
   kept_for true false e f = subst Kept (sym (simp (e, f))) (kept-refusing 12)
   kept_for false u e f = subst Kept (sym (simp e)) (kept-refusing 13)
 
   kept_step : Kept (step_with s bytes a)
-  kept_step = subst Kept (sym (looked-up s bytes a (Found g) found)) (kept_for (possible_in g s) (eqb (length bytes) (image_size g)) refl refl)
+  kept_step = subst Kept (sym (looked-up s bytes a (Ok g) found)) (kept_for (possible_in g s) (eqb (length bytes) (image_size g)) refl refl)
 
 -- ---- the header is kept, and a report's count is the session's
 
@@ -112,8 +96,8 @@ module _ (s : Session) (bytes : List ℕ) (a : Answer) where
   right-either false r r' h h' = h'
 
   right-for : (l : Lookup) → Right (step_for l s bytes a)
-  right-for (NotFound n) = right-refusing 13
-  right-for (Found g) =
+  right-for (Err n) = right-refusing 13
+  right-for (Ok g) =
       let i = image_of g s.header bytes in
       right-either (possible_in g s) _ _
       (right-either (eqb (length bytes) (image_size g)) _ _
@@ -136,14 +120,14 @@ unfolding Kept
 kept s bytes a h = by (lookup_of s.header.part s.header.macros) refl
   where
     by : (l : Lookup) → lookup_of s.header.part s.header.macros ≡ l → possible (step_with s bytes a).session ≡ true
-    by (NotFound n) e = absurd (h 13 (ap (λ (r : Given). r.outcome) (looked-up s bytes a (NotFound n) e)))
-    by (Found g) e =
+    by (Err n) e = absurd (h 13 (ap (λ (r : Given). r.outcome) (looked-up s bytes a (Err n) e)))
+    by (Ok g) e =
         let same = (right-step s bytes a).header in
-        let found : lookup_of (step_with s bytes a).session.header.part (step_with s bytes a).session.header.macros ≡ Found g
+        let found : lookup_of (step_with s bytes a).session.header.part (step_with s bytes a).session.header.macros ≡ Ok g
         = ap (λ (k : Header). lookup_of k.part k.macros) same ∙ e in
         possible-by (step_with s bytes a).session found ∙ kept_step g s bytes a e h
 
-within : (s : Session) (bytes : List ℕ) (a : Answer) (g : Geometry) (r : Report) → lookup_of s.header.part s.header.macros ≡ Found g
+within : (s : Session) (bytes : List ℕ) (a : Answer) (g : Geometry) (r : Report) → lookup_of s.header.part s.header.macros ≡ Ok g
     → (step_with s bytes a).outcome ≡ Reported r
     → r.transfers ≤ most_of g
 unfolding Kept
@@ -159,8 +143,8 @@ begins : (h : Header) (bytes : List ℕ) (leave : Bool) → Unrefused (start_of 
 begins h bytes leave free = by (eqb (image_fault h bytes) 0) refl
   where
     found_in : (l : Lookup) → lookup_of h.part h.macros ≡ l → image_fault h bytes ≡ 0 → possible (first_for h) ≡ true
-    found_in (NotFound n) e z = absurd (not-zero n h.part h.macros e (ap (λ (k : Lookup). fault_in k h bytes) (sym e) ∙ z))
-    found_in (Found g) e z = possible-by (first_for h) e ∙ first-possible g h bytes e z
+    found_in (Err r) e z = absurd (omega (arith, some_number r, ap (λ (k : Lookup). fault_in k h bytes) (sym e) ∙ z))
+    found_in (Ok g) e z = possible-by (first_for h) e ∙ first-possible g h bytes e z
 
     by : (t : Bool) → eqb (image_fault h bytes) 0 ≡ t → possible (start_of h bytes leave).session ≡ true
     by true e =

@@ -17,11 +17,11 @@ use Rattle.parts.proofs.Table.{both, everywhere, at-found}
 use Rattle.parts.specs.Parts.{part_table, lookup_of}
 use Rattle.parts.specs.Sizes.{rows_of, locks_in}
 use Rattle.parts.specs.declared.Geometry.{Geometry}
-use Rattle.parts.specs.declared.Lookup.TheVariants.{Found}
 use Rattle.session.specs.Possible.{possible_in}
 use Rattle.session.specs.Sessions.{most_of}
 use Rattle.session.specs.declared.Session.{Session}
 use Rattle.session.proofs.Closed.{Within}
+use Rattle.std.specs.Prelude.{Ok}
 use Rattle.session.proofs.Possibility.{parts, stands_of}
 
 fits : Geometry → Bool
@@ -31,7 +31,7 @@ table_fits : everywhere fits part_table ≡ true
 unfolding fits most_traffic plan lock_plan loops rows_of locks_in
 table_fits = refl
 
-module _ (n m : ℕ) {g : Geometry} (found : lookup_of n m ≡ Found g) where
+module _ (n m : ℕ) {g : Geometry} (found : lookup_of n m ≡ Ok g) where
   pub most-small : most_of g < 2 ^ 32
   unfolding fits
   most-small = ltb-true _ _ (both (ltb (most_of g) (2 ^ 32)) _ (at-found fits table_fits n m found)).0
@@ -48,7 +48,7 @@ module _ (n m : ℕ) {g : Geometry} (found : lookup_of n m ≡ Found g) where
       by FromProtected e = let s = ltb-true (plan g FromProtected + 4) (2 ^ 31) (both (ltb (plan g FromOpen + 2) (2 ^ 31)) _ rest).1 in omega arith
 
 -- a possible session's index is in range
-pub in-range : (g : Geometry) (s : Session) → lookup_of s.header.part s.header.macros ≡ Found g → possible_in g s ≡ true → s.finished ≡ false
+pub in-range : (g : Geometry) (s : Session) → lookup_of s.header.part s.header.macros ≡ Ok g → possible_in g s ≡ true → s.finished ≡ false
     → s.position.at < 2 ^ 31
 in-range g s found can e =
     let w : Within (image_of g s.header []) s.position s.counters = rw e at (stands_of g s.header [] s (parts g s can)) in

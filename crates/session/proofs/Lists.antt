@@ -8,8 +8,8 @@ use Rattle.parts.specs.declared.Geometry.{Geometry}
 use Rattle.session.specs.Calls.{State, Steps, none, answer, refusal, later, called}
 use Rattle.session.specs.Given.{step_with}
 use Rattle.session.specs.Lists.{ListExamples}
-use Rattle.session.specs.declared.Outcome.TheVariants.{Refused}
 use Rattle.session.proofs.Stepping.{given_back}
+use Rattle.session.specs.Outcomes.{Refused}
 
 -- a refused step leaves the state
 unmoved : (s : State) (lent : List ℕ) (a : Answer) (number : ℕ) → (step_with s.session lent a).outcome ≡ Refused number

@@ -19,10 +19,9 @@ use Rattle.parts.specs.declared.Geometry.{Geometry}
 use Rattle.session.specs.Given.{start_of, started_on}
 use Rattle.session.specs.Possible.{header_fits, running_fits, report_fits, possible_in}
 use Rattle.session.specs.Sessions.{stand_of, most_of, resumed}
-use Rattle.session.specs.declared.Given.{Given}
-use Rattle.session.specs.declared.Outcome.TheVariants.{Refused, Ask}
 use Rattle.session.specs.declared.Session.{Session}
 use Rattle.session.proofs.Closed.{Within, Stands, step-stands}
+use Rattle.session.specs.Outcomes.{Given, Refused, Ask}
 
 pub both_true : {a b : Bool} → a ≡ true → b ≡ true → (a && b) ≡ true
 both_true p q = rw (p, q)

@@ -7,6 +7,7 @@ use native.Mathlib.Omega.{arith}
 use borrow.Author.Tests.{eq-eqb}
 use lib.Dec.{eqb}
 use lib.ListN.{length}
+use Rattle.std.proofs.Common.{Some}
 use Rattle.flow.specs.Exchange.{meet_on, transferred, met, killed, barred, carried_out}
 use Rattle.flow.specs.Packets.{is_reset, answers}
 use Rattle.flow.specs.Plan.{Traffic}
@@ -15,23 +16,19 @@ use Rattle.flow.specs.Session.{running, reported, move_at, step_of}
 use Rattle.flow.specs.Session as Flow
 use Rattle.flow.specs.Target.{Target, Lists, next_event}
 use Rattle.flow.specs.declared.Answer.{Answer}
-use Rattle.flow.specs.declared.Decoded.TheVariants.{Known}
 use Rattle.flow.specs.declared.Reply.{Reply}
 use Rattle.flow.specs.declared.Request.{Request}
 use Rattle.flow.specs.declared.Request.TheVariants.{Xres, LineReset, ReadIdcode, ReadDrw, WriteTar, WriteDrw, WriteSetup}
 use Rattle.image.specs.Image.{Image, image_of}
-use Rattle.parts.specs.Parts.{lookup_of}
+use Rattle.parts.specs.Parts.{Lookup, lookup_of}
 use Rattle.parts.specs.Sizes.{image_size}
 use Rattle.parts.specs.declared.Geometry.{Geometry}
-use Rattle.parts.specs.declared.Lookup.{Lookup}
-use Rattle.parts.specs.declared.Lookup.TheVariants.{Found, Refused as NotFound}
-use Rattle.session.specs.Calls.{answer, handing, standing}
+use Rattle.session.specs.Calls.{handing, standing}
 use Rattle.session.specs.Given.{refusing, outcome_at, giving, step_on, step_for, step_with}
+use Rattle.session.specs.Outcomes.{Given, Outcome, Refused}
 use Rattle.session.specs.Possible.{possible_in}
 use Rattle.session.specs.Sessions.{stand_of, resumed}
-use Rattle.session.specs.declared.Given.{Given}
-use Rattle.session.specs.declared.Outcome.{Outcome}
-use Rattle.session.specs.declared.Outcome.TheVariants.{Refused}
+use Rattle.std.specs.Prelude.{Ok, Err}
 use Rattle.session.specs.declared.Session.{Session}
 
 -- ---- the target answers a reset with 'reset done', and every other request by an acknowledgement
@@ -45,7 +42,7 @@ transfer-fits : (g : Geometry) (q : Request) (l : Lists) (b : Target) → answer
 unfolding transferred
 transfer-fits g q l b = met-fits (not (killed b) && not (barred g q b) && carried_out (next_event l.line).outcome) g q l _ b
 
-pub fits : (g : Geometry) (q : Request) (l : Lists) (b : Target) → answers q (meet_on g (Known q) l b).answer ≡ true
+pub fits : (g : Geometry) (q : Request) (l : Lists) (b : Target) → answers q (meet_on g (Some q) l b).answer ≡ true
 fits g Xres l b = refl
 fits g LineReset l b = refl
 fits g ReadIdcode l b = transfer-fits g ReadIdcode l b
@@ -87,10 +84,10 @@ module _ (g : Geometry) (s : Session) (bytes : List ℕ) (a : Answer) (goes : s.
   pub on-misfit : answers (move_at (image_of g s.header bytes) s.position).request a ≡ false → step_on g s bytes a ≡ refusing s 14
   on-misfit e = simp (goes, e)
 
-module _ (g : Geometry) (s : Session) (bytes : List ℕ) (a : Answer) (found : lookup_of s.header.part s.header.macros ≡ Found g)
+module _ (g : Geometry) (s : Session) (bytes : List ℕ) (a : Answer) (found : lookup_of s.header.part s.header.macros ≡ Ok g)
     (can : possible_in g s ≡ true) (size : length bytes ≡ image_size g) where
   unrefused : step_with s bytes a ≡ step_on g s bytes a
-  unrefused = looked-up s bytes a (Found g) found ∙ simp (can, eq-eqb (length bytes) (image_size g) size)
+  unrefused = looked-up s bytes a (Ok g) found ∙ simp (can, eq-eqb (length bytes) (image_size g) size)
 
   pub step-running : s.finished ≡ false → answers (move_at (image_of g s.header bytes) s.position).request a ≡ true
       → step_with s bytes a ≡ giving (image_of g s.header bytes) (resumed g s (step_of (image_of g s.header bytes) (stand_of s) a))
@@ -122,8 +119,8 @@ module _ (s : Session) (bytes : List ℕ) (a : Answer) where
   back-giving i s' n e = absurd (not-refused i (stand_of s') n e)
 
   back-for : (l : Lookup) → Back (step_for l s bytes a)
-  back-for (NotFound n) = back-refusing 13
-  back-for (Found g) =
+  back-for (Err n) = back-refusing 13
+  back-for (Ok g) =
       let i = image_of g s.header bytes in
       back_either (possible_in g s) _ _
       (back_either (eqb (length bytes) (image_size g)) _ _

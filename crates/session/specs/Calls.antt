@@ -1,19 +1,16 @@
 -- Any list of calls on one target: document 01, 'In such a list a step carries the board's answer to the last request, or anything
 -- that 12 or 14 refuses, after which the request still stands; after the report, any answer.' Assumes nothing.
-use Rattle.std.specs.Prelude.{List, ◌≡◌, ℕ, suc}
+use Rattle.std.specs.Prelude.{List, ◌≡◌, ℕ, suc, Option, Some, None}
 use Rattle.flow.specs.Exchange.{decode, Met, meet}
 use Rattle.flow.specs.Monitor.{Monitor, watching, link_error, nothing_seen, watch}
 use Rattle.flow.specs.Plan.{Traffic, no_traffic, counting_packet}
 use Rattle.flow.specs.Target.{Target, Lists}
 use Rattle.flow.specs.declared.Answer.{Answer}
-use Rattle.flow.specs.declared.Decoded.{Decoded}
-use Rattle.flow.specs.declared.Decoded.TheVariants.{Known, Unknown}
 use Rattle.flow.specs.declared.Packet.{Packet}
+use Rattle.flow.specs.declared.Request.{Request}
 use Rattle.parts.specs.declared.Geometry.{Geometry}
 use Rattle.session.specs.Given.{step_with}
-use Rattle.session.specs.declared.Given.{Given}
-use Rattle.session.specs.declared.Outcome.{Outcome}
-use Rattle.session.specs.declared.Outcome.TheVariants.{Refused, Ask, Reported}
+use Rattle.session.specs.Outcomes.{Given, Outcome, Refused, Ask, Reported}
 use Rattle.session.specs.declared.Report.{Report}
 use Rattle.session.specs.declared.Session.{Session}
 
@@ -40,9 +37,9 @@ unanswered (watching x) = link_error 29
 unanswered (link_error n) = link_error n
 
 -- the mishaps are told by what is on the wire
-abbrev pub watch_packet : Geometry → Decoded → Answer → Monitor → Monitor
-watch_packet g (Known q) a m = watch g q a m
-watch_packet g Unknown a m = unanswered m
+abbrev pub watch_packet : Geometry → Option Request → Answer → Monitor → Monitor
+watch_packet g (Some q) a m = watch g q a m
+watch_packet g None a m = unanswered m
 
 -- the session that the last call gave, the request or report that stands, the target, what is left of its free lists, what the
 -- monitor has seen, and the requests handed out, the standing one included

@@ -11,7 +11,7 @@ use Rattle.image.specs.declared.Header.{Header}
 use Rattle.parts.specs.declared.Geometry.{Geometry}
 use Rattle.session.specs.Calls.{Gives, State, Steps, begun, reaction}
 use Rattle.session.specs.Given.{start_of, step_with}
-use Rattle.session.specs.declared.Outcome.TheVariants.{Refused, Ask, Reported}
+use Rattle.session.specs.Outcomes.{Refused, Ask, Reported}
 use Rattle.session.specs.declared.Report.{Report}
 
 -- the image as it is lent: 'The protection bytes (N / 8) follow the flash bytes'

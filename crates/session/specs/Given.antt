@@ -1,5 +1,5 @@
 -- What starting and a step give: document 01, 'Who brings a number about', last paragraph. Assumes nothing.
-use Rattle.std.specs.Prelude.{Bool, ◌&&◌, not, cond, List, ℕ, eqb, length}
+use Rattle.std.specs.Prelude.{Bool, ◌&&◌, not, cond, List, ℕ, eqb, length, Ok, Err}
 use Rattle.flow.specs.Packets.{answers, packet_of}
 use Rattle.flow.specs.Session.{running, reported, move_at, step_of}
 use Rattle.flow.specs.Session as Flow
@@ -8,16 +8,13 @@ use Rattle.flow.specs.declared.Packet as Packets
 use Rattle.image.specs.Checks.{image_fault}
 use Rattle.image.specs.Image.{Image, image_of}
 use Rattle.image.specs.declared.Header.{Header}
-use Rattle.parts.specs.Parts.{lookup_of}
+use Rattle.parts.specs.Parts.{Lookup, lookup_of}
 use Rattle.parts.specs.Sizes.{image_size}
 use Rattle.parts.specs.declared.Geometry.{Geometry}
-use Rattle.parts.specs.declared.Lookup.{Lookup}
-use Rattle.parts.specs.declared.Lookup.TheVariants.{Found, Refused}
 use Rattle.session.specs.Possible.{possible_in}
 use Rattle.session.specs.Sessions.{stand_of, no_session, first_for, resumed}
-use Rattle.session.specs.declared.Given.{Given}
-use Rattle.session.specs.declared.Outcome.{Outcome}
-use Rattle.session.specs.declared.Outcome.TheVariants as Outcomes
+use Rattle.session.specs.Outcomes as Outcomes
+use Rattle.session.specs.Outcomes.{Given, Outcome}
 use Rattle.session.specs.declared.Session.{Session}
 
 -- ---- starting
@@ -63,8 +60,8 @@ step_on g s bytes a =
 
 -- 'A step checks 13, 12, 14'
 abbrev pub step_for : Lookup → Session → List ℕ → Answer → Given
-step_for (Refused n) s bytes a = refusing s 13
-step_for (Found g) s bytes a =
+step_for (Err n) s bytes a = refusing s 13
+step_for (Ok g) s bytes a =
     cond (possible_in g s) (cond (eqb (length bytes) (image_size g)) (step_on g s bytes a) (refusing s 12)) (refusing s 13)
 
 unfoldable pub step_with : Session → List ℕ → Answer → Given

@@ -2,6 +2,8 @@ pub mod Sessions
 pub mod Possible
 pub mod Reports
 pub mod Lent
+pub mod Outcomes
+pub mod Told
 pub mod Given
 pub mod Calls
 pub mod Claim

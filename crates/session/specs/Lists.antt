@@ -9,7 +9,7 @@ use Rattle.flow.specs.declared.Packet.TheVariants.{Xres, LineReset, Read, Write}
 use Rattle.parts.specs.declared.Geometry.{Geometry}
 use Rattle.session.specs.Calls.{State, Steps, watch_packet}
 use Rattle.session.specs.Given.{step_with}
-use Rattle.session.specs.declared.Outcome.TheVariants.{Refused, Ask, Reported}
+use Rattle.session.specs.Outcomes.{Refused, Ask, Reported}
 use Rattle.session.specs.declared.Report.{Report}
 
 -- a list of one step, which carries the board's answer or not, leads from a state to one with this session and this board

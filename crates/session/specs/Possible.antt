@@ -1,14 +1,12 @@
 -- 13: 'session impossible for its part (never one that starting or a step gave)'. Assumes nothing.
-use Rattle.std.specs.Prelude.{Bool, false, ◌&&◌, ◌||◌, cond, ℕ, eqb, leb, ltb}
+use Rattle.std.specs.Prelude.{Bool, false, ◌&&◌, ◌||◌, cond, ℕ, eqb, leb, ltb, Ok, Err}
 use Rattle.flow.specs.Session.{move_count}
 use Rattle.flow.specs.declared.Counters.{Counters}
 use Rattle.flow.specs.declared.Position.{Position}
 use Rattle.image.specs.Checks.{version_fits, image_id_fits, level_fits}
 use Rattle.image.specs.declared.Header.{Header}
-use Rattle.parts.specs.Parts.{lookup_of}
+use Rattle.parts.specs.Parts.{Lookup, lookup_of}
 use Rattle.parts.specs.declared.Geometry.{Geometry}
-use Rattle.parts.specs.declared.Lookup.{Lookup}
-use Rattle.parts.specs.declared.Lookup.TheVariants.{Found, Refused}
 use Rattle.session.specs.Sessions.{most_of}
 use Rattle.session.specs.declared.Session.{Session}
 
@@ -34,8 +32,8 @@ possible_in g s =
     && cond s.finished (report_fits s.number s.step) (running_fits g s.position s.counters)
 
 abbrev pub possible_for : Lookup → Session → Bool
-possible_for (Refused n) s = false
-possible_for (Found g) s = possible_in g s
+possible_for (Err n) s = false
+possible_for (Ok g) s = possible_in g s
 
 abbrev pub possible : Session → Bool
 possible s = possible_for (lookup_of s.header.part s.header.macros) s

@@ -7,7 +7,7 @@ use Rattle.image.specs.declared.Header.{Header}
 use Rattle.parts.specs.declared.Geometry.{Geometry}
 use Rattle.session.specs.Calls.{State, Steps, begun}
 use Rattle.session.specs.Given.{start_of}
-use Rattle.session.specs.declared.Outcome.TheVariants.{Refused, Reported}
+use Rattle.session.specs.Outcomes.{Refused, Reported}
 use Rattle.session.specs.declared.Report.{Report}
 
 -- the image i and the target b at the start; the state s after a list of steps

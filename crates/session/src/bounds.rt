@@ -11,37 +11,25 @@ use parts::Geometry;
 fn header_fits(g: Geometry, h: Header) -> bool
     ensures { result ≡ header_fits g h }
 {
-    if image::version_fits(h) {
-        if image::id_fits(g, h) {
-            return image::level_fits(h.level);
-        }
-    }
-    false
+    image::version_fits(h) && image::id_fits(g, h) && image::level_fits(h.level)
 }
 
 // Whether a running session's index and counts are in range.
 fn running_fits(g: Geometry, p: Position, c: Counters) -> bool
     ensures { result ≡ running_fits g p c }
 {
-    let y = p.entry;
-    if (p.at as usize) < move_counts::move_count(g, y) {
-        if c.waits <= 16 {
-            if c.polls < 10000 {
-                return c.attempts < 30;
-            }
-        }
-    }
-    false
+    (p.at as usize) < move_counts::move_count(g, p.entry)
+        && c.waits <= 16
+        && c.polls < 10000
+        && c.attempts < 30
 }
 
 // Whether a report that is not done can have this number.
+// Kept: what may not change: check 13 is a test of any byte, by the definition `is_failure`.
 fn is_failure(number: u8) -> bool
     ensures { result ≡ is_failure number }
 {
-    match number {
-        16..=30 | 33 => true,
-        0..=15 | 31 | 32 | 34..=255 => false,
-    }
+    matches!(number, 16..=30 | 33)
 }
 
 // Whether a report has a number and a step that a report can have.
@@ -49,12 +37,10 @@ fn report_fits(number: u8, step: u8) -> bool
     ensures { result ≡ report_fits number step }
 {
     if number == 0 {
-        return step == 9;
+        step == 9
+    } else {
+        is_failure(number) && matches!(step, 1..=9)
     }
-    if is_failure(number) {
-        return 1 <= step && step <= 9;
-    }
-    false
 }
 
 // Whether a session is possible for its part (13).
@@ -62,17 +48,12 @@ fn report_fits(number: u8, step: u8) -> bool
 pub(crate) fn possible_in(g: Geometry, s: Session) -> bool
     ensures { result ≡ possible_in g s }
 {
-    let h = s.header;
-    if !header_fits(g, h) {
-        return false;
-    }
-    if plan::most_transfers(g) < (s.transfers as u64) {
+    if !header_fits(g, s.header) || plan::most_transfers(g) < u64::from(s.transfers) {
         return false;
     }
     if s.finished {
-        return report_fits(s.number, s.step);
+        report_fits(s.number, s.step)
+    } else {
+        running_fits(g, s.position, s.counters)
     }
-    let p = s.position;
-    let c = s.counters;
-    running_fits(g, p, c)
 }

@@ -1,23 +1,28 @@
 // Starting and stepping a session: one request out, one answer in (document 01, 'Flow' and 'Who brings a number about').
 #![tactic(auto)]
 
-ghost use Rattle.std.specs.Prelude.{true, ◌≡◌};
-ghost use Rattle.image.specs.Image.{image_of};
-ghost use Rattle.session.specs.Given.{start_refused, wants_leave, start_of, refusing, outcome_at, giving, step_on, step_with};
+ghost use Rattle.std.specs.Prelude.{true, cond, ◌≡◌, eqb};
+ghost use Rattle.image.specs.Checks.{image_fault};
+ghost use Rattle.refusals.specs.Refusals.{refusal_number, number_in};
+ghost use Rattle.session.specs.Given.{start_refused, wants_leave, start_of, refusing, step_on, step_with};
+ghost use Rattle.session.specs.Told.{given_told};
 ghost use Rattle.session.specs.Possible.{possible_in};
-ghost use Rattle.session.specs.Lent.{Lent};
-ghost use Rattle.session.specs.Sessions.{stand_of, first_for};
+ghost use Rattle.session.specs.Sessions.{first_for};
 
 mod bounds;
+mod held;
 mod moving;
 
 use bounds::possible_in;
 use flow::{Answer, Counters, Entry, Packet, Position};
+use held::Held;
 use image::Header;
 use moving::advanced;
-use parts::{Geometry, Lookup};
+use parts::{Geometry, Level};
+use refusals::Refusal;
 
 // A session: what it holds of the image, where it stands or what it reported, and the reads and writes answered so far.
+// Kept: the C interface: a session's 45 bytes hold each field whatever `finished` says, and a step gives them back; an enum would drop some.
 #[derive(Clone, Copy)]
 pub struct Session {
     pub header: Header,
@@ -30,6 +35,7 @@ pub struct Session {
 }
 
 // A report: its number (0 done), the flow step then running, and the reads and writes handed out.
+// Kept: what may not change: a report's number is any byte in the definitions `reported` and `report_fits`, and in the outcome's bytes.
 #[derive(Clone, Copy)]
 pub struct Report {
     pub number: u8,
@@ -37,19 +43,27 @@ pub struct Report {
     pub transfers: u32,
 }
 
-// What a call gives beside the session.
+// What stands after a call that is not refused: a request, or the report.
 #[derive(Clone, Copy)]
 pub enum Outcome {
-    Refused(u8),
     Ask(Packet),
     Reported(Report),
 }
 
+// What a call gives; the session with a refusal too.
 #[derive(Clone, Copy)]
 pub struct Given {
     pub session: Session,
-    pub outcome: Outcome,
+    pub outcome: Result<Outcome, Refusal>,
 }
+
+// The counters where none counts.
+pub(crate) const NO_COUNTS: Counters = Counters {
+    waits: 0,
+    polls: 0,
+    attempts: 0,
+    kept: 0,
+};
 
 // The session of a given header at its start.
 fn first_session(h: Header) -> Session
@@ -61,12 +75,7 @@ fn first_session(h: Header) -> Session
             entry: Entry::FromOpen,
             at: 0,
         },
-        counters: Counters {
-            waits: 0,
-            polls: 0,
-            attempts: 0,
-            kept: 0,
-        },
+        counters: NO_COUNTS,
         transfers: 0,
         finished: false,
         number: 0,
@@ -75,20 +84,12 @@ fn first_session(h: Header) -> Session
 }
 
 // A refused start: a session of zeros.
-fn start_refused(n: u8) -> Given
-    ensures { result ≡ start_refused n }
+fn start_refused(refusal: Refusal) -> Given
+    ensures { given_told result ≡ start_refused (refusal_number refusal) }
 {
-    let h = Header {
-        part: 0,
-        macros: 0,
-        sum: 0,
-        metadata: [0u8; 12],
-        level: 0,
-    };
-    let s = first_session(h);
     Given {
-        session: s,
-        outcome: Outcome::Refused(n),
+        session: first_session(Header::ZERO),
+        outcome: Err(refusal),
     }
 }
 
@@ -96,112 +97,82 @@ fn start_refused(n: u8) -> Given
 fn wants_leave(h: Header, leave: bool) -> bool
     ensures { result ≡ wants_leave h leave }
 {
-    if h.level == 4 {
-        return !leave;
-    }
-    false
+    matches!(parts::read_level(h.level), Level::Kill) && !leave
 }
 
+// The checks of a start: 11, 12, 6 to 10, then 15.
+fn check_start(h: Header, bytes: &[u8], leave: bool) -> Result<(), Refusal>
+    ensures { number_in result ≡ cond (eqb (image_fault h bytes.now) 0) (cond (wants_leave h leave) 15 0) (image_fault h bytes.now) }
+{
+    image::check(h, bytes)?;
+    if wants_leave(h, leave) {
+        return Err(Refusal::KillWithoutLeave);
+    }
+    Ok(())
+}
+
+// Kept: what may not change: header and bytes are a caller's raw input, before the checks (clause `given`).
 // Starts a session on an image: checks 11, 12, 6 to 10, then 15; the first request is XRES.
 #[tactic(auto, unfolding(crate::specs::Given::start_of))]
 pub fn start(h: Header, bytes: &[u8], leave: bool) -> Given
-    ensures given { result ≡ start_of h bytes.now leave }
+    ensures given { given_told result ≡ start_of h bytes.now leave }
 {
-    let n = image::check(h, bytes);
-    if n != 0 {
-        return start_refused(n);
-    }
-    if wants_leave(h, leave) {
-        return start_refused(15);
-    }
-    let s = first_session(h);
-    Given {
-        session: s,
-        outcome: Outcome::Ask(Packet::Xres),
-    }
-}
-
-// What stands in a session: its report, or the request of its move.
-fn outcome_of(g: Geometry, s: Session, bytes: &[u8]) -> Outcome
-    requires { Lent g s bytes.now }
-    ensures { result ≡ outcome_at (image_of g s.header bytes.now) (stand_of s) }
-{
-    if s.finished {
-        return Outcome::Reported(Report {
-            number: s.number,
-            step: s.step,
-            transfers: s.transfers,
-        });
-    }
-    let h = s.header;
-    let p = s.position;
-    let y = p.entry;
-    let m = moves::move_at(g, h, bytes, y, p.at);
-    let q = m.request;
-    Outcome::Ask(requests::packet_of(q))
-}
-
-// A session with what stands in it.
-fn give(g: Geometry, s: Session, bytes: &[u8]) -> Given
-    requires { Lent g s bytes.now }
-    ensures { result ≡ giving (image_of g s.header bytes.now) s }
-{
-    let o = outcome_of(g, s, bytes);
-    Given {
-        session: s,
-        outcome: o,
+    match check_start(h, bytes, leave) {
+        Ok(()) => Given {
+            session: first_session(h),
+            outcome: Ok(Outcome::Ask(Packet::Xres)),
+        },
+        Err(refusal) => start_refused(refusal),
     }
 }
 
 // A refused step gives the session back.
-fn refuse(s: Session, n: u8) -> Given
-    ensures { result ≡ refusing s n }
+fn refuse(s: Session, refusal: Refusal) -> Given
+    ensures { given_told result ≡ refusing s (refusal_number refusal) }
 {
-    let same = s;
     Given {
-        session: same,
-        outcome: Outcome::Refused(n),
+        session: s,
+        outcome: Err(refusal),
     }
 }
 
 // A step on a possible session with an image of its size.
-fn step_on(g: Geometry, s: Session, bytes: &[u8], a: Answer) -> Given
-    requires fact_1 { Lent g s bytes.now }
-    requires fact_2 { possible_in g s ≡ true }
-    ensures { result ≡ step_on g s bytes.now a }
+fn step_on(held: &Held, a: Answer) -> Given
+    requires possible { possible_in held.now.geometry held.now.session ≡ true }
+    ensures { let h = held.now in given_told result ≡ step_on h.geometry h.session h.bytes.now a }
 {
-    if s.finished {
-        return give(g, s, bytes);
+    if held.session.finished {
+        return held.give();
     }
-    let h = s.header;
-    let p = s.position;
-    let y = p.entry;
-    let m = moves::move_at(g, h, bytes, y, p.at);
-    let q = m.request;
-    if requests::kinds::answer_fits(q, a) {
-        let t = advanced(g, s, bytes, m, a);
-        return give(g, t, bytes);
+    let m = held.standing_move();
+    if requests::kinds::answer_fits(m.request, a) {
+        let next = Held {
+            geometry: held.geometry,
+            session: advanced(held, m, a),
+            bytes: held.bytes,
+        };
+        return next.give();
     }
-    refuse(s, 14)
+    refuse(held.session, Refusal::WrongAnswer)
 }
 
 // Takes the answer to the standing request: checks 13, 12, 14; gives the next request or the report.
 #[tactic(auto, unfolding(crate::specs::Given::step_with))]
 pub fn step(s: Session, bytes: &[u8], a: Answer) -> Given
-    ensures given { result ≡ step_with s bytes.now a }
+    ensures given { given_told result ≡ step_with s bytes.now a }
 {
-    let h = s.header;
-    let found = parts::find(h.part, h.macros);
-    match found {
-        Lookup::Refused(_) => refuse(s, 13),
-        Lookup::Found(g) => {
-            if !possible_in(g, s) {
-                return refuse(s, 13);
-            }
+    match parts::find(s.header.part, s.header.macros) {
+        Ok(g) if possible_in(g, s) => {
             if bytes.len() != parts::image_size(g) {
-                return refuse(s, 12);
+                return refuse(s, Refusal::Size);
             }
-            step_on(g, s, bytes, a)
+            let held = Held {
+                geometry: g,
+                session: s,
+                bytes,
+            };
+            step_on(&held, a)
         }
+        _ => refuse(s, Refusal::ImpossibleSession),
     }
 }

@@ -1,74 +1,58 @@
 // The session that an answer leads to.
-ghost use Rattle.std.specs.Prelude.{◌≡◌, ◌-◌, ◌<◌, ◌^◌, min};
+ghost use Rattle.std.specs.Prelude.{◌≡◌, ◌<◌, ◌^◌, min};
 ghost use Rattle.flow.specs.Session.{counted, stand_after, act};
 ghost use Rattle.flow.specs.Session as Flow;
 ghost use Rattle.image.specs.Image.{image_of};
 ghost use Rattle.session.specs.Sessions.{most_of, running_at, reported_at, resumed};
 
-use crate::Session;
+use crate::held::Held;
+use crate::{NO_COUNTS, Session};
 use flow::{Answer, Counters, Move, Next, Position, Request, Way};
-use parts::Geometry;
+use image::Image;
 
 // The count, which stops at document 01's formula.
-fn capped(g: Geometry, count: u64) -> u32
-    requires { most_of g < 2 ^ 32 }
-    ensures { result ≡ min count (most_of g) }
+fn capped(held: &Held, count: u64) -> u32
+    ensures { result ≡ min count (most_of held.now.geometry) }
 {
-    let most = plan::most_transfers(g);
-    if count <= most {
-        count as u32
-    } else {
-        most as u32
-    }
-}
-
-// A difference that stops at 0.
-fn back(at: u32, moves: u32) -> u32
-    ensures { result ≡ at - moves }
-{
-    if moves <= at { at - moves } else { 0 }
+    count.min(plan::most_transfers(held.geometry)) as u32
 }
 
 // The position that a way leads to.
+// Kept: no plainer: `Way` is a closed enum, and each way has its own place.
 fn arrive(w: Way, p: Position) -> Position
     requires { p.at < 2 ^ 31 }
     ensures { result ≡ Flow.arrive w p }
 {
-    let same = p.entry;
     match w {
-        Way::Onward => Position {
-            entry: same,
-            at: p.at + 1,
-        },
+        Way::Onward => Position { at: p.at + 1, ..p },
         Way::Stay => p,
         Way::ToReset => Position {
-            entry: same,
-            at: back(p.at, 1),
+            at: p.at.saturating_sub(1),
+            ..p
         },
         Way::ToPoll => Position {
-            entry: same,
-            at: back(p.at, 2),
+            at: p.at.saturating_sub(2),
+            ..p
         },
-        Way::Enter(y) => Position {
-            entry: y,
+        Way::Enter(entry) => Position {
+            entry,
             at: p.at + 1,
         },
     }
 }
 
 // A session of the same image that goes on so.
-fn running_at(s: Session, p: Position, c: Counters, transfers: u32) -> Session
-    ensures { result ≡ running_at s p c transfers }
+fn running_at(s: Session, position: Position, counters: Counters, transfers: u32) -> Session
+    ensures { result ≡ running_at s position counters transfers }
 {
-    let h = s.header;
     Session {
-        header: h,
-        position: p,
-        counters: c,
-        transfers: transfers,
+        position,
+        counters,
+        transfers,
         finished: false,
         number: 0,
         step: 0,
+        ..s
     }
 }
 
@@ -76,38 +60,30 @@ fn running_at(s: Session, p: Position, c: Counters, transfers: u32) -> Session
 fn reported_at(s: Session, number: u8, step: u8, transfers: u32) -> Session
     ensures { result ≡ reported_at s number step transfers }
 {
-    let h = s.header;
-    let p = s.position;
-    let y = p.entry;
     Session {
-        header: h,
-        position: Position { entry: y, at: 0 },
-        counters: Counters {
-            waits: 0,
-            polls: 0,
-            attempts: 0,
-            kept: 0,
+        position: Position {
+            at: 0,
+            ..s.position
         },
-        transfers: transfers,
+        counters: NO_COUNTS,
+        transfers,
         finished: true,
-        number: number,
-        step: step,
+        number,
+        step,
+        ..s
     }
 }
 
 // The session that an answer leads to.
 #[tactic(auto, unfolding(crate::specs::Sessions::resumed))]
-fn resume(g: Geometry, s: Session, next: Next, step: u8, count: u64) -> Session
-    requires fact_1 { s.position.at < 2 ^ 31 }
-    requires fact_2 { most_of g < 2 ^ 32 }
-    ensures { result ≡ resumed g s (stand_after next s.position step count) }
+fn resume(held: &Held, next: Next, step: u8, count: u64) -> Session
+    requires short { held.now.session.position.at < 2 ^ 31 }
+    ensures { let h = held.now in result ≡ resumed h.geometry h.session (stand_after next h.session.position step count) }
 {
-    let transfers = capped(g, count);
+    let s = held.session;
+    let transfers = capped(held, count);
     match next {
-        Next::Go(w, c) => {
-            let p = s.position;
-            running_at(s, arrive(w, p), c, transfers)
-        }
+        Next::Go(w, c) => running_at(s, arrive(w, s.position), c, transfers),
         Next::Stop(number) => reported_at(s, number, step, transfers),
     }
 }
@@ -117,20 +93,23 @@ fn counted_by(q: Request, transfers: u32) -> u64
     ensures { result ≡ counted q transfers }
 {
     if requests::kinds::is_reset(q) {
-        return transfers as u64;
+        u64::from(transfers)
+    } else {
+        u64::from(transfers) + 1
     }
-    (transfers as u64) + 1
 }
 
 // The session after the standing move is answered.
-pub(crate) fn advanced(g: Geometry, s: Session, bytes: &[u8], m: Move, a: Answer) -> Session
-    requires fact_1 { s.position.at < 2 ^ 31 }
-    requires fact_2 { most_of g < 2 ^ 32 }
-    ensures { result ≡ resumed g s (act (image_of g s.header bytes.now) m a s.position s.counters s.transfers) }
+pub(crate) fn advanced(held: &Held, m: Move, a: Answer) -> Session
+    requires short { held.now.session.position.at < 2 ^ 31 }
+    ensures { let h = held.now in let s = h.session in result ≡ resumed h.geometry s (act (image_of h.geometry s.header h.bytes.now) m a s.position s.counters s.transfers) }
 {
-    let h = s.header;
-    let c = s.counters;
-    let q = m.request;
-    let next = judge::next(g, h, bytes, m, a, c);
-    resume(g, s, next, m.step, counted_by(q, s.transfers))
+    let s = held.session;
+    let image = Image {
+        geometry: held.geometry,
+        header: s.header,
+        bytes: held.bytes,
+    };
+    let next = judge::next(image, m, a, s.counters);
+    resume(held, next, m.step, counted_by(m.request, s.transfers))
 }

@@ -2,23 +2,22 @@
 use mathlib.Core.Bool.{Bool, true, false, ◌&&◌, cond}
 use mathlib.Core.List.{List}
 use mathlib.Core.Path.{◌≡◌, refl}
-use Prim.Native.Nat.{ℕ, zero, suc, ◌+◌, ◌-◌, ◌≤◌, ◌<◌}
+use Prim.Native.Nat.{ℕ, ◌+◌, ◌≤◌, ◌<◌}
 use native.Mathlib.Omega.{arith}
 use borrow.Author.Tests.{le-leb, lt-leb}
 use lib.Dec.{leb}
-use lib.ListN.{length, get_or, set, take, drop}
-use lib.Seq.{sets, drop-cons, length-sets}
+use lib.ListN.{length, take, drop}
+use lib.Seq.{sets, length-sets}
+use Rattle.std.proofs.Common.{append_assoc, drop-drop}
+use borrow.Rule.Slice.PartMut.{put_mid}
+use lib.Seq.{sets-eq}
 use Rattle.storing.specs.Storing.{stored_at}
 
--- one turn of a copying loop that counts what is left
-pub copy_more : (d row : List ℕ) (j i k : ℕ) → 0 < k → i < length row
-    → sets d j (take k (drop i row)) ≡ sets (set d j (get_or row i 0)) (j + 1) (take (k - 1) (drop (i + 1) row))
-copy_more d row j i zero h r = absurd (omega arith)
-copy_more d row j i (suc k) h r =
-    let e : suc k - 1 ≡ k = omega arith in
-    let f : j + 1 ≡ suc j = omega arith in
-    let g : i + 1 ≡ suc i = omega arith in
-    rw (drop-cons row i 0 r, e, f, g)
+-- a part of a list that was written whole, as a store
+pub put_stored : (l vs : List ℕ) (a k : ℕ) → length vs ≡ k → a + k ≤ length l → put_mid a k l vs ≡ sets l a vs
+put_stored l vs a k e h =
+    let fits : a + length vs ≤ length l = omega arith in
+    rw (sets-eq vs l a fits) (simp (append_assoc, drop-drop, e))
 
 -- n bytes of a row, put at an offset
 module _ (part : List ℕ) (to : ℕ) (row : List ℕ) (from n : ℕ) where

@@ -6,19 +6,19 @@ use native.Mathlib.Omega.{arith}
 use borrow.Author.Tests.{eq-eqb, ne_eqb, lt-leb}
 use lib.ListN.{length}
 use lib.Seq.{sets, sets-eq}
+use Rattle.refusals.specs.declared.Refusal.{Refusal}
+use Rattle.refusals.specs.Refusals.{refusal_number}
 use Rattle.image.proofs.Refusals.{passed, failed}
 use Rattle.image.specs.Checks.{image_fault}
 use Rattle.image.specs.Refusals.{first_refusal}
 use Rattle.image.specs.declared.Header.{Header}
-use Rattle.parts.specs.Parts.{lookup_of}
+use Rattle.parts.specs.Parts.{Lookup, lookup_of}
 use Rattle.parts.specs.Sizes.{image_size}
 use Rattle.parts.specs.declared.Geometry.{Geometry}
-use Rattle.parts.specs.declared.Lookup.{Lookup}
-use Rattle.parts.specs.declared.Lookup.TheVariants.{Found, Refused}
 use Rattle.text.proofs.Written.{image-number, writes}
 use Rattle.text.specs.Formats.{Format, text_in, length_in}
-use Rattle.text.specs.Writing.{Writing, Unwritten, Written, write_checks, write_for, writing_in, answer_to, left_by, write_in, text_after_in}
-use Rattle.text.specs.declared.WriteAnswer.{WriteAnswer}
+use Rattle.text.specs.Writing.{WriteAnswer, Writing, Unwritten, Written, write_checks, write_for, writing_in, answer_to, left_by, write_in, text_after_in}
+use Rattle.std.specs.Prelude.{Ok, Err}
 
 abbrev pub refused : ℕ → WriteAnswer
 refused n = record { number = n; length = 0 }
@@ -31,14 +31,14 @@ module _ (F : Format) (h : Header) (bytes buffer : List ℕ) where
   right : (w : Writing) → writing_in F h bytes (length buffer) ≡ w → Right (answer_to w) (left_by w buffer)
   right w e = (ap answer_to (sym e), ap (λ (x : Writing). left_by x buffer) (sym e))
 
-  pub unknown : (n : ℕ) → lookup_of h.part h.macros ≡ Refused n → Right (refused n) buffer
-  unknown n e = right (Unwritten n) (ap (λ (l : Lookup). write_for F l h bytes (length buffer)) e)
+  pub unknown : (k : Refusal) → lookup_of h.part h.macros ≡ Err k → Right (refused (refusal_number k)) buffer
+  unknown k e = right (Unwritten (refusal_number k)) (ap (λ (l : Lookup). write_for F l h bytes (length buffer)) e)
 
-  module _ (g : Geometry) (e : lookup_of h.part h.macros ≡ Found g) where
+  module _ (g : Geometry) (e : lookup_of h.part h.macros ≡ Ok g) where
     abbrev number : ℕ
     number = first_refusal (write_checks F g h bytes (length buffer))
 
-    found : writing_in F h bytes (length buffer) ≡ write_for F (Found g) h bytes (length buffer)
+    found : writing_in F h bytes (length buffer) ≡ write_for F (Ok g) h bytes (length buffer)
     found = ap (λ (l : Lookup). write_for F l h bytes (length buffer)) e
 
     declined : (n : ℕ) → number ≡ n → (n ≡ 0 → ⊥) → Right (refused n) buffer

@@ -13,7 +13,6 @@ use Rattle.sections.specs.declared.Section.{Section}
 use Rattle.parts.specs.Parts.{lookup_of}
 use Rattle.parts.specs.Sizes.{image_size}
 use Rattle.parts.specs.declared.Geometry.{Geometry}
-use Rattle.parts.specs.declared.Lookup.TheVariants.{Found}
 use Rattle.pairs.proofs.Capitals.{AllBytes, all-bytes, bytes_take, bytes_drop}
 use Rattle.text.proofs.Formats.{ReadingLaws, WritingLaws}
 use Rattle.text.proofs.Pieces.{gathered-bytes, image-bytes}
@@ -25,6 +24,7 @@ use Rattle.text.specs.Claims.{Takes, ReadingClaims, Typed, Writes, left_text, Re
 use Rattle.text.specs.Formats.{Format, content_in, reading_in, text_in, length_in}
 use Rattle.text.specs.Placing.{Refusal, Stream, placing, gathered, overall}
 use Rattle.text.specs.Reading.{Reading, Taken, image_in, answer_of, buffer_after}
+use Rattle.std.specs.Prelude.{Ok}
 use Rattle.text.specs.Writing.{Writing, Unwritten, Written, writing_in, answer_to, write_in}
 
 -- ---- reading
@@ -104,12 +104,12 @@ module _ (F : Format) (laws : WritingLaws F) where
   alike h bytes room room' text text' w w' =
       let a = written_from F h bytes room text w in
       let b = written_from F h bytes room' text' w' in
-      let f : Found a.g ≡ Found b.g = sym a.found ∙ b.found in
+      let f : Ok a.g ≡ Ok b.g = sym a.found ∙ b.found in
       let g : a.g ≡ b.g = cc f in
       a.is ∙ ap (λ (x : Geometry). text_in F x h bytes) g ∙ sym b.is
 
   module _ (from : ReadingLaws F) where
-    again : (part macros : ℕ) (g : Geometry) (text : List ℕ) (space : ℕ) (h : Header) (bytes : List ℕ) (room : ℕ) → lookup_of part macros ≡ Found g
+    again : (part macros : ℕ) (g : Geometry) (text : List ℕ) (space : ℕ) (h : Header) (bytes : List ℕ) (room : ℕ) → lookup_of part macros ≡ Ok g
         → Takes F part macros text space h bytes
         → length_in F g ≤ room
         → WrittenAgain F part macros h bytes room
@@ -118,7 +118,7 @@ module _ (F : Format) (laws : WritingLaws F) where
         let g = a.g in
         let ty = taken-typed F from part macros text space h bytes t in
         let exact : length bytes ≡ image_size g = ap length (sym a.image) ∙ image-length g a.stream (each-byte a) in
-        let one : Found known ≡ Found g = sym offered ∙ a.found in
+        let one : Ok known ≡ Ok g = sym offered ∙ a.found in
         let same : known ≡ g = cc one in
         let l : length_in F g ≤ room = subst (λ (x : Geometry). length_in F x ≤ room) same fits in
         record {

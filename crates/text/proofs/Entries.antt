@@ -9,25 +9,27 @@ use native.Mathlib.Omega.{arith}
 use borrow.Author.Tests.{eqb-true, eq-eqb, leb-true, ltb-true, ltb-false}
 use lib.Dec.{eqb, leb, ltb}
 use lib.ListN.{get_or}
+use Rattle.refusals.specs.declared.Refusal.TheVariants.{PartOrMacros}
+use Rattle.refusals.specs.declared.Refusal.{Refusal}
 use Rattle.parts.proofs.Table.{everywhere, entry, at-found, both}
 use Rattle.parts.specs.Parts.{part_table, offers, look_in, lookup_of, low_fits, id_fits}
 use Rattle.parts.specs.Sizes.{row_bytes_of, macros_of, rows_per_macro_of, rows_of, flash_size, lock_total, image_size}
 use Rattle.parts.specs.declared.Geometry.{Geometry}
-use Rattle.parts.specs.declared.Lookup.TheVariants.{Found, Refused}
 use Rattle.parts.specs.declared.Part.{Part}
+use Rattle.std.specs.Prelude.{Ok, Err}
 use Rattle.text.specs.Sized.{TableSizes}
 
 -- what is not found is 11
-refused-in : (ps : List Part) (n m k : ℕ) → look_in ps n m ≡ Refused k → k ≡ 11
+refused-in : (ps : List Part) (n m : ℕ) (k : Refusal) → look_in ps n m ≡ Err k → k ≡ PartOrMacros
 unfolding look_in
 refused-in [] n m k e = cc e
 refused-in (p ∷ ps) n m k e = by (offers p n m) (refused-in ps n m k) e
   where
-    by : (b : Bool) → (look_in ps n m ≡ Refused k → k ≡ 11) → cond b (Found (record { part = p; macros = m })) (look_in ps n m) ≡ Refused k → k ≡ 11
+    by : (b : Bool) → (look_in ps n m ≡ Err k → k ≡ PartOrMacros) → cond b (Ok (record { part = p; macros = m })) (look_in ps n m) ≡ Err k → k ≡ PartOrMacros
     by true rec e = let t : false ≡ true = cc e in absurd (false≢true t)
     by false rec e = rec e
 
-pub refused-eleven : (n m k : ℕ) → lookup_of n m ≡ Refused k → k ≡ 11
+pub refused-eleven : (n m : ℕ) (k : Refusal) → lookup_of n m ≡ Err k → k ≡ PartOrMacros
 refused-eleven n m k e = refused-in part_table n m k e
 
 -- ---- sizes
@@ -43,7 +45,7 @@ all_fit : everywhere sizes_fit part_table ≡ true
 unfolding rows_of flash_size lock_total
 all_fit = refl
 
-pub sized : (n m : ℕ) (g : Geometry) → lookup_of n m ≡ Found g → TableSizes g
+pub sized : (n m : ℕ) (g : Geometry) → lookup_of n m ≡ Ok g → TableSizes g
 sized n m g found =
     let t = both (within 131072 (flash_size g)) (within 128 (lock_total g)) (at-found sizes_fit all_fit n m found) in
     let f = both (leb 1 (flash_size g)) (leb (flash_size g) 131072) t.0 in
@@ -108,7 +110,7 @@ macros-told k l m m' some each e = go (ltb m m') (ltb m' m) refl refl
     go false true p q = absurd (omega (arith, more-taking k l m' m some each (ltb-true m' m q)))
     go false false p q = omega (arith, ltb-false m m' p, ltb-false m' m q)
 
-module _ (n m n' m' : ℕ) (g g' : Geometry) (f : lookup_of n m ≡ Found g) (f' : lookup_of n' m' ≡ Found g') where
+module _ (n m n' m' : ℕ) (g g' : Geometry) (f : lookup_of n m ≡ Ok g) (f' : lookup_of n' m' ≡ Ok g') where
   pub id-tells : (metadata : List ℕ) → id_in g metadata ≡ true → id_in g' metadata ≡ true → n ≡ n'
   unfolding alone
   id-tells d i i' =

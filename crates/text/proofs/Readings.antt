@@ -2,32 +2,26 @@
 use mathlib.Core.Bool.{Bool, true, false, cond}
 use mathlib.Core.List.{List, [], ◌++◌, append-nil}
 use mathlib.Core.Path.{◌≡◌, refl, sym, ap, ◌∙◌}
-use Prim.Native.Nat.{ℕ, ◌≤◌, ◌<◌}
-use native.Mathlib.Nat.{le_refl}
+use Prim.Native.Nat.{ℕ, ◌≤◌}
 use native.Mathlib.Omega.{arith}
-use borrow.Author.Tests.{le-leb, lt-leb}
+use borrow.Author.Tests.{le-leb}
 use lib.Dec.{eqb}
 use lib.ListN.{length, take, drop, take-append-drop}
 use lib.Seq.{drop-length, length-take-le}
 use Rattle.image.specs.Checks.{image_fault}
-use Rattle.image.specs.Image.{no_header}
 use Rattle.sections.specs.Sections.{sections_of, header_of}
 use Rattle.image.specs.declared.Header.{Header}
 use Rattle.sections.specs.declared.Location.TheVariants.{InFlash, InProtection, InHeader}
 use Rattle.parts.specs.Parts.{lookup_of}
 use Rattle.parts.specs.Sizes.{flash_size, image_size}
 use Rattle.parts.specs.declared.Geometry.{Geometry}
-use Rattle.parts.specs.declared.Lookup.TheVariants.{Found, Refused}
 use Rattle.text.proofs.Placing.{placing-length, image-length}
 use Rattle.text.specs.Formats.{Format, content_in, reading_in}
 use Rattle.text.specs.Placing.{Content, Refusal, Stream, gathered}
-use Rattle.text.specs.Reading.{Reading, Untouched, Cleared, Taken, checked, image_in, judged, answer_of, buffer_after}
-use Rattle.text.specs.Scanning.{Filled, ScannedAs}
-use Rattle.storing.specs.Storing.{cleared}
+use Rattle.text.specs.Reading.{ReadAnswer, Reading, Untouched, Cleared, Taken, checked, image_in, judged, answer_of, buffer_after}
+use Rattle.text.specs.Scanning.{Filled}
 use Rattle.text.specs.Settling.{settled}
-use Rattle.text.specs.declared.ReadAnswer.{ReadAnswer}
-use Rattle.text.specs.declared.Scanned.{Scanned}
-use Rattle.text.specs.declared.Scanned.TheVariants.{Bad, Whole}
+use Rattle.std.specs.Prelude.{Ok}
 
 -- a reading that writes just `size` bytes
 abbrev pub Writes : (size : ℕ) → Reading → Type 0
@@ -77,32 +71,16 @@ module _ (F : Format) (g : Geometry) (part macros : ℕ) (text : List ℕ) where
     Answers r image =
         (r ≡ answer_of (judged g part macros (content_in F text (sections_of g)))) × (image ≡ buffer_after (judged g part macros (content_in F text (sections_of g))) image₀)
 
-    pub refused : (n : ℕ) (image₁ header₁ image : List ℕ) (r : ReadAnswer) (x : Scanned) → ScannedAs F text g x image₁ header₁ → x ≡ Bad n
-        → length image₁ ≡ length image₀
-        → r ≡ record { number = n; header = no_header }
-        → image ≡ cleared (length image₁) image₁
-        → Answers r image
-    unfolding cleared
-    refused n image₁ header₁ image r x s ex k er ei =
-        let o : content_in F text (sections_of g) ≡ Refusal n = rw ex at s in
-        let z : length image₁ ≡ image_size g = k ∙ size in (
-          rw o er,
-          rw o
-              (ei
-              ∙ rw (le-leb (length image₁) (length image₁) (le_refl (length image₁)), drop-length image₁, drop-whole image₀ (image_size g) size, z)),
-        )
-
     settled_is : (header image : List ℕ) → length image ≡ image_size g → settled part macros header image ≡ checked g (header_of part macros header) image
     unfolding settled
     settled_is header image e = rw e
 
-    pub whole : (image₁ header₁ image : List ℕ) (r : ReadAnswer) (x : Scanned) → ScannedAs F text g x image₁ header₁ → x ≡ Whole
+    pub whole : (image₁ header₁ image : List ℕ) (r : ReadAnswer) → Filled F text g image₁ header₁
         → length image₁ ≡ length image₀
         → r ≡ answer_of (settled part macros header₁ image₁)
         → image ≡ buffer_after (settled part macros header₁ image₁) image₁
         → Answers r image
-    whole image₁ header₁ image r x s ex k er ei =
-        let f : Filled F text g image₁ header₁ = rw ex at s in
+    whole image₁ header₁ image r f k er ei =
         let a : image₁ ≡ image_in g f.stream =
         sym (take-append-drop (flash_size g) image₁)
         ∙ ap (λ (l : List ℕ). l ++ drop (flash_size g) image₁) (f.has InFlash)
@@ -124,13 +102,7 @@ module _ (F : Format) (part macros : ℕ) (text buffer : List ℕ) where
   abbrev Gives : ReadAnswer → List ℕ → Type 0
   Gives r b = (r ≡ answer_of (reading_in F part macros text (length buffer))) × (b ≡ buffer_after (reading_in F part macros text (length buffer)) buffer)
 
-  pub no_part : (n : ℕ) (r : ReadAnswer) → lookup_of part macros ≡ Refused n → r ≡ record { number = n; header = no_header } → Gives r buffer
-  no_part n r e er = (rw e er, rw e)
-
-  module _ (g : Geometry) (e : lookup_of part macros ≡ Found g) where
-    pub no_room : (r : ReadAnswer) → length buffer < image_size g → r ≡ record { number = 12; header = no_header } → Gives r buffer
-    no_room r h er = let l = lt-leb (image_size g) (length buffer) h in (rw (e, l) er, rw (e, l))
-
+  module _ (g : Geometry) (e : lookup_of part macros ≡ Ok g) where
     pub in-room : (r : ReadAnswer) (image : List ℕ) (size : ℕ) → size ≡ image_size g → size ≤ length buffer
         → r ≡ answer_of (judged g part macros (content_in F text (sections_of g)))
         → image ≡ buffer_after (judged g part macros (content_in F text (sections_of g))) (take size buffer)

@@ -15,11 +15,9 @@ use Rattle.image.specs.declared.Header.{Header}
 use Rattle.sections.specs.declared.Location.{Location}
 use Rattle.sections.specs.declared.Location.TheVariants.{InFlash, InProtection, InHeader}
 use Rattle.sections.specs.declared.Section.{Section}
-use Rattle.parts.specs.Parts.{lookup_of}
+use Rattle.parts.specs.Parts.{Lookup, lookup_of}
 use Rattle.parts.specs.Sizes.{flash_size, lock_total, image_size}
 use Rattle.parts.specs.declared.Geometry.{Geometry}
-use Rattle.parts.specs.declared.Lookup.{Lookup}
-use Rattle.parts.specs.declared.Lookup.TheVariants.{Found}
 use Rattle.pairs.proofs.Capitals.{AllBytes, bytes-all, bytes-append, bytes_take, bytes_drop}
 use Rattle.text.proofs.Formats.{WritingLaws, Aligned, pieces-fit}
 use Rattle.text.proofs.Laid.{all-filled, header-size, room_at}
@@ -29,6 +27,7 @@ use Rattle.text.specs.Claims.{Takes, Typed}
 use Rattle.text.specs.Formats.{Format, content_in, text_in}
 use Rattle.text.specs.Placing.{Stream, pieces, gathered}
 use Rattle.text.specs.Reading.{Untouched, image_in, judged, read_for}
+use Rattle.std.specs.Prelude.{Ok}
 use Rattle.text.specs.Sized.{Sized}
 
 -- what a header says of itself makes it again
@@ -51,7 +50,7 @@ three-parts l e =
     let d : drop 14 l ≡ drop 12 (drop 2 l) = sym (drop-drop 12 2 l) in
     rw (append-nil (take 1 (drop 14 l)), take_all 1 (drop 14 l) (omega (arith, length-drop 14 l)), d, take-append-drop 12 (drop 2 l)) (take-append-drop 2 l)
 
-module _ {g : Geometry} {h : Header} {bytes : List ℕ} (found : lookup_of h.part h.macros ≡ Found g) (t : Typed h bytes) (exact : length bytes ≡ image_size g) where
+module _ {g : Geometry} {h : Header} {bytes : List ℕ} (found : lookup_of h.part h.macros ≡ Ok g) (t : Typed h bytes) (exact : length bytes ≡ image_size g) where
   pub sized : Sized g h bytes
   sized = record { sizes = table.sized h.part h.macros g found; metadata = t.metadata; exact = exact }
 

@@ -46,15 +46,6 @@ last-section g (suc (suc (suc (suc (suc k))))) h = absurd (omega arith)
 abbrev pub due_list : Geometry → Due → List Section
 due_list g d = dues d.section (drop d.next (sections_of g))
 
--- what is due after some bytes
-pub advanced-next : (g : Geometry) (d : Due) (count : ℕ) (s : Section) → count ≡ d.section.size → s ≡ get_or (sections_of g) d.next no_section
-    → record { section = s; next = d.next + 1 } ≡ advanced_of g d count
-advanced-next g d count s e h = rw (eq-eqb count d.section.size e, h)
-
-pub advanced-rest : (g : Geometry) (d : Due) (count : ℕ) → (count ≡ d.section.size → ⊥)
-    → record { section = rest_of count d.section; next = d.next } ≡ advanced_of g d count
-advanced-rest g d count h = rw (ne_eqb count d.section.size h)
-
 -- the next section, or the rest of this one
 abbrev chosen : Bool → Geometry → Due → ℕ → Due
 chosen b g d count =

@@ -12,22 +12,21 @@ use Rattle.image.specs.Checks.{image_id_fits, image_fault}
 use Rattle.sections.specs.Sections.{sections_of, header_of}
 use Rattle.image.specs.declared.Header.{Header}
 use Rattle.sections.specs.declared.Location.TheVariants.{InHeader}
-use Rattle.parts.specs.Parts.{lookup_of}
+use Rattle.parts.specs.Parts.{Lookup, lookup_of}
 use Rattle.parts.specs.Sizes.{image_size}
 use Rattle.parts.specs.declared.Geometry.{Geometry}
-use Rattle.parts.specs.declared.Lookup.{Lookup}
-use Rattle.parts.specs.declared.Lookup.TheVariants.{Found, Refused}
 use Rattle.text.proofs.Pieces.{data_of, placing-data}
 use Rattle.text.proofs.Placing.{placing-length, metadata-at}
 use Rattle.text.proofs.Entries.{id_in, id-tells, size-tells}
 use Rattle.text.specs.Claims.{Takes}
 use Rattle.text.specs.Formats.{Format, content_in}
 use Rattle.text.specs.Placing.{Event, Content, Refusal, Stream, gathered, overall}
+use Rattle.std.specs.Prelude.{Ok, Err}
 use Rattle.text.specs.Reading.{Untouched, Cleared, Taken, image_in, judged, read_for}
 
 pub record TakenFrom (F : Format) (part macros : ℕ) (text : List ℕ) (h : Header) (bytes : List ℕ) : Type 0 where
   pub g : Geometry
-  pub found : lookup_of part macros ≡ Found g
+  pub found : lookup_of part macros ≡ Ok g
   pub stream : List ℕ
   pub content : content_in F text (sections_of g) ≡ Stream stream
   pub header : header_of part macros (gathered InHeader (sections_of g) stream) ≡ h
@@ -35,7 +34,7 @@ pub record TakenFrom (F : Format) (part macros : ℕ) (text : List ℕ) (h : Hea
   pub none : image_fault h bytes ≡ 0
 
 module _ (F : Format) (part macros : ℕ) (text : List ℕ) (room : ℕ) (h : Header) (bytes : List ℕ) where
-  from-stream : (g : Geometry) (found : lookup_of part macros ≡ Found g) (s : List ℕ) → content_in F text (sections_of g) ≡ Stream s
+  from-stream : (g : Geometry) (found : lookup_of part macros ≡ Ok g) (s : List ℕ) → content_in F text (sections_of g) ≡ Stream s
       → judged g part macros (Stream s) ≡ Taken h bytes
       → TakenFrom F part macros text h bytes
   from-stream g found s o = go (eqb (image_fault i b) 0) refl
@@ -57,20 +56,20 @@ module _ (F : Format) (part macros : ℕ) (text : List ℕ) (room : ℕ) (h : He
   pub taken-from : Takes F part macros text room h bytes → TakenFrom F part macros text h bytes
   taken-from = look (lookup_of part macros) refl
     where
-      come : (g : Geometry) → lookup_of part macros ≡ Found g → (o : Content) → content_in F text (sections_of g) ≡ o → judged g part macros o ≡ Taken h bytes
+      come : (g : Geometry) → lookup_of part macros ≡ Ok g → (o : Content) → content_in F text (sections_of g) ≡ o → judged g part macros o ≡ Taken h bytes
           → TakenFrom F part macros text h bytes
       come g q (Refusal n) d e = let t : false ≡ true = cc e in absurd (false≢true t)
       come g q (Stream s) d e = from-stream g q s d e
 
-      fit : (g : Geometry) → lookup_of part macros ≡ Found g → (y : Bool)
+      fit : (g : Geometry) → lookup_of part macros ≡ Ok g → (y : Bool)
           → cond y (judged g part macros (content_in F text (sections_of g))) (Untouched 12) ≡ Taken h bytes
           → TakenFrom F part macros text h bytes
       fit g q true e = come g q (content_in F text (sections_of g)) refl e
       fit g q false e = let t : false ≡ true = cc e in absurd (false≢true t)
 
       look : (l : Lookup) → lookup_of part macros ≡ l → read_for l part macros room (content_in F text) ≡ Taken h bytes → TakenFrom F part macros text h bytes
-      look (Refused n) q e = let t : false ≡ true = cc e in absurd (false≢true t)
-      look (Found g) q e = fit g q (leb (image_size g) room) e
+      look (Err n) q e = let t : false ≡ true = cc e in absurd (false≢true t)
+      look (Ok g) q e = fit g q (leb (image_size g) room) e
 
 -- ---- one text, one image: the bytes of the records are the same, and so many; the metadata before the last byte tell the part
 -- (check 7), and the part and the size tell M
@@ -89,7 +88,7 @@ module _ {F : Format} {part macros : ℕ} {text : List ℕ} {h : Header} {bytes 
   pub same-macros : macros ≡ h.macros
   same-macros = ap (λ (x : Header). x.macros) a.header
 
-  pub found-header : lookup_of h.part h.macros ≡ Found a.g
+  pub found-header : lookup_of h.part h.macros ≡ Ok a.g
   found-header = sym (ap (λ (x : ℕ). lookup_of x macros) same-part ∙ ap (lookup_of h.part) same-macros) ∙ a.found
 
   pub all-data : a.stream ≡ data_of records
@@ -126,7 +125,7 @@ module _ {F : Format} {part macros part' macros' : ℕ} {text : List ℕ} {h h' 
   of-one-part : part ≡ part' → (h ≡ h') × (bytes ≡ bytes')
   of-one-part p =
       let m : macros ≡ macros' = size-tells part macros part' macros' a.g b.g a.found b.found p same_size in
-      let f : Found a.g ≡ Found b.g = sym a.found ∙ ap (λ (x : ℕ). lookup_of x macros) p ∙ ap (lookup_of part') m ∙ b.found in
+      let f : Ok a.g ≡ Ok b.g = sym a.found ∙ ap (λ (x : ℕ). lookup_of x macros) p ∙ ap (lookup_of part') m ∙ b.found in
       let g : a.g ≡ b.g = cc f in
       (sym a.header ∙ rw (p, m, g, same-stream) refl ∙ b.header, sym a.image ∙ rw (g, same-stream) refl ∙ b.image)
 

@@ -1,13 +1,12 @@
 -- What a caller may want to know of reading and writing, beside the definitions themselves: said of any format. A format has it where its
 -- records have the laws of proofs/Formats.antt. Assumes nothing.
-use Rattle.std.specs.Prelude.{List, ◌∷◌, ◌++◌, ◌≡◌, ℕ, ◌≤◌, ◌<◌, length, get_or, take, drop}
+use Rattle.std.specs.Prelude.{List, ◌∷◌, ◌++◌, ◌≡◌, ℕ, ◌≤◌, ◌<◌, length, get_or, take, drop, Ok}
 use Rattle.image.specs.Checks.{image_fault}
 use Rattle.image.specs.declared.Header.{Header}
 use Rattle.sections.specs.declared.Section.{Section}
 use Rattle.parts.specs.Parts.{lookup_of}
 use Rattle.parts.specs.Sizes.{image_size}
 use Rattle.parts.specs.declared.Geometry.{Geometry}
-use Rattle.parts.specs.declared.Lookup.TheVariants.{Found}
 use Rattle.text.specs.Formats.{Format, content_in, reading_in, text_in, length_in}
 use Rattle.text.specs.Placing.{Refusal, Stream, overall}
 use Rattle.text.specs.Reading.{Taken, answer_of, buffer_after}
@@ -62,7 +61,7 @@ module _ (F : Format) where
 
   pub record WritingClaims : Type 0 where
     -- the text's length is known before it is written
-    pub length-known : (g : Geometry) (h : Header) (bytes : List ℕ) → lookup_of h.part h.macros ≡ Found g → Typed h bytes → length bytes ≡ image_size g
+    pub length-known : (g : Geometry) (h : Header) (bytes : List ℕ) → lookup_of h.part h.macros ≡ Ok g → Typed h bytes → length bytes ≡ image_size g
         → length (text_in F g h bytes) ≡ length_in F g
     -- a written text reads back as the same header and bytes
     pub reads-back : (h : Header) (bytes : List ℕ) (room : ℕ) (text : List ℕ) (space : ℕ) → Typed h bytes → Writes h bytes room text → length bytes ≤ space
@@ -77,7 +76,7 @@ module _ (F : Format) where
     -- two texts of one image are written alike
     pub alike : (h : Header) (bytes : List ℕ) (room room' : ℕ) (text text' : List ℕ) → Writes h bytes room text → Writes h bytes room' text' → text ≡ text'
     -- a taken text, written again, is the written form of its image, which reads as that image
-    pub again : (part macros : ℕ) (g : Geometry) (text : List ℕ) (space : ℕ) (h : Header) (bytes : List ℕ) (room : ℕ) → lookup_of part macros ≡ Found g
+    pub again : (part macros : ℕ) (g : Geometry) (text : List ℕ) (space : ℕ) (h : Header) (bytes : List ℕ) (room : ℕ) → lookup_of part macros ≡ Ok g
         → Takes part macros text space h bytes
         → length_in F g ≤ room
         → WrittenAgain part macros h bytes room

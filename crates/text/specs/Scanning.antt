@@ -1,5 +1,7 @@
 -- What is due while the records of a text are read one by one, and what they leave: in every format. Assumes nothing.
-use Rattle.std.specs.Prelude.{cond, List, [], ◌∷◌, ◌≡◌, ℕ, ◌+◌, eqb, length, get_or}
+use Rattle.std.specs.Prelude.{cond, List, [], ◌∷◌, ◌≡◌, ℕ, ◌+◌, eqb, length, get_or, Result, Ok, Err}
+use Rattle.refusals.specs.Refusals.{refusal_number}
+use Rattle.refusals.specs.declared.Refusal.{Refusal as Reason}
 use Rattle.sections.specs.Sections.{sections_of, no_section, location_bytes}
 use Rattle.sections.specs.declared.Location.{Location}
 use Rattle.sections.specs.declared.Section.{Section}
@@ -10,8 +12,6 @@ use Rattle.text.specs.Placing.{Refusal, Stream, rest_of, same_location, gathered
 use Rattle.text.specs.Sized.{TableSizes}
 use Rattle.storing.specs.Storing.{stored_at}
 use Rattle.text.specs.declared.Due.{Due}
-use Rattle.text.specs.declared.Scanned.{Scanned}
-use Rattle.text.specs.declared.Scanned.TheVariants.{Bad, Whole}
 
 -- a section and those after it; one of no bytes stands for none
 abbrev pub dues : Section → List Section → List Section
@@ -40,6 +40,7 @@ pub record Filled (F : Format) (text : List ℕ) (g : Geometry) (image header : 
   pub is : content_in F text (sections_of g) ≡ Stream stream
   pub has : (l : Location) → location_bytes g image header l ≡ gathered l (sections_of g) stream
 
-abbrev pub ScannedAs : Format → (text : List ℕ) → Geometry → Scanned → (image header : List ℕ) → Type 0
-ScannedAs F text g (Bad n) image header = content_in F text (sections_of g) ≡ Refusal n
-ScannedAs F text g Whole image header = Filled F text g image header
+-- what scanning a text came to: such a text, or the refusal of the first record that is out of place
+abbrev pub ScannedAs : Format → (text : List ℕ) → Geometry → Result (Unit {0}) Reason → (image header : List ℕ) → Type 0
+ScannedAs F text g (Ok _) image header = Filled F text g image header
+ScannedAs F text g (Err r) image header = content_in F text (sections_of g) ≡ Refusal (refusal_number r)

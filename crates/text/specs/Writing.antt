@@ -1,15 +1,14 @@
 -- What writing a text gives, in every format: document 01, 'Who brings a number about'. Assumes nothing.
-use Rattle.std.specs.Prelude.{cond, List, ◌∷◌, ◌++◌, ℕ, eqb, leb, length, drop}
+use Rattle.refusals.specs.Refusals.{refusal_number}
+use Rattle.refusals.specs.declared.Refusal.{Refusal}
+use Rattle.std.specs.Prelude.{cond, List, ◌∷◌, ◌++◌, ℕ, eqb, leb, length, drop, Result, Ok, Err}
 use Rattle.image.specs.Checks.{content_checks}
 use Rattle.image.specs.Refusals.{Check, ◌unless◌, first_refusal}
 use Rattle.image.specs.declared.Header.{Header}
-use Rattle.parts.specs.Parts.{lookup_of}
+use Rattle.parts.specs.Parts.{Lookup, lookup_of}
 use Rattle.parts.specs.Sizes.{image_size}
 use Rattle.parts.specs.declared.Geometry.{Geometry}
-use Rattle.parts.specs.declared.Lookup.{Lookup}
-use Rattle.parts.specs.declared.Lookup.TheVariants.{Found, Refused}
 use Rattle.text.specs.Formats.{Format, text_in, length_in}
-use Rattle.text.specs.declared.WriteAnswer.{WriteAnswer}
 
 -- how a writing ends
 pub data Writing : Type 0 where
@@ -26,17 +25,27 @@ abbrev pub unless_refused : (number : ℕ) (text : List ℕ) → Writing
 unless_refused n text = cond (eqb n 0) (Written text) (Unwritten n)
 
 abbrev pub write_for : Format → Lookup → Header → (bytes : List ℕ) (room : ℕ) → Writing
-write_for F (Refused n) h bytes room = Unwritten n
-write_for F (Found g) h bytes room = unless_refused (first_refusal (write_checks F g h bytes room)) (text_in F g h bytes)
+write_for F (Err r) h bytes room = Unwritten (refusal_number r)
+write_for F (Ok g) h bytes room = unless_refused (first_refusal (write_checks F g h bytes room)) (text_in F g h bytes)
 
 -- an image's header and bytes, written into a buffer of `room` bytes
 abbrev pub writing_in : Format → Header → (bytes : List ℕ) (room : ℕ) → Writing
 writing_in F h bytes room = write_for F (lookup_of h.part h.macros) h bytes room
 
+-- 0 and the text's length, or a refusal's number and 0
+pub record WriteAnswer : Type 0 where
+  pub number : ℕ
+  pub length : ℕ
+
 -- 'A record, session or length given with a refusal is all 0.'
 abbrev pub answer_to : Writing → WriteAnswer
 answer_to (Unwritten n) = record { number = n; length = 0 }
 answer_to (Written text) = record { number = 0; length = length text }
+
+-- what a length, or a refusal in its place, is as an answer
+abbrev pub write_answer : Result ℕ Refusal → WriteAnswer
+write_answer (Ok n) = record { number = 0; length = n }
+write_answer (Err r) = record { number = refusal_number r; length = 0 }
 
 -- 'bytes past them, or past a written text, never alter'
 abbrev pub left_by : Writing → (buffer : List ℕ) → List ℕ

@@ -12,10 +12,7 @@ use parts::Geometry;
 pub fn is_free(w: u32) -> bool
     ensures free { result ≡ free w }
 {
-    if w / 0x80000000 % 2 == 0 {
-        return w / 0x10000000 % 2 == 0;
-    }
-    false
+    w >> 31 == 0 && w >> 28 & 1 == 0
 }
 
 // Whether TEST_MODE shows its bit 31 (17).
@@ -23,7 +20,7 @@ pub fn is_free(w: u32) -> bool
 pub fn test_bit_set(w: u32) -> bool
     ensures set { result ≡ test_bit_set w }
 {
-    w / 0x80000000 % 2 == 1
+    w >> 31 == 1
 }
 
 // Whether SYSARG says that a call succeeded (19).
@@ -31,7 +28,7 @@ pub fn test_bit_set(w: u32) -> bool
 pub fn call_succeeded(w: u32) -> bool
     ensures succeeded { result ≡ succeeded w }
 {
-    w / 0x10000000 % 16 == 0xA
+    w >> 28 == 0xA
 }
 
 // Whether the silicon ID in SYSARG and SYSREQ is the image's and fits the part (20).
@@ -39,14 +36,9 @@ pub fn call_succeeded(w: u32) -> bool
 pub fn ids_fit(g: Geometry, h: Header, sysarg: u32, sysreq: u32) -> bool
     ensures fits { result ≡ ids_fit g h sysarg sysreq }
 {
-    let m = h.metadata;
-    let p = g.part;
-    if (sysarg / 256 % 256) as u8 == m[2] {
-        if (sysreq % 256) as u8 == m[5] {
-            return parts::low_fits(p, (sysarg % 256) as u8);
-        }
-    }
-    false
+    let [low, high, ..] = sysarg.to_le_bytes();
+    let [family, ..] = sysreq.to_le_bytes();
+    high == h.metadata[2] && family == h.metadata[5] && parts::low_fits(g.part, low)
 }
 
 // The stored level in the word that step 8 reads, with 0 and 1 exchanged.
@@ -54,11 +46,11 @@ pub fn ids_fit(g: Geometry, h: Header, sysarg: u32, sysreq: u32) -> bool
 pub fn level_shown(w: u32) -> u8
     ensures shown { result ≡ level_shown w }
 {
-    let n = (w / 0x1000000 % 16) as u8;
-    match n {
+    let [.., top] = w.to_le_bytes();
+    match top & 15 {
         0 => 1,
         1 => 0,
-        _ => n,
+        level => level,
     }
 }
 

@@ -2,10 +2,10 @@
 use Rattle.bench_calls.proofs.Calling.{reset-idle, reset-busy}
 use Rattle.bench_calls.proofs.xres.Goals as goal
 
-pub returns-in-Idle : goal.returns-in-Idle
-returns-in-Idle c = record { reset = reset-idle c.args.r c.cleared.result c.in-Idle.is c.cleared.ensures }
+pub returns-in-None : goal.returns-in-None
+returns-in-None c = record { reset = reset-idle c.args.r c.cleared.result c.in-None.is c.cleared.ensures }
 
-pub returns-in-Busy : goal.returns-in-Busy
-returns-in-Busy c = record {
-  reset = reset-busy c.args.r _ _ c.fail.result c.cleared-in-Busy.result c.in-Busy.is c.fail.ensures c.cleared-in-Busy.ensures;
+pub returns-in-Some : goal.returns-in-Some
+returns-in-Some c = record {
+  reset = reset-busy c.args.r _ c.fail.result c.cleared-in-Some.result c.in-Some.is c.fail.ensures c.cleared-in-Some.ensures;
 }

@@ -4,16 +4,17 @@ use Rattle.bench_effects.proofs.Effecting.{reopened, protected}
 use Rattle.bench_effects.proofs.protect.Goals as goal
 use Rattle.parts.specs.Sizes.{locks_in, lock_start}
 
-pub returns-then-reopens-clause-fact_1 : goal.returns-then-reopens-clause-fact_1
-returns-then-reopens-clause-fact_1 c =
+pub returns-then-reopens-clause-protects : goal.returns-then-reopens-clause-protects
+returns-then-reopens-clause-protects c =
     let a = c.args in
-    reopened a.g a.effect a.sysarg a.stored (rw (← c.level_sent-l.ensures.0) (sym c.reopens.ensures ∙ c.if-reopens.true))
+    reopened a.g a.effect a.sysarg a.stored (rw (← c.level_sent-level.ensures.0) (sym c.reopens.ensures ∙ c.if-reopens.true))
 
-pub returns-clause-fact_1 : goal.returns-clause-fact_1
-returns-clause-fact_1 c =
+pub returns-clause-protects : goal.returns-clause-protects
+returns-clause-protects c =
     let a = c.args in
-    let l = c.level_sent-l.ensures.0 in
-    let m = c.macro_sent-m.ensures in
+    let l = c.level_sent-level.ensures.0 in
+    let m = c.macro_sent-number.ensures in
+    let at = c.from-at.ensures ∙ m in
     protected a.g a.effect a.sysarg a.stored (rw (← l) (sym c.reopens.ensures ∙ c.if-reopens.false))
     c.level_after.result (c.level_after.ensures ∙ rw (m, l))
-    _ _ (c.lock_start.ensures.start ∙ ap (lock_start a.g) m) (c.locks_in.ensures.size ∙ ap (locks_in a.g) m)
+    _ _ (c.lock_start.ensures.start ∙ ap (lock_start a.g) at) (c.locks_in.ensures.size ∙ ap (locks_in a.g) at)

@@ -1,21 +1,14 @@
--- The loop lays src, filled with zeros, from the front. Assumes nothing.
-use Rattle.std.proofs.Common.{sym, ◌∙◌, arith, length-set}
-use Rattle.bench_memory.proofs.Laying.{sets-turn, filled, filled-room, filled_at, fit-end}
+-- src first, then zeros. Assumes nothing.
+use Rattle.std.proofs.Common.{◌≡◌, ◌∙◌, length, arith, length-drop, length-append}
+use Rattle.std.proofs.lemmas.List.{length-take, length-take-le}
+use Rattle.bench_memory.proofs.Laying.{fitted}
 use Rattle.bench_memory.proofs.fit.Goals as goal
 
-pub loop-i-preserved : goal.loop-i-preserved
-loop-i-preserved c =
-    let l = c.loop-i in
-    let d = c.args.dst.now in
-    let src = c.args.src.now in
-    record {
-      within = omega arith;
-      size = simp length-set l.invariant.size;
-      laid =
-          sets-turn d 0 l.i l.i c.byte_at.result (filled d src) l.dst l.invariant.laid (omega arith)
-          (c.byte_at.ensures.byte ∙ sym (filled_at d src l.i))
-          (omega (arith, filled-room d src));
-    }
-
 pub returns : goal.returns
-returns c = c.loop-i.invariant.laid ∙ fit-end c.args.dst.now c.args.src.now c.loop-i.i (omega arith)
+returns c =
+    let d = c.args.dst.now in
+    let n = c.min-n.result in
+    let l : length c.copy_from_slice.new.self ≡ n = c.copy_from_slice.ensures.len ∙ length-take-le n d (omega arith) in
+    fitted d c.args.src.now _ _ n _ _ c.min-n.ensures c.copy_from_slice.ensures.after (c.fill.ensures.after (λ y e. e))
+    (simp (length-take, length-drop, length-append) (omega arith))
+    (simp (length-take, length-drop, length-append) (omega arith))

@@ -1,20 +1,23 @@
 -- A turn takes one byte more at most, on an error too. Assumes nothing.
-use Rattle.std.proofs.Common.{◌+◌, ◌-◌, rules, arith}
+use Rattle.std.proofs.Common.{rules, arith}
 use Rattle.cases.proofs.Taking.{takes-more, takes-less}
 use Rattle.cases.proofs.read_number.Goals as goal
 
-pub returns-in_err-d-clause-taken : goal.returns-in_err-d-clause-taken
-returns-in_err-d-clause-taken g c =
-    takes-less _ _ (20 - c.loop-left.left + 1) 20 (omega arith) (takes-more _ _ _ (20 - c.loop-left.left) 1 c.loop-left.invariant.taken c.digit.ensures.taken)
+pub returns-in_err-c-clause-taken : goal.returns-in_err-c-clause-taken
+returns-in_err-c-clause-taken g c = takes-more _ _ _ _ 1 20 (omega arith) c.loop.invariant.taken c.next_byte.ensures.taken
 
-pub returns-then-d-gt9-clause-taken : goal.returns-then-d-gt9-clause-taken
-returns-then-d-gt9-clause-taken g c =
-    takes-less _ _ (20 - c.loop-left.left + 1) 20 (omega arith) (takes-more _ _ _ (20 - c.loop-left.left) 1 c.loop-left.invariant.taken c.digit.ensures.taken)
+pub returns-in-Some-2-clause-taken : goal.returns-in-Some-2-clause-taken
+returns-in-Some-2-clause-taken g c = takes-more _ _ _ _ 1 20 (omega arith) c.loop.invariant.taken c.next_byte.ensures.taken
 
-pub loop-left-preserved : goal.loop-left-preserved
-loop-left-preserved g c =
+pub returns-in-None-clause-taken : goal.returns-in-None-clause-taken
+returns-in-None-clause-taken g c = takes-more _ _ _ _ 1 20 (omega arith) c.loop.invariant.taken c.next_byte.ensures.taken
+
+pub loop-preserved : goal.loop-preserved
+loop-preserved g c =
     record {
       bounded = search rules;
-      few = omega arith;
-      taken = takes-less _ _ (20 - c.loop-left.left + 1) (20 - (c.loop-left.left - 1)) (omega arith) (takes-more _ _ _ (20 - c.loop-left.left) 1 c.loop-left.invariant.taken c.digit.ensures.taken);
+      taken = takes-more _ _ _ _ 1 _ (omega arith) c.loop.invariant.taken c.next_byte.ensures.taken;
     }
+
+pub returns-clause-taken : goal.returns-clause-taken
+returns-clause-taken g c = takes-less _ _ _ 20 (omega arith) c.loop.invariant.taken

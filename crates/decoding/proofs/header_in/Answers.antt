@@ -1,16 +1,14 @@
--- The metadata, element by element. Assumes nothing.
-use Rattle.std.proofs.Common.{List, ℕ, ◌+◌, ◌*◌, length, get_or, ap, arith}
-use borrow.Author.Tests.{le-leb}
-use Rattle.encoding.specs.Headers.{header_in}
-use Rattle.sections.proofs.Sections.{spread-part, header_with}
+-- A header of the bytes that there are, or too few. Assumes nothing.
+use Rattle.std.proofs.Common.{length}
+use borrow.Author.Tests.{le-leb, lt-leb}
+use Rattle.decoding.proofs.Spelled.{header-chunk}
 use Rattle.decoding.proofs.header_in.Goals as goal
 
+pub returns-in_default : goal.returns-in_default
+returns-in_default c = record { found = rw (lt-leb 17 (length c.args.bytes.now) c.in_default.ensures.cases) }
+
 pub returns : goal.returns
-unfolding header_in
 returns c =
     let b = c.args.bytes.now in
-    record {
-      found =
-          rw (le-leb 17 (length b) (omega arith), c.wide.ensures.0, c.wide-2.ensures.0)
-          (ap (λ (m : List ℕ). header_with (get_or b 0 0) (get_or b 1 0) (get_or b 2 0 + 256 * get_or b 3 0) m (get_or b 16 0)) (spread-part 4 12 b (omega arith)));
-    }
+    let row = c.in-Some.ensures.cases in
+    record { found = rw (le-leb 17 (length b) row.enough) (header-chunk b _ _ _ row.same c.from_le_bytes.ensures c.copy_from_slice.ensures.after) }

@@ -1,33 +1,69 @@
 -- The record that is found, or none.
-use Rattle.hex_format.proofs.Turns.{turned, found-missing, found-refused, found-payload, found-extended, found-end}
+use Rattle.std.proofs.Common.{◌≡◌}
+use Rattle.std.proofs.lemmas.Result.{err_from_is_err_and}
+use Rattle.refusals.specs.declared.Refusal.TheVariants.{EndRecord}
+use Rattle.hex_format.proofs.Turns.{turned, at-end, stopped, moved, data-turn, end-turn}
+use Rattle.text.specs.Scanning.{dues}
 use Rattle.hex_format.proofs.turn_at.Goals as goal
 
-pub returns-in-Missing-clause-turn : goal.returns-in-Missing-clause-turn
-returns-in-Missing-clause-turn c = found-missing c.args.text.now c.args.at _ c.args.upper c.args.due _ _ c.record_at-located.ensures.record c.in-Missing.is
+pub returns-in_err-record_at : goal.returns-in_err-record_at
+returns-in_err-record_at c =
+    let r = c.in_err-record_at.ensures in
+    let p = err_from_is_err_and c.from_residual.result c.from_residual.ensures.1 in
+    rw (p.1, p.2)
+    (record {
+      turn = λ ss. stopped c.args.text.now c.args.at c.args.upper _ (dues c.args.due ss) r.record;
+      found = turned c.args.text.now c.args.at c.args.upper c.args.due c.args.row.now _ r.located;
+      row = r.row;
+    })
 
-pub returns-in-Missing-clause-found : goal.returns-in-Missing-clause-found
-returns-in-Missing-clause-found c = (turned c.args.text.now c.args.at c.args.upper c.args.due c.args.row.now _ _ (c.record_at-located.ensures.located, c.record_at-located.ensures.row) _ c.in-Missing.is).0
+pub returns-in_err-found : goal.returns-in_err-found
+returns-in_err-found c =
+    let r = c.in_ok-record_at.ensures in
+    let none = c.in_err-found.ensures.ok_part in
+    let p = err_from_is_err_and c.from_residual-in_err-found.result c.from_residual-in_err-found.ensures.1 in
+    let e = rw none at c.in_err-found.ensures.value in
+    let q : c.in_err-found.field-0.0 ≡ EndRecord = cc e in
+    rw (p.1, p.2, q)
+    (record {
+      turn = λ ss. at-end c.args.text.now c.args.at c.args.upper (dues c.args.due ss) (rw none at r.record);
+      found = rw none at (turned c.args.text.now c.args.at c.args.upper c.args.due c.args.row.now _ r.located);
+      row = r.row;
+    })
 
-pub returns-in-Refused-clause-turn : goal.returns-in-Refused-clause-turn
-returns-in-Refused-clause-turn c = found-refused c.args.text.now c.args.at _ c.args.upper c.args.due _ _ c.record_at-located.ensures.record _ c.in-Refused.is
+pub returns-in-Payload : goal.returns-in-Payload
+returns-in-Payload c =
+    let r = c.in_ok-record_at.ensures in
+    let some = c.in_ok-found.ensures.ok_part in
+    let is = c.in-Payload.is in
+    let h = rw is at (rw some at r.record) in
+    rw c.data_turn.ensures
+    (record {
+      turn = data-turn c.args.text.now c.args.at _ c.args.upper _ _ c.args.due c.record_at.new.row h.0 h.1 h.2 h.3;
+      found = rw (some, is) at (turned c.args.text.now c.args.at c.args.upper c.args.due c.args.row.now _ r.located);
+      row = r.row;
+    })
 
-pub returns-in-Refused-clause-found : goal.returns-in-Refused-clause-found
-returns-in-Refused-clause-found c = (turned c.args.text.now c.args.at c.args.upper c.args.due c.args.row.now _ _ (c.record_at-located.ensures.located, c.record_at-located.ensures.row) _ c.in-Refused.is).0
+pub returns-in-Extended : goal.returns-in-Extended
+returns-in-Extended c =
+    let r = c.in_ok-record_at.ensures in
+    let some = c.in_ok-found.ensures.ok_part in
+    let is = c.in-Extended.is in
+    let l = rw is at (rw some at r.record) in
+    record {
+      turn = ((λ ss. moved c.args.text.now c.args.at _ c.args.upper _ ss l), l.more, l.inside);
+      found = rw (some, is) at (turned c.args.text.now c.args.at c.args.upper c.args.due c.args.row.now _ r.located);
+      row = r.row;
+    }
 
-pub returns-in-Payload-clause-turn : goal.returns-in-Payload-clause-turn
-returns-in-Payload-clause-turn c = rw c.data_turn.ensures (found-payload c.args.text.now c.args.at _ c.args.upper c.args.due _ _ c.record_at-located.ensures.record _ _ c.in-Payload.is)
-
-pub returns-in-Payload-clause-found : goal.returns-in-Payload-clause-found
-returns-in-Payload-clause-found c = rw c.data_turn.ensures (turned c.args.text.now c.args.at c.args.upper c.args.due c.args.row.now _ _ (c.record_at-located.ensures.located, c.record_at-located.ensures.row) _ c.in-Payload.is).0
-
-pub returns-in-Extended-clause-turn : goal.returns-in-Extended-clause-turn
-returns-in-Extended-clause-turn c = found-extended c.args.text.now c.args.at _ c.args.upper c.args.due _ _ c.record_at-located.ensures.record _ c.in-Extended.is
-
-pub returns-in-Extended-clause-found : goal.returns-in-Extended-clause-found
-returns-in-Extended-clause-found c = (turned c.args.text.now c.args.at c.args.upper c.args.due c.args.row.now _ _ (c.record_at-located.ensures.located, c.record_at-located.ensures.row) _ c.in-Extended.is).0
-
-pub returns-in-Ended-clause-turn : goal.returns-in-Ended-clause-turn
-returns-in-Ended-clause-turn c = rw c.end_turn.ensures (found-end c.args.text.now c.args.at _ c.args.upper c.args.due _ _ c.record_at-located.ensures.record c.in-Ended.is)
-
-pub returns-in-Ended-clause-found : goal.returns-in-Ended-clause-found
-returns-in-Ended-clause-found c = rw c.end_turn.ensures (turned c.args.text.now c.args.at c.args.upper c.args.due c.args.row.now _ _ (c.record_at-located.ensures.located, c.record_at-located.ensures.row) _ c.in-Ended.is).0
+pub returns-in-Ended : goal.returns-in-Ended
+returns-in-Ended c =
+    let r = c.in_ok-record_at.ensures in
+    let some = c.in_ok-found.ensures.ok_part in
+    let is = c.in-Ended.is in
+    rw c.end_turn.ensures
+    (record {
+      turn = end-turn c.args.text.now c.args.at _ c.args.upper c.args.due c.record_at.new.row (rw is at (rw some at r.record));
+      found = rw (some, is) at (turned c.args.text.now c.args.at c.args.upper c.args.due c.args.row.now _ r.located);
+      row = r.row;
+    })

@@ -1,28 +1,27 @@
--- The room tests of `data_put`, then the line.
-use Rattle.std.proofs.Common.{◌+◌, ◌*◌, ◌<◌, ◌≤◌, length, ◌∙◌, arith}
-use Rattle.hex_lines.proofs.Lines.{data-none, data-many, data-short, data-room}
+-- What is tested of `data_put`, then the line. Assumes nothing.
+use Rattle.std.proofs.Common.{◌≡◌, ◌/◌, ◌%◌, sym, ◌∙◌, arith}
+use Rattle.hex_lines.proofs.Lines.{data-length, line-by, data-by}
 use Rattle.hex_lines.proofs.put_data.Goals as goal
+use Rattle.hex_lines.proofs.put_data.Goals.{else-is_count-via-then-is_count+else-has_room, else-is_count-via-else-is_count}
 
-pub returns-then-n-eq0 : goal.returns-then-n-eq0
-returns-then-n-eq0 c = record { text = data-none c.args.text.now c.args.at c.args.low c.args.payload.now c.if-n-eq0.true }
+pub returns-then-has_room : goal.returns-then-has_room
+returns-then-has_room c =
+    let a = c.args in
+    let high : a.low / 256 % 256 ≡ a.low / 256 = omega arith in
+    record {
+      text = (rw (c.to_be_bytes.ensures, high) at c.put_line.ensures)
+          ∙ sym (data-by a.text.now a.at a.low a.payload.now _ (sym c.if-is_count.true ∙ c.is_count.ensures)
+          ∙ line-by a.text.now a.at _ _ _ (data-length a.low a.payload.now) (sym c.if-has_room.true ∙ c.has_room.ensures));
+    }
 
-pub returns-then-n-gt255 : goal.returns-then-n-gt255
-returns-then-n-gt255 c = record { text = data-many c.args.text.now c.args.at c.args.low c.args.payload.now c.if-n-gt255.true }
-
-pub returns-then-text-n : goal.returns-then-text-n
-returns-then-text-n c =
-    let some : 1 ≤ length c.args.payload.now = omega arith in
-    let short : length c.args.text.now < c.args.at + 13 + 2 * length c.args.payload.now = omega arith in
-    record { text = data-short c.args.text.now c.args.at c.args.low c.args.payload.now c.if-n-gt255.false some short }
-
-pub returns-then-text-n-2 : goal.returns-then-text-n-2
-returns-then-text-n-2 c =
-    let some : 1 ≤ length c.args.payload.now = omega arith in
-    let short : length c.args.text.now < c.args.at + 13 + 2 * length c.args.payload.now = omega arith in
-    record { text = data-short c.args.text.now c.args.at c.args.low c.args.payload.now c.if-n-gt255.false some short }
-
-pub returns : goal.returns
-returns c =
-    let some : 1 ≤ length c.args.payload.now = omega arith in
-    let room : c.args.at + 13 + 2 * length c.args.payload.now ≤ length c.args.text.now = omega arith in
-    record { text = c.put_line.ensures ∙ data-room c.args.text.now c.args.at c.args.low c.args.payload.now c.if-n-gt255.false some room }
+pub returns-else-is_count : goal.returns-else-is_count
+returns-else-is_count c =
+    let a = c.args in
+    record {
+      text = elim c.else-is_count.branch [
+        | else-is_count-via-then-is_count+else-has_room w ↦
+            sym (data-by a.text.now a.at a.low a.payload.now _ (sym w.if-is_count.true ∙ c.is_count.ensures)
+            ∙ line-by a.text.now a.at _ _ _ (data-length a.low a.payload.now) (sym w.if-has_room.false ∙ w.has_room.ensures))
+        | else-is_count-via-else-is_count w ↦ sym (data-by a.text.now a.at a.low a.payload.now _ (sym w.if-is_count.false ∙ c.is_count.ensures))
+      ];
+    }

@@ -1,8 +1,9 @@
--- The loop puts what is left.
-use Rattle.std.proofs.Common.{refl, arith}
+-- A pair more at a turn; the table has the capitals. Assumes nothing.
+use Rattle.std.proofs.Common.{refl, rules, arith}
 use Rattle.hex_lines.specs.Lines.{capitals_from}
-use Rattle.pairs.specs.Digits.{capital as capital_of}
-use Rattle.hex_lines.proofs.Pairs.{turn, ended}
+use Rattle.lent.specs.Words.{total}
+use Rattle.pairs.specs.Digits.{capital as capital_of, pairs_of}
+use Rattle.hex_lines.proofs.Pairs.{pairs-more, total-more}
 use Rattle.hex_lines.proofs.put_pairs.Goals as goal
 
 pub capital-requires : goal.capital-requires
@@ -13,12 +14,16 @@ pub capital-requires-in-loop-i : goal.capital-requires-in-loop-i
 unfolding capitals_from capital_of
 capital-requires-in-loop-i c = (refl, omega arith)
 
+pub loop-i-init : goal.loop-i-init
+unfolding total pairs_of
+loop-i-init c = record { kept = refl; small = omega arith; summed = refl; put = refl }
+
 pub loop-i-preserved : goal.loop-i-preserved
 loop-i-preserved c =
-    turn c.loop-i.invariant _ _ c.loop-i-test.true (omega (arith, c.type_inv.bytes c.loop-i.i)) c.capital.ensures c.capital-in-loop-i.ensures
-
-pub returns-clause-value_1 : goal.returns-clause-value_1
-returns-clause-value_1 c = (ended c.loop-i.invariant c.loop-i-test.false).0
-
-pub returns-clause-text_after : goal.returns-clause-text_after
-returns-clause-text_after c = (ended c.loop-i.invariant c.loop-i-test.false).1
+    let v = c.loop-i.invariant in
+    record {
+      kept = search rules;
+      small = omega (arith, v.small, c.type_inv.bytes c.loop-i.i);
+      summed = omega (arith, v.summed, total-more c.loop-i.i c.args.bytes.now c.loop-i-test.true, c.from-sum.ensures);
+      put = pairs-more c.args.text.now _ c.args.at c.loop-i.i c.args.bytes.now _ _ c.loop-i-test.true v.put c.capital.ensures c.capital-in-loop-i.ensures;
+    }

@@ -4,8 +4,8 @@ use Rattle.hex_reader.proofs.Scans.{Here}
 use Rattle.text.proofs.Scans.{buffers, filling}
 use Rattle.hex_reader.proofs.scan.Given as goal
 
-abbrev pub invariant-loop-n : goal.invariant-loop-n
-invariant-loop-n l = Here l.g l.text (buffers l.fn.image l.fn.header) (filling l.image l.header l.due) l.at l.upper
+abbrev pub invariant-loop-next : goal.invariant-loop-next
+invariant-loop-next l = Here l.g l.text (buffers l.fn.image l.fn.header) (filling l.image l.header l.due) l.at l.upper
 
-abbrev pub decreases-loop-n : goal.decreases-loop-n
-decreases-loop-n l = length l.text - l.at
+abbrev pub decreases-loop-next : goal.decreases-loop-next
+decreases-loop-next l = length l.text - l.at

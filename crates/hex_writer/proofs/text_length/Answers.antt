@@ -9,7 +9,7 @@ loop-k-init c = measure-start _ c.requires
 pub loop-k-preserved : goal.loop-k-preserved
 loop-k-preserved c =
     let n = c.lines_length-sum.ensures in
-    measure-turn c.loop-k.invariant (omega arith) _ c.section_at-s.ensures.section _ n.0 n.1
+    measure-turn c.loop-k.invariant (omega arith) _ c.section_at.ensures.section _ n.0 n.1
 
 pub returns : goal.returns
 returns c = measured c.loop-k.invariant (omega arith)

@@ -7,4 +7,4 @@ use Rattle.pairs.proofs.digit.Goals as goal
 pub returns : goal.returns
 returns c =
     let k = c.args.c in
-    ap (λ (t : List ℕ). get_or t k 0) c.requires ∙ digits-at 256 0 k (search rules) ∙ ap digit_of (omega arith)
+    rw c.from.ensures (ap (λ (t : List ℕ). get_or t k 0) c.requires ∙ digits-at 256 0 k (search rules) ∙ ap digit_of (omega arith))

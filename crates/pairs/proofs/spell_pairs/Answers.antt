@@ -1,9 +1,11 @@
 -- The table's entries, a pair that is none, a turn, and the end. Assumes nothing.
-use Rattle.std.proofs.Common.{◌≡◌, refl, arith}
+use Rattle.std.proofs.Common.{◌≡◌, [], ◌-◌, ◌*◌, length, refl, ◌∙◌, arith}
+use Rattle.std.proofs.lemmas.List.{set-get_or}
 use Rattle.pairs.specs.Digits.{digit_of}
-use Rattle.pairs.specs.Spelling.{digits_from}
+use Rattle.pairs.specs.Spelling.{digits_from, front, pairs_at}
 use Rattle.pairs.proofs.Spelling.{turn, stops, ends, row-then, none_left, front-high, front_low}
 use Rattle.pairs.proofs.spell_pairs.Goals as goal
+use Rattle.pairs.proofs.spell_pairs.Goals.{then-h-gt15-via-then-h-gt15, then-h-gt15-via-else-h-gt15+then-l-gt15}
 
 pub digit-h-requires : goal.digit-h-requires
 unfolding digits_from digit_of
@@ -13,43 +15,28 @@ pub digit-l-requires : goal.digit-l-requires
 unfolding digits_from digit_of
 digit-l-requires c = refl
 
-pub returns-then-h-gt15-clause-value : goal.returns-then-h-gt15-clause-value
-returns-then-h-gt15-clause-value c =
-    let l = c.loop-left in
-    let nil = front-high _ l.q l.left _ _ (omega arith) l.invariant.inside c.digit-h.ensures c.digit-l.ensures c.if-h-gt15.true in
-    stops l.invariant nil (omega arith)
+pub returns-then-h-gt15 : goal.returns-then-h-gt15
+returns-then-h-gt15 c =
+    let i = c.loop-i.i in
+    let left = length c.args.row.now - i in
+    let v = c.loop-i.invariant in
+    let same = set-get_or c.loop-i.row i 0 in
+    elim c.then-h-gt15.branch [
+      | then-h-gt15-via-then-h-gt15 w ↦
+          let nil : front (pairs_at c.args.text.now (2 * i) left) ≡ [] = front-high _ (2 * i) left _ _ (omega arith) (omega (arith, v.inside)) c.digit-h.ensures c.digit-l.ensures w.if-h-gt15.true in
+          record { value = stops v nil (omega arith); row = w.row-is ∙ same ∙ row-then v nil }
+      | then-h-gt15-via-else-h-gt15+then-l-gt15 w ↦
+          let nil : front (pairs_at c.args.text.now (2 * i) left) ≡ [] = front_low _ (2 * i) left _ _ (omega arith) (omega (arith, v.inside)) c.digit-h.ensures c.digit-l.ensures w.if-h-gt15.false w.if-l-gt15.true in
+          record { value = stops v nil (omega arith); row = w.row-is ∙ same ∙ row-then v nil }
+    ]
 
-pub returns-then-h-gt15-clause-row_after : goal.returns-then-h-gt15-clause-row_after
-returns-then-h-gt15-clause-row_after c =
-    let l = c.loop-left in
-    let nil = front-high _ l.q l.left _ _ (omega arith) l.invariant.inside c.digit-h.ensures c.digit-l.ensures c.if-h-gt15.true in
-    row-then l.invariant nil
+pub loop-i-preserved : goal.loop-i-preserved
+loop-i-preserved c =
+    rw c.from-sum.ensures (turn c.loop-i.invariant _ _ c.digit-h.ensures c.digit-l.ensures (omega arith) c.if-h-gt15.false c.if-l-gt15.false)
 
-pub returns-then-l-gt15-clause-value : goal.returns-then-l-gt15-clause-value
-returns-then-l-gt15-clause-value c =
-    let l = c.loop-left in
-    let nil = front_low _ l.q l.left _ _ (omega arith) l.invariant.inside c.digit-h.ensures c.digit-l.ensures c.if-h-gt15.false c.if-l-gt15.true in
-    stops l.invariant nil (omega arith)
-
-pub returns-then-l-gt15-clause-row_after : goal.returns-then-l-gt15-clause-row_after
-returns-then-l-gt15-clause-row_after c =
-    let l = c.loop-left in
-    let nil = front_low _ l.q l.left _ _ (omega arith) l.invariant.inside c.digit-h.ensures c.digit-l.ensures c.if-h-gt15.false c.if-l-gt15.true in
-    row-then l.invariant nil
-
-pub loop-left-preserved : goal.loop-left-preserved
-loop-left-preserved c =
-    let l = c.loop-left in
-    turn l.invariant _ _ c.digit-h.ensures c.digit-l.ensures (omega arith) c.if-h-gt15.false c.if-l-gt15.false
-
-pub returns-clause-value : goal.returns-clause-value
-returns-clause-value c =
-    let l = c.loop-left in
-    let z : l.left ≡ 0 = omega arith in
-    ends l.invariant (none_left _ l.q l.left z) z
-
-pub returns-clause-row_after : goal.returns-clause-row_after
-returns-clause-row_after c =
-    let l = c.loop-left in
-    let z : l.left ≡ 0 = omega arith in
-    row-then l.invariant (none_left _ l.q l.left z)
+pub returns : goal.returns
+returns c =
+    let l = c.loop-i in
+    let all : l.i ≡ length c.args.row.now = omega arith in
+    let nil = none_left _ (2 * l.i) (length c.args.row.now - l.i) (omega arith) in
+    record { value = ends l.invariant nil all; row = row-then l.invariant nil }

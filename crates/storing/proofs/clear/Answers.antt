@@ -1,25 +1,15 @@
--- One byte more, and the end. Assumes nothing.
-use Rattle.std.proofs.Common.{◌≡◌, ◌∙◌, length, arith}
-use borrow.Author.Fill.{fill_more}
+-- Room, or none. Assumes nothing.
+use Rattle.std.proofs.Common.{◌≡◌, min, length, arith, length-take}
 use borrow.Author.Tests.{le-leb, lt-leb}
 use Rattle.storing.specs.Storing.{cleared}
 use Rattle.storing.proofs.clear.Goals as goal
 
-pub returns-then-bytes-n : goal.returns-then-bytes-n
+pub returns-then-n-bytes : goal.returns-then-n-bytes
 unfolding cleared
-returns-then-bytes-n c = record { cleared = rw (lt-leb _ _ c.if-bytes-n.true) }
+returns-then-n-bytes c =
+    let e : min c.args.n (length c.args.bytes.now) ≡ c.args.n = omega arith in
+    record { cleared = rw (le-leb _ _ c.if-n-bytes.true, c.fill.ensures.after (λ y e. e), length-take, e) }
 
-pub loop-i-preserved : goal.loop-i-preserved
-loop-i-preserved c =
-    let l = c.loop-i in record {
-      inside = omega arith;
-      roomy = l.invariant.roomy;
-      zeroed = rw l.invariant.zeroed (fill_more l.i 0 c.args.bytes.now (omega arith));
-    }
-
-pub returns : goal.returns
+pub returns-else-n-bytes : goal.returns-else-n-bytes
 unfolding cleared
-returns c =
-    let a = c.args in
-    let e : c.loop-i.i ≡ a.n = omega arith in
-    record { cleared = (rw e at c.loop-i.invariant.zeroed) ∙ rw (le-leb a.n (length a.bytes.now) (omega arith)) }
+returns-else-n-bytes c = record { cleared = rw (lt-leb _ _ c.if-n-bytes.false) }

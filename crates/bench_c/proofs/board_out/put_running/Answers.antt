@@ -1,7 +1,9 @@
--- Idle or busy. Assumes nothing.
-use Rattle.bench_c.proofs.Boards.{busy-put}
+-- The bytes of a run over the last of a board's. Assumes nothing.
+use Rattle.std.proofs.Common.{◌∙◌, arith}
+use Rattle.bench_c.proofs.Boards.{running-put}
 use Rattle.bench_c.proofs.board_out.put_running.Goals as goal
 
-pub returns-in-Busy : goal.returns-in-Busy
-returns-in-Busy c =
-    busy-put c.args.bytes.now _ c.args.running _ _ _ _ c.in-Busy.is c.flag_byte.ensures.flag c.flag_byte-in-Busy.ensures.flag c.put_run-in-Busy.ensures
+pub returns : goal.returns
+returns c =
+    let a = c.args in
+    running-put a.bytes.now _ a.running (omega arith) (λ x. c.copy_from_slice.ensures.after ∙ c.running_bytes.ensures x)
