@@ -14,9 +14,8 @@ use Rattle.hex_records.specs.Places.{LineAt, LineTo, located_of}
 use Rattle.hex_format.specs.Texts.{upper_after, event_of, events}
 use Rattle.hex_records.specs.declared.Located.{Located}
 use Rattle.hex_format.specs.declared.Turn.TheVariants.{Done, Store}
-use Rattle.refusals.specs.declared.Refusal.{Refusal as Reason}
 use Rattle.refusals.specs.declared.Refusal.TheVariants.{DataPlace, EndRecord}
-use Rattle.std.specs.Prelude.{Option, Result, Ok, Err}
+use Rattle.std.specs.Prelude.{Ok, Err}
 use Rattle.sections.specs.declared.Section.{Section}
 use Rattle.pairs.specs.Lines.{Line, lines_of}
 use Rattle.text.specs.Placing.{Event, Data, Refusal, Stream, placing}
@@ -25,10 +24,10 @@ use Rattle.pairs.proofs.Lines.{some-line}
 use Rattle.hex_records.proofs.Bodies.{payload_in, payload-length}
 
 -- what is found leads where the definition says
-pub turned : (s : List ℕ) (at u : ℕ) (due : Section) (row : List ℕ) (l : Result (Option Located) Reason) → l ≡ located_of s at row
-    → turn_on due u (length s) l ≡ turn_of s at u due row
+pub turned : (s : List ℕ) (at u : ℕ) (due : Section) (row : List ℕ) (l : Located) → l ≡ located_of s at row
+    → turn_on due u (length s) l.next l.found ≡ turn_of s at u due row
 unfolding turn_of
-turned s at u due row l is = ap (turn_on due u (length s)) is
+turned s at u due row l is = ap (λ (x : Located). turn_on due u (length s) x.next x.found) is
 
 -- nothing is left
 no_lines : (s : List ℕ) (at : ℕ) → length s ≤ at → lines_of (drop at s) ≡ []

@@ -6,7 +6,6 @@ use Rattle.hex_format.specs.declared.Turn.TheVariants.{Done, Moved, Store}
 use Rattle.hex_records.specs.Places.{located_of}
 use Rattle.hex_records.specs.declared.Found.{Found}
 use Rattle.hex_records.specs.declared.Found.TheVariants.{Payload, Extended, Ended}
-use Rattle.hex_records.specs.declared.Located.{Located}
 use Rattle.pairs.specs.Lines.{lines_of}
 use Rattle.refusals.specs.Refusals.{refusal_number}
 use Rattle.refusals.specs.declared.Refusal.{Refusal}
@@ -35,13 +34,13 @@ turn_to due upper len next (Extended new) = Ok (Moved next new)
 turn_to due upper len next Ended = end_turn due next len
 
 -- no line is left: '5 end record missing'
-abbrev pub turn_on : Section → (upper len : ℕ) → Result (Option Located) Refusal → Result Turn Refusal
-turn_on due upper len (Ok None) = Err EndRecord
-turn_on due upper len (Ok (Some l)) = turn_to due upper len l.next l.found
-turn_on due upper len (Err r) = Err r
+abbrev pub turn_on : Section → (upper len next : ℕ) → Result (Option Found) Refusal → Result Turn Refusal
+turn_on due upper len next (Ok None) = Err EndRecord
+turn_on due upper len next (Ok (Some f)) = turn_to due upper len next f
+turn_on due upper len next (Err r) = Err r
 
 unfoldable pub turn_of : (text : List ℕ) (at upper : ℕ) → Section → (row : List ℕ) → Result Turn Refusal
-turn_of text at upper due row = turn_on due upper (length text) (located_of text at row)
+turn_of text at upper due row = turn_on due upper (length text) (located_of text at row).next (located_of text at row).found
 
 -- what a turn does to the content, whatever sections follow the one that is due
 abbrev pub TurnAt : (text : List ℕ) (at upper : ℕ) → Section → Result Turn Refusal → (row : List ℕ) → Type 0

@@ -56,8 +56,8 @@ pub fn turn_at(
     ensures found { result ≡ turn_of text.now at upper due row.old }
     ensures row { row.new ≡ located_row text.now at row.old }
 {
-    let Located { found, next } = hex_records::record_at(text, at, row)?.ok_or(Refusal::EndRecord)?;
-    match found {
+    let Located { found, next } = hex_records::record_at(text, at, row);
+    match found?.ok_or(Refusal::EndRecord)? {
         Found::Payload { low, count } => data_turn(due, upper, low, count, next),
         Found::Extended { upper: new } => Ok(Turn::Moved { next, upper: new }),
         Found::Ended => end_turn(due, next, text.len()),

@@ -82,10 +82,10 @@ module _ (s : List ℕ) (at next : ℕ) (row : List ℕ) (kind low count upper :
         (cond a (cond b (DataRecord low (payload_in row count)) (BadRecord 3))
         (cond c (cond (d && e) (ExtendedAddress (high_first (payload_in row count))) (BadRecord 3))
         (cond f (cond (g && e) EndRecord (BadRecord 3)) (BadRecord 3))))
-        → FoundAt s at
+        → FoundAt s at next
         (located
         (cond a (cond b (Ok (Payload low count)) (Err RecordType))
-        (cond c (cond (d && e) (Ok (Extended upper)) (Err RecordType)) (cond f (cond (g && e) (Ok Ended) (Err RecordType)) (Err RecordType)))) next) row
+        (cond c (cond (d && e) (Ok (Extended upper)) (Err RecordType)) (cond f (cond (g && e) (Ok Ended) (Err RecordType)) (Err RecordType)))) next).found row
     by-type true true c d e f g p q l = (l, leb-true 1 count p, small, room)
     by-type true false c d e f g p q l = line_at s at next (BadRecord 3) l
     by-type false b true true true f g p q l =
@@ -99,7 +99,7 @@ module _ (s : List ℕ) (at next : ℕ) (row : List ℕ) (kind low count upper :
     by-type false b false d e true false p q l = line_at s at next (BadRecord 3) l
     by-type false b false d e false g p q l = line_at s at next (BadRecord 3) l
 
-    pub found_at : LineTo s at next (typed kind low (payload_in row count)) → FoundAt s at (located (found_of kind low count upper) next) row
+    pub found_at : LineTo s at next (typed kind low (payload_in row count)) → FoundAt s at next (located (found_of kind low count upper) next).found row
     unfolding typed found_of
     found_at l =
         by-type (eqb kind 0) (leb 1 count) (eqb kind 4) (eqb count 2) (eqb low 0) (eqb kind 1) (eqb count 0) refl refl (rw (payload-length row count room) at l)
@@ -116,7 +116,7 @@ module _ (s : List ℕ) (at : ℕ) (f : Option Frame) (row : List ℕ) (h : Fram
     pub frame-sum : (fr.sum % 256 ≡ 0 → ⊥) → LineAt s at (BadRecord 2)
     frame-sum i = line_at s at fr.next (BadRecord 2) (rw (bad_sum row fr.count fr.sum wide line.1 i) at line.0)
 
-    pub frame_found : (r : Result Found Refusal) → r ≡ found_in row fr.count → fr.sum % 256 ≡ 0 → FoundAt s at (located r fr.next) row
+    pub frame_found : (r : Result Found Refusal) → r ≡ found_in row fr.count → fr.sum % 256 ≡ 0 → FoundAt s at fr.next (located r fr.next).found row
     frame_found r er i =
         rw er
         (found_at s at fr.next row (get_or row 3 0) (low_in row) fr.count (256 * get_or row 4 0 + get_or row 5 0) line.1.small

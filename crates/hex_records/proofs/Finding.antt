@@ -47,23 +47,23 @@ module _ (s : List ℕ) (at : ℕ) (row : List ℕ) where
         unfolding frame_on
         all_there sum w es ew some = by_count _ (rw (es, ew, good, ne_eqb (line_end s (at + 11 + 2 * get_or row' 0 0)) 0 (λ z. some (ew ∙ z))) refl)
 
-  abbrev pub Locates : Result (Option Located) Refusal → List ℕ → Type 0
+  abbrev pub Locates : Located → List ℕ → Type 0
   Locates l row' = (l ≡ located_of s at row) × (row' ≡ located_row s at row)
 
-  pub no_line : length s ≤ at → Locates (Ok None) row
+  pub no_line : length s ≤ at → Locates (record { found = Ok None; next = 0 }) row
   unfolding located_of located_row
   no_line h = rw (le-leb (length s) at h) (refl, refl)
 
   module _ (here : at < length s) (f : Option Frame) (row' : List ℕ) (leaves : Leaves f row') where
-    by-frame : (l : Result (Option Located) Refusal) → l ≡ located_in f row' → Locates l row'
+    by-frame : (l : Located) → l ≡ located_in f row' → Locates l row'
     unfolding located_of located_row
     by-frame l e = rw (e, leaves.0, leaves.1, lt-leb (length s) at here) (refl, refl)
 
-    pub not-framed : f ≡ None → Locates (Err LineForm) row'
+    pub not-framed : f ≡ None → Locates (located (Err LineForm) 0) row'
     not-framed e = by-frame _ (rw e refl)
 
     module _ (fr : Frame) (e : f ≡ Some fr) where
-      pub not-summed : (fr.sum % 256 ≡ 0 → ⊥) → Locates (Err RecordSum) row'
+      pub not-summed : (fr.sum % 256 ≡ 0 → ⊥) → Locates (located (Err RecordSum) 0) row'
       not-summed h = by-frame _ (rw (e, ne_eqb (fr.sum % 256) 0 h) refl)
 
       pub recorded : fr.sum % 256 ≡ 0 → (r : Result Found Refusal) → r ≡ found_in row' fr.count → Locates (located r fr.next) row'

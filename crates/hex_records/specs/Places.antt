@@ -76,17 +76,17 @@ found_of kind low count upper =
 abbrev pub found_in : (row : List ℕ) (count : ℕ) → Result Found Refusal
 found_in row count = found_of (get_or row 3 0) (256 * get_or row 1 0 + get_or row 2 0) count (256 * get_or row 4 0 + get_or row 5 0)
 
-abbrev pub located : Result Found Refusal → (next : ℕ) → Result (Option Located) Refusal
-located (Ok f) next = Ok (Some (record { found = f; next = next }))
-located (Err r) next = Err r
+abbrev pub located : Result Found Refusal → (next : ℕ) → Located
+located (Ok f) next = record { found = Ok (Some f); next = next }
+located (Err r) next = record { found = Err r; next = next }
 
 -- '1 line form' for a broken frame, '2 record sum' for a sum that is not 0, else the record
-abbrev pub located_in : Option Frame → (row : List ℕ) → Result (Option Located) Refusal
-located_in None row = Err LineForm
-located_in (Some f) row = cond (eqb (f.sum % 256) 0) (located (found_in row f.count) f.next) (Err RecordSum)
+abbrev pub located_in : Option Frame → (row : List ℕ) → Located
+located_in None row = located (Err LineForm) 0
+located_in (Some f) row = cond (eqb (f.sum % 256) 0) (located (found_in row f.count) f.next) (located (Err RecordSum) 0)
 
-unfoldable pub located_of : (text : List ℕ) (at : ℕ) (row : List ℕ) → Result (Option Located) Refusal
-located_of text at row = cond (leb (length text) at) (Ok None) (located_in (frame_of text at row) (frame_row text at row))
+unfoldable pub located_of : (text : List ℕ) (at : ℕ) (row : List ℕ) → Located
+located_of text at row = cond (leb (length text) at) (record { found = Ok None; next = 0 }) (located_in (frame_of text at row) (frame_row text at row))
 
 unfoldable pub located_row : (text : List ℕ) (at : ℕ) (row : List ℕ) → List ℕ
 located_row text at row = cond (leb (length text) at) row (frame_row text at row)
@@ -101,7 +101,7 @@ FoundTo text at next (Extended upper) row = LineTo text at next (ExtendedAddress
 FoundTo text at next Ended row = LineTo text at next EndRecord
 
 -- what is found at a position: no line, or its record, or 1, 2 or 3
-abbrev pub FoundAt : (text : List ℕ) (at : ℕ) → Result (Option Located) Refusal → (row : List ℕ) → Type 0
-FoundAt text at (Ok None) row = length text ≤ at
-FoundAt text at (Ok (Some l)) row = FoundTo text at l.next l.found row
-FoundAt text at (Err r) row = LineAt text at (BadRecord (refusal_number r))
+abbrev pub FoundAt : (text : List ℕ) (at next : ℕ) → Result (Option Found) Refusal → (row : List ℕ) → Type 0
+FoundAt text at next (Ok None) row = length text ≤ at
+FoundAt text at next (Ok (Some f)) row = FoundTo text at next f row
+FoundAt text at next (Err r) row = LineAt text at (BadRecord (refusal_number r))

@@ -1,8 +1,8 @@
 // The records of an Intel hex text, one at a position (document 01, 'Hex text').
 #![tactic(auto)]
 
-ghost use Rattle.std.specs.Prelude.{◌≡◌, ◌<◌, length};
-ghost use Rattle.hex_records.specs.Places.{FrameAt, frame_of, frame_row, found_in, located_of, located_row, FoundAt};
+ghost use Rattle.std.specs.Prelude.{◌≡◌, ◌<◌, length, Err};
+ghost use Rattle.hex_records.specs.Places.{FrameAt, frame_of, frame_row, found_in, located, located_of, located_row, FoundAt};
 
 use refusals::Refusal;
 
@@ -23,10 +23,10 @@ pub enum Found {
     Ended,
 }
 
-// A record and where the next line begins.
+// What is found, `None` where no line is, and where the next line begins: 0 where there is no record, for want of a line or by 1 or 2.
 #[derive(Clone, Copy)]
 pub struct Located {
-    pub found: Found,
+    pub found: Result<Option<Found>, Refusal>,
     pub next: usize,
 }
 
@@ -40,9 +40,9 @@ fn frame_at(text: &[u8], at: usize, row: &mut [u8; 260]) -> Option<Frame>
     if text[at] != b':' {
         return None;
     }
-    pairs::spell(row, text, at + 1, 1)?;
+    pairs::spell(row, text, at + 1, 1).ok()?;
     let count = usize::from(row[0]);
-    let sum = pairs::spell(row, text, at + 1, count + 5)?;
+    let sum = pairs::spell(row, text, at + 1, count + 5).ok()?;
     let end = at + 11 + 2 * count;
     let width = pairs::line_end(text, end);
     if width == 0 {
@@ -71,22 +71,39 @@ fn typed_in(row: &[u8; 260], count: usize) -> Result<Found, Refusal>
     }
 }
 
+// A line that is refused.
+fn refused(refusal: Refusal, next: usize) -> Located
+    ensures { result ≡ located (Err refusal) next }
+{
+    Located {
+        found: Err(refusal),
+        next,
+    }
+}
+
 // The record of the line at a position, if there is a line.
-pub fn record_at(text: &[u8], at: usize, row: &mut [u8; 260]) -> Result<Option<Located>, Refusal>
-    ensures record { FoundAt text.now at result row.new }
+pub fn record_at(text: &[u8], at: usize, row: &mut [u8; 260]) -> Located
+    ensures record { FoundAt text.now at result.next result.found row.new }
     ensures located { result ≡ located_of text.now at row.old }
     ensures row { row.new ≡ located_row text.now at row.old }
 {
     if text.len() <= at {
-        return Ok(None);
+        return Located {
+            found: Ok(None),
+            next: 0,
+        };
     }
-    let frame = frame_at(text, at, row).ok_or(Refusal::LineForm)?;
+    let Some(frame) = frame_at(text, at, row) else {
+        return refused(Refusal::LineForm, 0);
+    };
     if frame.sum % 256 != 0 {
-        return Err(Refusal::RecordSum);
+        return refused(Refusal::RecordSum, 0);
     }
-    let found = typed_in(row, frame.count)?;
-    Ok(Some(Located {
-        found,
-        next: frame.next,
-    }))
+    match typed_in(row, frame.count) {
+        Ok(found) => Located {
+            found: Ok(Some(found)),
+            next: frame.next,
+        },
+        Err(refusal) => refused(refusal, frame.next),
+    }
 }

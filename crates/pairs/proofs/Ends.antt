@@ -5,11 +5,10 @@ use mathlib.Core.Path.{◌≡◌, refl, sym, ap, ◌∙◌}
 use Prim.Native.Nat.{ℕ, zero, suc, ◌+◌, ◌-◌, ◌*◌, ◌≤◌, ◌<◌}
 use native.Mathlib.Omega.{arith}
 use borrow.Author.Tests.{le-leb, lt-leb}
-use Rattle.std.specs.Prelude.{Option, None}
 use lib.ListN.{length, take, drop, set, length-set, length-drop, take-append-drop}
 use lib.Seq.{sets, set-append_left, length-take-le, take_all}
 use Rattle.pairs.specs.Digits.{digit_of, is_digit}
-use Rattle.pairs.specs.Spelling.{front, pairs_at, run_of, pair_run_of, run_sum, row_after}
+use Rattle.pairs.specs.Spelling.{PairRun, front, pairs_at, run_of, pair_run_of, row_after}
 
 -- so many characters spell half as many bytes at most
 front-length : (m : List ℕ) (k : ℕ) → length m ≤ 2 * k → length (front m) ≤ k
@@ -32,7 +31,7 @@ sets-left (v ∷ vs) xs ys i h =
 -- k pairs from p on that have no room in the text or the row, and those that have
 module _ (row text : List ℕ) (p k : ℕ) where
   abbrev Nothing : Type 0
-  Nothing = (None ≡ run_sum (pair_run_of text p k (length row))) × (row ≡ row_after row text p k)
+  Nothing = (record { good = false; sum = 0 } ≡ pair_run_of text p k (length row)) × (row ≡ row_after row text p k)
 
   pub too_many : 260 < k → Nothing
   unfolding pair_run_of row_after
@@ -58,17 +57,17 @@ module _ (row text : List ℕ) (p k : ℕ) where
       let g = le-leb (p + 2 * k) (length text) j in (rw (e, f, g), rw (e, f, g))
 
   -- so the loop gives what is wanted, from the part of the text and of the row that it has
-  pub all-spelt : k ≤ 260 → k ≤ length row → p + 2 * k ≤ length text → (r : Option ℕ) (row' : List ℕ)
-      → r ≡ run_sum (run_of (take (length text - p) (drop p text)) 0 (length (take k row)))
+  pub all-spelt : k ≤ 260 → k ≤ length row → p + 2 * k ≤ length text → (r : PairRun) (row' : List ℕ)
+      → r ≡ run_of (take (length text - p) (drop p text)) 0 (length (take k row))
       → row' ≡ sets (take k row) 0 (front (pairs_at (take (length text - p) (drop p text)) 0 (length (take k row))))
-      → (r ≡ run_sum (pair_run_of text p k (length row))) × (row' ++ drop k row ≡ row_after row text p k)
+      → (r ≡ pair_run_of text p k (length row)) × (row' ++ drop k row ≡ row_after row text p k)
   all-spelt h i j r row' er ew =
       let n : length (take k row) ≡ k = length-take-le k row i in
       let t : take (length text - p) (drop p text) ≡ drop p text = take_all (length text - p) (drop p text) (omega (arith, length-drop p text)) in
       let e = has_room h i j in
       let vs = front (pairs_at text p k) in
       let few = front-length (pairs_at text p k) k (omega (arith, length-take-le (2 * k) (drop p text) (omega (arith, length-drop p text)))) in (
-        rw (t, n) at er ∙ ap run_sum (sym e.0),
+        rw (t, n) at er ∙ sym e.0,
         ap (λ (l : List ℕ). l ++ drop k row) (rw (t, n) at ew)
             ∙ sym (sets-left vs (take k row) (drop k row) 0 (omega arith))
             ∙ ap (λ (l : List ℕ). sets l 0 vs) (take-append-drop k row)

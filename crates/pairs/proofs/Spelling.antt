@@ -1,6 +1,7 @@
 -- Laws of digit pairs at a position of a text. Assumes nothing.
 use mathlib.Core.List.{List, [], ◌∷◌}
-use Rattle.std.specs.Prelude.{Bool, true, false, cond, Some, None}
+use Rattle.std.specs.Prelude.{true, false, Some, None, Result, Ok, Err}
+use Rattle.std.specs.Result.{result_ok}
 use mathlib.Core.Path.{◌≡◌, refl, sym, ap, ◌∙◌}
 use Prim.Native.Nat.{ℕ, zero, suc, ◌+◌, ◌-◌, ◌*◌, ◌≤◌, ◌<◌}
 use native.Mathlib.Omega.{arith}
@@ -10,7 +11,7 @@ use lib.ListN.{length, get_or, take, drop, set, length-set}
 use lib.Seq.{sets, drop-cons}
 use Rattle.lent.specs.Words.{total}
 use Rattle.pairs.specs.Digits.{digit_of}
-use Rattle.pairs.specs.Spelling.{PairRun, digits_from, front, pairs_at, run_of, run_sum}
+use Rattle.pairs.specs.Spelling.{PairRun, digits_from, front, pairs_at, run_of, run_told}
 
 -- the table's entry is the digit's value
 pub digits-at : (n i k : ℕ) → k < n → get_or (digits_from i n) k 0 ≡ digit_of (i + k)
@@ -76,10 +77,10 @@ module _ {text row₀ row : List ℕ} {i sum : ℕ} (v : Spelling text row₀ ro
     row-then = sym (v.written ∙ ap (sets row i) nil)
 
     -- it stops before the last pair, or after it
-    pub stops : i < length row₀ → None ≡ run_sum (run_of text 0 (length row₀))
-    stops h = rw (come, ne_eqb i (length row₀) (λ e. absurd (omega arith)))
+    pub stops : i < length row₀ → record { good = false; sum = sum } ≡ run_of text 0 (length row₀)
+    stops h = rw (come, added, ne_eqb i (length row₀) (λ e. absurd (omega arith)))
 
-    pub ends : i ≡ length row₀ → Some sum ≡ run_sum (run_of text 0 (length row₀))
+    pub ends : i ≡ length row₀ → record { good = true; sum = sum } ≡ run_of text 0 (length row₀)
     ends h = rw (come, added, eq-eqb i (length row₀) h)
 
   -- one turn
@@ -119,17 +120,11 @@ pub none_left : (text : List ℕ) (q left : ℕ) → left ≡ 0 → front (pairs
 unfolding front
 none_left text q left h = rw h
 
--- a run's sum, or none
-pub none-run : (r : PairRun) → None ≡ run_sum r → r.good ≡ false
-none-run r e = go r.good e
-  where
-    go : (b : Bool) → None ≡ cond b (Some r.sum) None → b ≡ false
-    go true f = cc
-    go false f = refl
+-- the run of a result that is no sum, and of one that is
+pub none-run : (q : Result ℕ ℕ) (r : PairRun) → None ≡ result_ok q → run_told q ≡ r → r.good ≡ false
+none-run (Ok s) r n e = absurd (cc n)
+none-run (Err s) r n e = sym (ap (λ (x : PairRun). x.good) e)
 
-pub some-run : (r : PairRun) (sum : ℕ) → Some sum ≡ run_sum r → (r.good ≡ true) × (sum ≡ r.sum)
-some-run r sum e = go r.good e
-  where
-    go : (b : Bool) → Some sum ≡ cond b (Some r.sum) None → (b ≡ true) × (sum ≡ r.sum)
-    go true f = (refl, cc)
-    go false f = absurd (cc)
+pub some-run : (q : Result ℕ ℕ) (r : PairRun) (sum : ℕ) → Some sum ≡ result_ok q → run_told q ≡ r → (r.good ≡ true) × (sum ≡ r.sum)
+some-run (Ok s) r sum n e = let is : sum ≡ s = cc n in (sym (ap (λ (x : PairRun). x.good) e), is ∙ ap (λ (x : PairRun). x.sum) e)
+some-run (Err s) r sum n e = absurd (cc n)

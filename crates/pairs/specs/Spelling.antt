@@ -1,5 +1,5 @@
 -- What the functions on digit pairs and line ends give, at a position of a text. Assumes nothing.
-use Rattle.std.specs.Prelude.{Bool, false, ◌&&◌, cond, List, [], ◌∷◌, ℕ, zero, suc, ◌+◌, ◌*◌, eqb, leb, length, get_or, take, drop, Option, Some, None}
+use Rattle.std.specs.Prelude.{Bool, true, false, ◌&&◌, cond, List, [], ◌∷◌, ℕ, zero, suc, ◌+◌, ◌*◌, eqb, leb, length, get_or, take, drop, Result, Ok, Err}
 use Rattle.std.proofs.lemmas.List.Edits.{sets}
 use Rattle.lent.specs.Words.{total}
 use Rattle.pairs.specs.Digits.{digit_of, is_digit}
@@ -35,9 +35,10 @@ run_of text p k = record { good = eqb (length (front (pairs_at text p k))) k; su
 unfoldable pub pair_run_of : (text : List ℕ) (p k room : ℕ) → PairRun
 pair_run_of text p k room = cond (has_pairs text p k room) (run_of text p k) (record { good = false; sum = 0 })
 
--- the sum where all are pairs
-abbrev pub run_sum : PairRun → Option ℕ
-run_sum r = cond r.good (Some r.sum) None
+-- a result as a run: `Ok` where all are pairs
+abbrev pub run_told : Result ℕ ℕ → PairRun
+run_told (Ok s) = record { good = true; sum = s }
+run_told (Err s) = record { good = false; sum = s }
 
 -- the row with what they spell from its start on
 unfoldable pub row_after : (row text : List ℕ) (p k : ℕ) → List ℕ

@@ -11,18 +11,18 @@ returns-then-text-at-ne58 c =
     let l = no-colon c.args.text.now c.args.at w c.if-text-at-ne58.true in
     record { frame = bad-colon c.args.text.now c.args.at c.requires w (omega arith) c.if-text-at-ne58.true; value = l.0; row = l.1 }
 
-pub returns-in_err-spell : goal.returns-in_err-spell
-returns-in_err-spell c =
+pub returns-in_err-ok : goal.returns-in_err-ok
+returns-in_err-ok c =
     let w = c.args.row.now in
-    let none = none-run _ c.in_err-spell.ensures.run in
+    let none = none-run _ _ c.in_err-ok.ensures.value c.spell.ensures.run in
     let l = no-count c.args.text.now c.args.at w c.if-text-at-ne58.false none _ c.spell.ensures.row in
     rw c.from_residual.ensures (record { frame = bad-count c.args.text.now c.args.at c.requires w (omega arith) none; value = l.0; row = l.1 })
 
 pub returns-in_err-sum : goal.returns-in_err-sum
 returns-in_err-sum c =
     let w = c.args.row.now in
-    let counted = some-run _ _ c.in_ok-spell.ensures.run in
-    let none = none-run _ (rw c.from-count.ensures at c.in_err-sum.ensures.run) in
+    let counted = some-run _ _ _ c.in_ok-ok.ensures.value c.spell.ensures.run in
+    let none = none-run _ _ c.in_err-sum.ensures.value (rw c.from-count.ensures at c.spell-2.ensures.run) in
     let all = rw c.from-count.ensures at c.spell-2.ensures.row in
     let l = no_run c.args.text.now c.args.at w c.if-text-at-ne58.false counted.0 _ c.spell.ensures.row _ all none in
     rw c.from_residual-in_err-sum.ensures
@@ -31,8 +31,8 @@ returns-in_err-sum c =
 pub returns-then-width-eq0 : goal.returns-then-width-eq0
 returns-then-width-eq0 c =
     let w = c.args.row.now in
-    let counted = some-run _ _ c.in_ok-spell.ensures.run in
-    let summed = some-run _ _ (rw c.from-count.ensures at c.in_ok-sum.ensures.run) in
+    let counted = some-run _ _ _ c.in_ok-ok.ensures.value c.spell.ensures.run in
+    let summed = some-run _ _ _ c.in_ok-sum.ensures.value (rw c.from-count.ensures at c.spell-2.ensures.run) in
     let all = rw c.from-count.ensures at c.spell-2.ensures.row in
     let none = sym (rw c.from-count.ensures at c.line_end-width.ensures.end) ∙ c.if-width-eq0.true in
     let l = no_end c.args.text.now c.args.at w c.if-text-at-ne58.false counted.0 _ c.spell.ensures.row _ all summed.0 none in
@@ -45,8 +45,8 @@ overflow_add-result c =
 pub returns : goal.returns
 returns c =
     let w = c.args.row.now in
-    let counted = some-run _ _ c.in_ok-spell.ensures.run in
-    let summed = some-run _ _ (rw c.from-count.ensures at c.in_ok-sum.ensures.run) in
+    let counted = some-run _ _ _ c.in_ok-ok.ensures.value c.spell.ensures.run in
+    let summed = some-run _ _ _ c.in_ok-sum.ensures.value (rw c.from-count.ensures at c.spell-2.ensures.run) in
     let all = rw c.from-count.ensures at c.spell-2.ensures.row in
     let end = rw c.from-count.ensures at c.line_end-width.ensures.end in
     let l = all_there c.args.text.now c.args.at w c.if-text-at-ne58.false counted.0 _ c.spell.ensures.row _ all summed.0 _ _ summed.1 end c.if-width-eq0.false in
