@@ -6,7 +6,7 @@ use native.Mathlib.Omega.{arith}
 use lib.ListN.{length, get_or, set, take, drop, replicate, length-set}
 use lib.Seq.{sets, sets-eq, length-take-le}
 use borrow.Rule.Slice.PartMut.{put_mid}
-use Rattle.std.proofs.Common.{append_assoc, append-nil, w32}
+use Rattle.std.proofs.Common.{append-nil, w32}
 use Rattle.std.proofs.lemmas.List.{drop-drop, drop_all, drop_at, take_at, take-replicate}
 use Rattle.std.specs.Int.{to_le_bytes}
 use Rattle.flow.specs.Calls.{bytes_in}
@@ -49,22 +49,16 @@ sets_end d a (suc i) (suc n) (x ∷ xs) h = sets_end (set d a x) (suc a) i n xs 
 pub sets-none : (d : List ℕ) (a : ℕ) (xs : List ℕ) → length d ≤ a → d ≡ sets d a xs
 sets-none d a xs h = sym (sets-out d a xs h)
 
--- ---- runs laid at once
-
--- n bytes, all of src, or as many as there is room for
-pub overlaid : (d : List ℕ) (a n k m : ℕ) (src w : List ℕ) → k ≡ min (min n (length src)) (length d - a) → w ≡ take k src → m ≡ k → a < length d
-    → put_mid a m d w ≡ sets d a (take n src)
-overlaid d a n k m src w e f g h =
-    let l : length (take k src) ≡ k = length-take-le k src (omega arith) in
-    let r : sets d a (take k src) ≡ take a d ++ take k src ++ drop (a + length (take k src)) d = sets-eq (take k src) d a (omega arith) in
-    rw (f, g, drop-drop k a d) (sym (append_assoc (take a d) (take k src) (drop (a + k) d)) ∙ sym (rw l at r)) ∙ sets_end d a k n src e
+-- ---- a part laid, and the rest filled
 
 -- src, as far as there is room, and zeros
-pub fitted : (d src v w : List ℕ) (n k m : ℕ) → n ≡ min (length src) (length d) → v ≡ take n src → w ≡ replicate k 0 → k ≡ length d - n → m ≡ k
-    → put_mid n m (v ++ drop n d) w ≡ sized d src
+pub fitted : (d src v w : List ℕ) (n k m : ℕ) → n ≡ min (length src) (length d) → v ≡ sets d 0 (take n src) → w ≡ replicate k 0 → k ≡ length d - n → m ≡ k
+    → put_mid n m v w ≡ sized d src
 fitted d src v w n k m e f g h o =
-    let l : length v ≡ n = ap length f ∙ length-take-le n src (omega arith) in
-    rw (take_at v (drop n d) n l, drop_at v (drop n d) n l, drop-drop m n d, drop_all (n + m) d (omega arith), append-nil, f, g)
+    let l : length (take n src) ≡ n = length-take-le n src (omega arith) in
+    let z : 0 + n ≡ n = omega arith in
+    let p : v ≡ take n src ++ drop n d = f ∙ rw z at (rw l at (sets-eq (take n src) d 0 (omega arith))) in
+    rw (p, take_at (take n src) (drop n d) n l, drop_at (take n src) (drop n d) n l, drop-drop m n d, drop_all (n + m) d (omega arith), append-nil, g)
     (sym (go src (length d) (length d) n k (omega arith) e h))
   where
     go : (s : List ℕ) (l t n k : ℕ) → l ≤ t → n ≡ min (length s) l → k ≡ l - n → take l (s ++ replicate t 0) ≡ take n s ++ replicate k 0

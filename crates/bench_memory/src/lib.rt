@@ -27,8 +27,10 @@ fn overlay(dst: &mut [u8], at: usize, src: &[u8], n: usize)
     ensures { dst.new ≡ sets dst.old at (take n src.now) }
 {
     if at < dst.len() {
-        let n = n.min(src.len()).min(dst.len() - at);
-        dst[at..at + n].copy_from_slice(&src[..n]);
+        // By bytes: `copy_from_slice` would have the archive of bench_c need `memmove`.
+        for i in 0..n.min(src.len()).min(dst.len() - at) {
+            dst[at + i] = src[i];
+        }
     }
 }
 
@@ -36,8 +38,11 @@ fn overlay(dst: &mut [u8], at: usize, src: &[u8], n: usize)
 fn fit(dst: &mut [u8], src: &[u8])
     ensures { dst.new ≡ sized dst.old src.now }
 {
+    // By bytes, as in `overlay`.
     let n = src.len().min(dst.len());
-    dst[..n].copy_from_slice(&src[..n]);
+    for i in 0..n {
+        dst[i] = src[i];
+    }
     dst[n..].fill(0);
 }
 
