@@ -3,6 +3,7 @@
 
 ghost use Rattle.std.specs.Prelude.{◌≡◌};
 ghost use Rattle.calls.specs.Calls.{answer_in, after_read_call, after_write_call, after_start_call, after_step_call};
+ghost use Rattle.refusals.specs.Refusals.{number_in};
 
 use decoding::header_in;
 use encoding::{number_of, put_header, put_length};
@@ -23,6 +24,13 @@ fn answer_in(reset: u8, ack: u8, word: u32, parity: u8) -> Answer
     }
 }
 
+// The number of a refusal, and 0 of anything else: what every call returns.
+fn number_in<T: Copy>(given: Result<T, Refusal>) -> u32
+    ensures { result ≡ number_in given }
+{
+    number_of(given.map_err(Refusal::number))
+}
+
 // Takes the answer to the standing request; gives the next request or the report.
 // Kept: the C interface: include/halzuqeen.h declares these four, so each parameter stands alone, and a number comes back.
 #[unsafe(no_mangle)]
@@ -40,7 +48,7 @@ pub extern "C" fn halzuqeen_step(
     ensures outcome { outcome.new ≡ (after_step_call session.old image.now (answer_in reset_done ack word parity) outcome.old).second }
 {
     let a = answer_in(reset_done, ack, word, parity);
-    number_of(step_into(session, image, a, outcome))
+    number_in(step_into(session, image, a, outcome))
 }
 
 // Starts a session on an image.
@@ -56,7 +64,7 @@ pub extern "C" fn halzuqeen_start(
     ensures session { session.new ≡ (after_start_call header.now image.now leave session.old outcome.old).first }
     ensures outcome { outcome.new ≡ (after_start_call header.now image.now leave session.old outcome.old).second }
 {
-    number_of(start_into(header, image, leave, session, outcome))
+    number_in(start_into(header, image, leave, session, outcome))
 }
 
 // Reads a hex text: the image's bytes and its header.
@@ -73,11 +81,11 @@ pub extern "C" fn halzuqeen_read(
     ensures header { header.new ≡ (after_read_call part macros text.now image.old header.old).second }
 {
     if header.len() < 17 {
-        return number_of::<()>(Err(under_size(part, macros)));
+        return number_in::<()>(Err(under_size(part, macros)));
     }
     let read = hex_reader::read(part, macros, text, image);
     put_header(header, read.unwrap_or(Header::ZERO));
-    number_of(read)
+    number_in(read)
 }
 
 // Writes an image's hex text and its length.
@@ -94,13 +102,13 @@ pub extern "C" fn halzuqeen_write(
 {
     if header.len() < 17 {
         put_length(length, 0);
-        return number_of::<()>(Err(Refusal::Size));
+        return number_in::<()>(Err(Refusal::Size));
     }
     let h = header_in(header);
     if length.len() < 8 {
-        return number_of::<()>(Err(under_size(h.part, h.macros)));
+        return number_in::<()>(Err(under_size(h.part, h.macros)));
     }
     let written = hex_writer::write(h, image, text);
     put_length(length, written.unwrap_or(0));
-    number_of(written)
+    number_in(written)
 }

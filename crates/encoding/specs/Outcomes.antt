@@ -1,9 +1,11 @@
 -- What starting or a step gives beside the session, as 8 bytes. Assumes nothing.
-use Rattle.std.specs.Prelude.{cond, List, ◌∷◌, ℕ, eqb, get_or}
+use Rattle.std.specs.Prelude.{cond, List, ◌∷◌, ℕ, eqb, get_or, Result, Ok, Err}
 use Rattle.flow.specs.declared.Packet.{Packet}
 use Rattle.flow.specs.declared.Packet.TheVariants.{Xres, LineReset, Read, Write}
 use Rattle.lent.specs.Words.{word_at, low_first}
 use Rattle.session.specs.Outcomes.{Outcome, Refused, Ask, Reported}
+use Rattle.session.specs.declared.Outcome.{Outcome as CodeOutcome}
+use Rattle.session.specs.declared.Outcome.TheVariants as Codes
 
 -- kind at 0, a number or a request byte at 1, a parity bit or a flow step at 2, 0 at 3, a word at 4
 abbrev pub eight_bytes : (kind first second word : ℕ) → List ℕ
@@ -22,6 +24,12 @@ outcome_bytes (Refused n) = eight_bytes 0 n 0 0
 outcome_bytes (Ask p) = packet_bytes p
 outcome_bytes (Reported r) = eight_bytes 5 r.number r.step r.transfers
 
+-- what the code's outcome is in these words; a refusal's number may be any
+abbrev pub outcome_numbered : Result CodeOutcome ℕ → Outcome
+outcome_numbered (Ok (Codes.Ask p)) = Ask p
+outcome_numbered (Ok (Codes.Reported r)) = Reported r
+outcome_numbered (Err n) = Refused n
+
 -- what a caller finds in the bytes
 abbrev pub outcome_by : (kind first second word : ℕ) → Outcome
 outcome_by kind first second word =
@@ -39,3 +47,8 @@ abbrev pub number_of : Outcome → ℕ
 number_of (Refused n) = n
 number_of (Ask p) = 0
 number_of (Reported r) = 0
+
+-- the same of whatever else is given; a refusal's number may be any
+abbrev pub number_given : {T : Type 0} → Result T ℕ → ℕ
+number_given (Ok _) = 0
+number_given (Err n) = n

@@ -4,17 +4,14 @@
 
 ghost use Rattle.std.specs.Prelude.{◌≡◌, length};
 ghost use Rattle.encoding.specs.Buffers.{put_into};
-ghost use Rattle.encoding.specs.Outcomes.{eight_bytes, packet_bytes, outcome_bytes};
+ghost use Rattle.encoding.specs.Outcomes.{eight_bytes, packet_bytes, outcome_bytes, outcome_numbered, number_given};
 ghost use Rattle.encoding.specs.Headers.{header_bytes};
 ghost use Rattle.encoding.specs.Sessions.{entry_byte, session_bytes};
 ghost use Rattle.lent.specs.Words.{low_first};
-ghost use Rattle.refusals.specs.Refusals.{number_in};
-ghost use Rattle.session.specs.Told.{outcome_told};
 
 use flow::{Entry, Packet};
 use image::Header;
 use layout::flag_byte;
-use refusals::Refusal;
 use session::{Outcome, Session};
 
 // Puts a length, the low byte first; `storing::fill` leaves bytes that are too few, here and below.
@@ -109,23 +106,23 @@ fn put_packet(bytes: &mut [u8], p: Packet)
     }
 }
 
-// Puts an outcome.
-pub fn put_outcome(bytes: &mut [u8], o: Result<Outcome, Refusal>)
-    ensures put { bytes.new ≡ put_into bytes.old (outcome_bytes (outcome_told o)) }
+// Puts an outcome, a refusal by its number.
+pub fn put_outcome(bytes: &mut [u8], o: Result<Outcome, u8>)
+    ensures put { bytes.new ≡ put_into bytes.old (outcome_bytes (outcome_numbered o)) }
 {
     match o {
         Ok(Outcome::Ask(p)) => put_packet(bytes, p),
         Ok(Outcome::Reported(r)) => put_eight(bytes, 5, r.number, r.step, r.transfers),
-        Err(refusal) => put_eight(bytes, 0, refusal.number(), 0, 0),
+        Err(number) => put_eight(bytes, 0, number, 0, 0),
     }
 }
 
-// The number of a refusal, and 0 of anything else: what every call returns.
-pub fn number_of<T: Copy>(given: Result<T, Refusal>) -> u32
-    ensures number { result ≡ number_in given }
+// The number of a refusal, and 0 of anything else.
+pub fn number_of<T: Copy>(given: Result<T, u8>) -> u32
+    ensures number { result ≡ number_given given }
 {
     match given {
         Ok(_) => 0,
-        Err(refusal) => u32::from(refusal.number()),
+        Err(number) => u32::from(number),
     }
 }

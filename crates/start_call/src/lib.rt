@@ -29,7 +29,7 @@ fn refuse_start(bytes: &mut [u8], outcome: &mut [u8], refusal: Refusal) -> Resul
     ensures outcome_after { outcome.new ≡ (start_into (start_refused (refusal_number refusal)) bytes.old outcome.old).second }
 {
     storing::clear(bytes, 45);
-    put_outcome(outcome, Err(refusal));
+    put_outcome(outcome, Err(refusal.number()));
     Err(refusal)
 }
 
@@ -54,7 +54,7 @@ pub fn start_into(
     }
     let given = session::start(h, image, leave != 0);
     put_session(session, given.session);
-    put_outcome(outcome, given.outcome);
+    put_outcome(outcome, given.outcome.map_err(Refusal::number));
     given.outcome?;
     Ok(())
 }

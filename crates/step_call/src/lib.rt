@@ -27,12 +27,12 @@ fn step_on(bytes: &mut [u8], image: &[u8], a: Answer, outcome: &mut [u8]) -> Res
     ensures outcome_after { outcome.new ≡ (after_step_call bytes.old image.now a outcome.old).second }
 {
     if !is_session(bytes) {
-        put_outcome(outcome, Err(Refusal::ImpossibleSession));
+        put_outcome(outcome, Err(Refusal::ImpossibleSession.number()));
         return Err(Refusal::ImpossibleSession);
     }
     let lent = lent_with(outcome.len(), image.len());
     let given = session::step(session_in(bytes), &image[..lent], a);
-    put_outcome(outcome, given.outcome);
+    put_outcome(outcome, given.outcome.map_err(Refusal::number));
     given.outcome?;
     put_session(bytes, given.session);
     Ok(())
@@ -50,7 +50,7 @@ pub fn step_into(
     ensures outcome { outcome.new ≡ (after_step_call session.old image.now a outcome.old).second }
 {
     if session.len() < 45 {
-        put_outcome(outcome, Err(Refusal::Size));
+        put_outcome(outcome, Err(Refusal::Size.number()));
         return Err(Refusal::Size);
     }
     step_on(session, image, a, outcome)

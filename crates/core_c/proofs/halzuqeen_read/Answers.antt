@@ -11,7 +11,7 @@ use Rattle.core_c.proofs.halzuqeen_read.Goals as goal
 pub returns-then-header-lt17-clause-number : goal.returns-then-header-lt17-clause-number
 returns-then-header-lt17-clause-number c =
     let a = c.args in
-    (leaves-as _ _ _ _ _ (read_under a.part a.macros a.text.now a.image.now a.header.now c.if-header-lt17.true) (c.number_of.ensures.number ∙ c.under_size.ensures.number, (refl, refl))).0
+    (leaves-as _ _ _ _ _ (read_under a.part a.macros a.text.now a.image.now a.header.now c.if-header-lt17.true) (c.number_in.ensures ∙ c.under_size.ensures.number, (refl, refl))).0
 
 pub returns-then-header-lt17-clause-image : goal.returns-then-header-lt17-clause-image
 returns-then-header-lt17-clause-image c =
@@ -27,7 +27,7 @@ pub returns-clause-number : goal.returns-clause-number
 returns-clause-number c =
     let a = c.args in
     let put = c.put_header.ensures.put ∙ ap (λ (h : Header). put_into a.header.now (header_bytes h)) (c.unwrap_or.ensures ∙ header_given c.read-read.result) in
-    c.number_of-2.ensures.number ∙ read_number c.read-read.result ∙ (read_done a.part a.macros a.text.now a.image.now a.header.now (read_answer c.read-read.result) _ _ c.if-header-lt17.false c.read-read.ensures.answer c.read-read.ensures.buffer put).0
+    c.number_in-2.ensures ∙ read_number c.read-read.result ∙ (read_done a.part a.macros a.text.now a.image.now a.header.now (read_answer c.read-read.result) _ _ c.if-header-lt17.false c.read-read.ensures.answer c.read-read.ensures.buffer put).0
 
 pub returns-clause-image : goal.returns-clause-image
 returns-clause-image c =

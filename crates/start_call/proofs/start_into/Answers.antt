@@ -3,7 +3,7 @@ use Rattle.std.proofs.Common.{rules, ◌≡◌, sym, ap, ◌∙◌, arith, Err}
 use Rattle.calls.proofs.Called.{eleven_or12, leaves-as, start-partless, start-under-session, start-under-outcome, start-done}
 use Rattle.calls.specs.Calls.{start_into, after_start_call}
 use Rattle.decoding.proofs.Spelled.{header-found}
-use Rattle.encoding.proofs.Numbered.{number_told}
+use Rattle.encoding.proofs.Numbered.{by_number, number_told, put_by_number}
 use Rattle.encoding.specs.Headers.{header_in}
 use Rattle.image.specs.declared.Header.{Header}
 use Rattle.refusals.specs.Refusals.{refusal_number, number_in}
@@ -44,19 +44,21 @@ pub returns-in_err-given : goal.returns-in_err-given
 returns-in_err-given c =
     let a = c.args in
     let e : c.from_residual.result ≡ Err c.in_err-given.field-0.0 = search rules in
+    let m : c.map_err.result ≡ by_number c.start-given.result.outcome = search rules in
     let n : number_in c.from_residual.result ≡ number_in c.start-given.result.outcome = ap number_in e ∙ sym (ap number_in c.in_err-given.was) in
     let l =
     start-done a.header.now a.image.now a.leave a.session.now a.outcome.now (omega arith) _ (given_told c.start-given.result) _ _ _ (omega arith) (omega arith)
     (c.header_in-h.ensures.found ∙ header-found a.header.now (omega arith))
-    c.start-given.ensures.given (n ∙ number_told c.start-given.result.outcome) c.put_session.ensures.put c.put_outcome.ensures.put in
+    c.start-given.ensures.given (n ∙ number_told c.start-given.result.outcome) c.put_session.ensures.put (put_by_number _ _ _ _ m c.put_outcome.ensures.put) in
     record { number = l.0; session = l.1.0; outcome = l.1.1 }
 
 pub returns : goal.returns
 returns c =
     let a = c.args in
+    let m : c.map_err.result ≡ by_number c.start-given.result.outcome = search rules in
     let n : 0 ≡ number_in c.start-given.result.outcome = sym (ap number_in c.in_ok-given.was) in
     let l =
     start-done a.header.now a.image.now a.leave a.session.now a.outcome.now (omega arith) _ (given_told c.start-given.result) _ _ _ (omega arith) (omega arith)
     (c.header_in-h.ensures.found ∙ header-found a.header.now (omega arith))
-    c.start-given.ensures.given (n ∙ number_told c.start-given.result.outcome) c.put_session.ensures.put c.put_outcome.ensures.put in
+    c.start-given.ensures.given (n ∙ number_told c.start-given.result.outcome) c.put_session.ensures.put (put_by_number _ _ _ _ m c.put_outcome.ensures.put) in
     record { number = l.0; session = l.1.0; outcome = l.1.1 }
